@@ -1,0 +1,5 @@
+pub mod Domains
+pub mod Ids
+pub mod Pairs
+pub mod Sets
+pub mod Tables
