@@ -1,5 +1,6 @@
 -- A set of selectors, as the list of its members in order.
-use Rattle.std.specs.Prelude.{Bool, List}
+use Rattle.std.specs.Prelude.{Bool, List, [], ◌∷◌, ◌++◌, filter}
+use Rattle.std.specs.Ordering.{is_lt}
 use Rattle.std.specs.Cmp.{IsEquivalence}
 use Rattle.std.specs.Cmp.Lexicographic.{lists_equiv, pointwise}
 use Rattle.std.specs.List.{list_all, list_any}
@@ -10,6 +11,15 @@ use Rattle.spiffe_name.specs.SelectorOrder.{selector_cmp, selector_eq, selector_
 -- each member once, in ascending order
 abbrev pub IsSelectorSet : List SelectorPair → Type 0
 IsSelectorSet set = IsStrictlySortedBy selector_cmp set
+
+-- the set with one member more: those before it, the member, those behind it
+abbrev pub with_member : SelectorPair → List SelectorPair → List SelectorPair
+with_member s set = filter (λ t. is_lt (selector_cmp t s)) set ++ s ∷ filter (λ t. is_lt (selector_cmp s t)) set
+
+-- the set of the members of a list
+abbrev pub set_of : List SelectorPair → List SelectorPair
+set_of [] = []
+set_of (s ∷ ss) = with_member s (set_of ss)
 
 abbrev pub has : List SelectorPair → SelectorPair → Bool
 has set s = list_any (λ t. selector_eq t s) set

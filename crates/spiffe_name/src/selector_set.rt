@@ -32,12 +32,13 @@ impl SelectorSet {
     ghost use Rattle.std.specs.Prelude.{Contains, IfOk, IsTrue, [], length, ◌↔◌, ◌≡◌};
     ghost use Rattle.std.specs.Slice.Iter.{iter_rest};
     ghost use Rattle.spiffe_name.specs.Selector.{SelectorPair};
-    ghost use Rattle.spiffe_name.specs.SelectorSet.{IsSelectorSet, has, is_within, meets};
+    ghost use Rattle.spiffe_name.specs.SelectorSet.{IsSelectorSet, has, is_within, meets, set_of};
 
     /// The set of these selectors, in order: repeats collapse. The error is want of memory; the list is then gone.
     pub fn of(selectors: Vec<Selector>) -> Result<SelectorSet, AllocError>
         ensures members { IfOk result (λ set. (s : SelectorPair) → Contains set s ↔ Contains selectors.items s) }
         ensures ordered { IfOk result IsSelectorSet }
+        ensures computed { IfOk result (λ set. set ≡ set_of selectors.items) }
     {
         let mut selectors = selectors;
         selectors.sort()?;

@@ -242,7 +242,9 @@ fn sets_are_ordered_by_type_then_value(rt: HostRuntime) -> Result<(), Fail> {
         assert_eq!(rt; set.is_empty(), wanted.is_empty());
         for (selector, text) in set.iter().zip(wanted) {
             assert_eq!(rt; selector.as_str(), *text);
+            assert!(rt; set.contains(selector));
         }
+        assert!(rt; set.as_slice() == set.clone()?.as_slice());
         assert!(rt; set.clone()? == set);
     }
     Ok(())
