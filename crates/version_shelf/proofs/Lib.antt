@@ -1,0 +1,4 @@
+mod Above
+mod Changed
+mod First
+mod Split

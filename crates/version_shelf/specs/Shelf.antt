@@ -1,0 +1,56 @@
+-- A shelf as the list of its rows, each a key with its value, in strictly ascending order of keys. Two keys are one where
+-- the order says that they are equal.
+use Rattle.std.specs.Prelude.{◌≡◌, ℕ, ◌<◌, ◌&&◌, if◌then◌else◌, List, ◌∷◌, ◌++◌, length, filter, Option, is_some}
+use Rattle.std.specs.declared.cmp.Ordering.{Ordering}
+use Rattle.std.specs.Ordering.{is_eq, is_lt, is_gt, is_ge}
+use Rattle.std.specs.List.Sorted.{IsStrictlySortedBy}
+use Rattle.std.specs.Map.{keys_of, lookup}
+
+-- what `clone` makes of a value is that value
+abbrev pub ClonesEqual : {T : Type 0} → (T → T → Type 0) → Type 0
+ClonesEqual {T} is_clone = (x y : T) → is_clone x y → y ≡ x
+
+-- how many rows a shelf may have
+abbrev pub most_rows : ℕ
+most_rows = 262144
+
+-- there are fewer rows than that
+abbrev pub HasRoom : {K V : Type 0} → List (K × V) → Type 0
+HasRoom rows = length rows < most_rows
+
+module _ {K V : Type 0} (cmp : K → K → Ordering) where
+  -- each key is below those after it, so no key comes twice
+  abbrev pub IsInOrder : List (K × V) → Type 0
+  IsInOrder rows = IsStrictlySortedBy cmp (keys_of rows)
+
+  -- the value at the key
+  abbrev pub get : List (K × V) → K → Option V
+  get rows key = lookup (λ k. is_eq (cmp k key)) rows
+
+  -- how many rows have the key: one or none
+  abbrev pub count_of : List (K × V) → K → ℕ
+  count_of rows key = if is_some (get rows key) then 1 else 0
+
+  -- the rows with lo <= key < hi
+  abbrev pub rows_between : List (K × V) → K → K → List (K × V)
+  rows_between rows lo hi = filter (λ row. is_ge (cmp row.0 lo) && is_lt (cmp row.0 hi)) rows
+
+  -- the rows whose keys are below the key
+  abbrev pub rows_below : List (K × V) → K → List (K × V)
+  rows_below rows key = filter (λ row. is_lt (cmp row.0 key)) rows
+
+  -- the rows whose keys are above the key
+  abbrev pub rows_above : List (K × V) → K → List (K × V)
+  rows_above rows key = filter (λ row. is_gt (cmp row.0 key)) rows
+
+  -- the rows with this one, in the place of the row that had the key, if there was one
+  abbrev pub with_row : List (K × V) → K → V → List (K × V)
+  with_row rows key value = rows_below rows key ++ (key, value) ∷ rows_above rows key
+
+  -- the rows but for the one that had the key, if there was one
+  abbrev pub without_row : List (K × V) → K → List (K × V)
+  without_row rows key = rows_below rows key ++ rows_above rows key
+
+  -- as functions from keys to values, new is old with this value, or none, at the key
+  abbrev pub Changes : List (K × V) → List (K × V) → K → Option V → Type 0
+  Changes old new key value = (q : K) → get new q ≡ (if is_eq (cmp key q) then value else get old q)

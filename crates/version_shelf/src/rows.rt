@@ -1,0 +1,43 @@
+//! What does a walk over the rows between two bounds give?
+
+ghost use Rattle.std.specs.Prelude.{◌≡◌};
+ghost use Rattle.std.specs.Iterator.{YieldsFirstBy, item_count};
+
+use std::marker::Model;
+
+/// The rows of a shelf between two bounds, in ascending order of keys: an iterator that a contract sees as the list of
+/// the rows that are left. Each call of `next` gives the first of them, and no call takes memory.
+#[derive(Drop)]
+pub struct Rows<'a, K: Ord + 'a, V: 'a> {
+    rest: &'a [(K, V)],
+}
+
+impl<'a, K: Ord + 'a, V: 'a> Model for Rows<'a, K, V> {
+    ghost use Rattle.std.specs.Prelude.{List};
+
+    ghost Value = { List (K × V) };
+
+    ghost view = { λ rows. rows.rest.now };
+}
+
+impl<'a, K: Ord + 'a, V: 'a> Rows<'a, K, V> {
+    pub(crate) fn of(rest: &'a [(K, V)]) -> Rows<'a, K, V>
+        ensures { result ≡ rest.now }
+    {
+        Rows { rest }
+    }
+}
+
+impl<'a, K: Ord + 'a, V: 'a> Iterator for Rows<'a, K, V> {
+    type Item = (&'a K, &'a V);
+
+    ghost next_gives = { YieldsFirstBy (λ row. (row.0.now, row.1.now)) (λ rows. rows) };
+
+    ghost remaining = { item_count (λ rows. rows) };
+
+    fn next(&mut self) -> Option<(&'a K, &'a V)> {
+        let (row, rest) = self.rest.split_first()?;
+        self.rest = rest;
+        Some((&row.0, &row.1))
+    }
+}

@@ -1,0 +1,139 @@
+//! Keys and values such as a version of a book has. Clones of each equal it, as `with` and `without` ask.
+
+ghost use Rattle.std.specs.Prelude.{Some, bytes_eq, refl, ◌≡◌, IfOk};
+ghost use Rattle.std.specs.Cmp.{partial_equiv_from_equiv};
+ghost use Rattle.std.specs.Cmp.Lexicographic.{nat_list_cmp_total, nat_list_eq_equiv, slice_cmp, texts_po, texts_ties};
+ghost use Rattle.std.specs.Ordering.{nat_cmp};
+
+use std::alloc::{AllocError, Global};
+use std::cmp::Ordering;
+use std::marker::Model;
+use std::sync::Arc;
+
+/// The text of an ID, seen as its bytes.
+#[derive(Drop)]
+pub struct IdText {
+    text: String,
+}
+
+impl Model for IdText {
+    ghost use Rattle.std.specs.String.{string_bytes};
+    ghost use Rattle.std.specs.Prelude.{List, ℕ};
+
+    ghost Value = { List ℕ };
+
+    ghost view = { λ id. string_bytes id.text };
+}
+
+impl IdText {
+    pub fn of(alloc: Global, text: &str) -> Result<IdText, AllocError>
+        ensures { IfOk result (λ id. id ≡ text.now) }
+    {
+        Ok(IdText {
+            text: String::from_str(alloc, text)?,
+        })
+    }
+
+    pub fn as_str(&self) -> &str
+        ensures { result.now ≡ self.now }
+    {
+        self.text.as_str()
+    }
+}
+
+impl Clone for IdText {
+    ghost is_clone = { λ original copy. copy ≡ original };
+
+    fn clone(&self) -> Result<IdText, AllocError> {
+        Ok(IdText {
+            text: self.text.clone()?,
+        })
+    }
+}
+
+impl PartialEq for IdText {
+    ghost eq = { bytes_eq };
+
+    ghost laws = { partial_equiv_from_equiv nat_list_eq_equiv };
+
+    fn eq(&self, other: &IdText) -> bool {
+        self.as_str() == other.as_str()
+    }
+}
+
+impl Eq for IdText {
+    ghost laws = { nat_list_eq_equiv };
+}
+
+impl PartialOrd for IdText {
+    ghost partial_cmp = { λ a b. Some (slice_cmp nat_cmp a b) };
+
+    ghost laws = { texts_po };
+
+    fn partial_cmp(&self, other: &IdText) -> Option<Ordering> {
+        Some(self.cmp(other))
+    }
+}
+
+impl Ord for IdText {
+    ghost cmp = { slice_cmp nat_cmp };
+
+    ghost total = { nat_list_cmp_total };
+
+    ghost matches_partial_cmp = { λ a b. refl };
+
+    ghost matches_eq = { texts_ties };
+
+    fn cmp(&self, other: &IdText) -> Ordering {
+        self.as_str().cmp(other.as_str())
+    }
+}
+
+/// A part of a key: one of its values, or the start before them or the end after them.
+#[derive(Clone, Drop, PartialEq, Eq, PartialOrd, Ord)]
+pub enum Part<T> {
+    Start,
+    At(T),
+    End,
+}
+
+/// A value that several versions hold, seen as the value.
+#[derive(Drop)]
+pub struct SharedNumber {
+    value: Arc<u64>,
+}
+
+impl Model for SharedNumber {
+    ghost use Rattle.std.specs.Prelude.{ℕ};
+    ghost use Rattle.std.specs.Arc.{arc_value};
+
+    ghost Value = { ℕ };
+
+    ghost view = { λ shared. arc_value shared.value };
+}
+
+impl SharedNumber {
+    pub fn of(alloc: Global, value: u64) -> Result<SharedNumber, AllocError>
+        ensures { IfOk result (λ shared. shared ≡ value) }
+    {
+        Ok(SharedNumber {
+            value: Arc::new(alloc, value)?,
+        })
+    }
+
+    pub fn number(&self) -> u64
+        ensures { result ≡ self.now }
+    {
+        *self.value
+    }
+}
+
+impl Clone for SharedNumber {
+    ghost is_clone = { λ original copy. copy ≡ original };
+
+    fn clone(&self) -> Result<SharedNumber, AllocError> {
+        Ok(SharedNumber {
+            value: self.value.clone()?,
+        })
+    }
+}
