@@ -1,0 +1,187 @@
+-- How the list of all books grows, and that each of them is lawful.
+use Rattle.std.proofs.Common.{◌≡◌, ℕ, zero, suc, ◌+◌, ◌-◌, ◌*◌, ◌<◌, ◌≤◌, Bool, true, false, List, [], ◌∷◌, ◌++◌, length, Some, Ok, Err, refl, sym, ap, subst, ◌∙◌, ⊎_elim, IfOk, arith, length-append}
+use Rattle.std.specs.Prelude.{slice_get, ◌↔◌, is_ok}
+use Rattle.std.specs.List.{AllByRecursion}
+use Rattle.std.proofs.lemmas.Bool.{cases_Bool}
+use Rattle.entry_book.specs.Rows.{Bytes}
+use Rattle.entry_book.specs.Book.{Book, empty_book}
+use Rattle.entry_book.specs.Writes.{after}
+use Rattle.entry_book.specs.Runs.{RunResult, run}
+use Rattle.entry_book.specs.Batches.{Batch, IsMadeFor, is_query}
+use Rattle.entry_book.specs.History.{last_book, last_or, place_of, Verdict, refuses, answers, adds, verdict_when, verdict, reply_with, books_with, reply_to, books_after, books_from, books_of, first_books, is_committed, commits, CommitAll, Leads, IsHistory, PlainState, Stands}
+use Rattle.entry_book.specs.Lawful.{Lawful}
+use Rattle.entry_book.proofs.Keeps.{run_keeps, wider}
+use Rattle.entry_book.proofs.Faults.{few_ops}
+
+-- ---- one batch
+
+pub last-snoc : (b : Book) (bs : List Book) (c : Book) → last_or b (bs ++ c ∷ []) ≡ c
+last-snoc b [] c = refl
+last-snoc b (d ∷ ds) c = last-snoc d ds c
+
+adds_with : (books : List Book) (v : Verdict) → 0 < length books → is_committed (reply_with (place_of books) v).outcome ≡ true → ((b : Book) × (books_with books v ≡ books ++ b ∷ []) × (last_book (books_with books v) ≡ b)) × ((reply_with (place_of books) v).place ≡ length books)
+adds_with books (refuses r) l h = cc
+adds_with books (answers replies) l h = cc
+adds_with books (adds replies b) l h = ((b, refl, last-snoc empty_book books b), omega arith)
+
+pub commit_adds : (batch : Batch) (books : List Book) → 0 < length books → commits batch books ≡ true → ((b : Book) × (books_after batch books ≡ books ++ b ∷ []) × (last_book (books_after batch books) ≡ b)) × ((reply_to batch books).place ≡ length books)
+commit_adds batch books l h = adds_with books (verdict batch (last_book books)) l h
+
+leaves_with : (books : List Book) (v : Verdict) → is_committed (reply_with (place_of books) v).outcome ≡ false → (books_with books v ≡ books) × ((reply_with (place_of books) v).place ≡ place_of books)
+leaves_with books (refuses r) h = (refl, refl)
+leaves_with books (answers replies) h = (refl, refl)
+leaves_with books (adds replies b) h = cc
+
+pub others_leave : (batch : Batch) (books : List Book) → commits batch books ≡ false → (books_after batch books ≡ books) × ((reply_to batch books).place ≡ place_of books)
+others_leave batch books h = leaves_with books (verdict batch (last_book books)) h
+
+only_ask : (n : ℕ) (query : Bool) (b : Book) (r : RunResult) → query ≡ true → is_committed (reply_with n (verdict_when query b r)).outcome ≡ false
+only_ask n query b (Err s) h = refl
+only_ask n true b (Ok t) h = refl
+only_ask n false b (Ok t) h = cc
+
+pub queries_only_ask : (batch : Batch) (books : List Book) → is_query batch.ops ≡ true → commits batch books ≡ false
+queries_only_ask batch books h = only_ask (place_of books) (is_query batch.ops) (last_book books) (run batch.domain batch.ops (last_book books)) h
+
+do_commit : (n : ℕ) (query : Bool) (b : Book) (r : RunResult) → query ≡ false → is_ok r ≡ true → is_committed (reply_with n (verdict_when query b r)).outcome ≡ true
+do_commit n query b (Err s) h k = cc
+do_commit n true b (Ok t) h k = cc
+do_commit n false b (Ok t) h k = refl
+
+pub changes_commit : (batch : Batch) (books : List Book) → is_query batch.ops ≡ false → is_ok (run batch.domain batch.ops (last_book books)) ≡ true → commits batch books ≡ true
+changes_commit batch books h k = do_commit (place_of books) (is_query batch.ops) (last_book books) (run batch.domain batch.ops (last_book books)) h k
+
+-- ---- one batch more
+
+books_from-snoc : (books : List Book) (batches : List Batch) (batch : Batch) → books_from books (batches ++ batch ∷ []) ≡ books_after batch (books_from books batches)
+books_from-snoc books [] batch = refl
+books_from-snoc books (x ∷ xs) batch = books_from-snoc (books_after x books) xs batch
+
+pub one_more : (batches : List Batch) (batch : Batch) → books_of (batches ++ batch ∷ []) ≡ books_after batch (books_of batches)
+one_more batches batch = books_from-snoc first_books batches batch
+
+commit_snoc : (books : List Book) (batches : List Batch) (batch : Batch) → CommitAll books batches → commits batch (books_from books batches) ≡ true → CommitAll books (batches ++ batch ∷ [])
+commit_snoc books [] batch h k = (k, tt)
+commit_snoc books (x ∷ xs) batch h k = (h.0, commit_snoc (books_after x books) xs batch h.1 k)
+
+from_commit_snoc : (books : List Book) (batches : List Batch) (batch : Batch) → CommitAll books (batches ++ batch ∷ []) → CommitAll books batches × (commits batch (books_from books batches) ≡ true)
+from_commit_snoc books [] batch h = (tt, h.0)
+from_commit_snoc books (x ∷ xs) batch h = let r = from_commit_snoc (books_after x books) xs batch h.1 in ((h.0, r.0), r.1)
+
+pub one_more_commits : (batches : List Batch) (batch : Batch) → CommitAll first_books (batches ++ batch ∷ []) ↔ (CommitAll first_books batches × (commits batch (books_of batches) ≡ true))
+one_more_commits batches batch = (from_commit_snoc first_books batches batch, λ h. commit_snoc first_books batches batch h.0 h.1)
+
+count_from : (books : List Book) (batches : List Batch) → 0 < length books → CommitAll books batches → length (books_from books batches) ≡ length books + length batches
+count_from books [] l h = omega arith
+count_from books (x ∷ xs) l h =
+    let a = commit_adds x books l h.0 in
+    let n : length (books_after x books) ≡ length books + 1 = ap length a.0.1 ∙ length-append books (a.0.0 ∷ []) in
+    let k = count_from (books_after x books) xs (omega arith) h.1 in
+    omega arith
+
+pub count_of_books : (batches : List Batch) → CommitAll first_books batches → length (books_of batches) ≡ length batches + 1
+count_of_books batches h = let k = count_from first_books batches (omega arith) h in omega arith
+
+-- ---- histories
+
+all_more : {X : Type 0} (P : X → Type 0) (xs : List X) (x : X) → AllByRecursion P xs → P x → AllByRecursion P (xs ++ x ∷ [])
+all_more P [] x h p = (p, tt)
+all_more P (y ∷ ys) x h p = (h.0, all_more P ys x h.1 p)
+
+pub history_goes_on : (own : Bytes) (batch : Batch) (books : List Book) → IsHistory own books → IsMadeFor own batch → IsHistory own (books_after batch books)
+history_goes_on own batch books h m =
+    let leads : Leads own h.0 books = h.1 in
+    ⊎_elim
+    (λ t. (
+      h.0 ++ batch ∷ [],
+      record {
+        made = all_more (IsMadeFor own) h.0 batch leads.made m;
+        committed = commit_snoc first_books h.0 batch leads.committed (subst (λ l. commits batch l ≡ true) leads.books_are t);
+        books_are = ap (books_after batch) leads.books_are ∙ sym (one_more h.0 batch);
+      },
+    ))
+    (λ t. subst (IsHistory own) (sym (others_leave batch books t).0) h)
+    (cases_Bool (commits batch books))
+
+-- ---- every book is lawful
+
+-- the books from number n on
+abbrev LawfulFrom : Bytes → ℕ → List Book → Type 0
+LawfulFrom own n [] = Unit {0}
+LawfulFrom own n (b ∷ bs) = Lawful own (64 * n) b × LawfulFrom own (n + 1) bs
+
+lawful_more : (own : Bytes) (n m : ℕ) (bs : List Book) (b : Book) → n + length bs ≡ m → LawfulFrom own n bs → Lawful own (64 * m) b → LawfulFrom own n (bs ++ b ∷ [])
+lawful_more own n m [] b e h l = let q : m ≡ n = omega arith in (subst (λ k. Lawful own (64 * k) b) q l, tt)
+lawful_more own n m (c ∷ cs) b e h l = (h.0, lawful_more own (n + 1) m cs b (omega arith) h.1 l)
+
+lawful_last : (own : Bytes) (n m : ℕ) (b : Book) (bs : List Book) → n + length bs ≡ m → Lawful own (64 * n) b → LawfulFrom own (n + 1) bs → Lawful own (64 * m) (last_or b bs)
+lawful_last own n m b [] e l h = let q : n ≡ m = omega arith in subst (λ k. Lawful own (64 * k) b) q l
+lawful_last own n m b (c ∷ cs) e l h = lawful_last own (n + 1) m c cs (omega arith) h.0 h.1
+
+lawful_at : (own : Bytes) (n : ℕ) (bs : List Book) (k : ℕ) (b : Book) → LawfulFrom own n bs → slice_get bs k ≡ Some b → Lawful own (64 * (n + k)) b
+lawful_at own n [] k b h e = cc
+lawful_at own n (c ∷ cs) zero b h e = let q : c ≡ b = cc in let r : n ≡ n + 0 = omega arith in subst (λ k. Lawful own (64 * k) b) r (subst (Lawful own (64 * n)) q h.0)
+lawful_at own n (c ∷ cs) (suc k) b h e = let q : n + 1 + k ≡ n + suc k = omega arith in subst (λ k. Lawful own (64 * k) b) q (lawful_at own (n + 1) cs k b h.1 e)
+
+pub empty_lawful : (own : Bytes) → Lawful own (64 * 0) empty_book
+empty_lawful own = record {
+  ascending = record { entries = tt; agents = tt; bundles = tt };
+  apart = λ e f w. absurd w;
+  bundled = λ e w. absurd w;
+  not_own = λ h. h.1;
+  proper = λ e w. absurd w;
+  proper_agents = λ a w. absurd w;
+  revisions = λ e w. absurd w;
+  sequences = λ d w. absurd w;
+}
+
+-- a list of lawful books that isn't empty
+record Good (own : Bytes) (books : List Book) : Type 0 where
+  some : 0 < length books
+  lawful : LawfulFrom own 0 books
+
+widened : (own : Bytes) (m n : ℕ) (b : Book) (r : RunResult) → m ≤ n → IfOk r (λ t. Lawful own m (after t.writes b)) → IfOk r (λ t. Lawful own n (after t.writes b))
+widened own m n b (Ok t) l h = wider n l h
+widened own m n b (Err r) l h = tt
+
+-- a batch leads from lawful book n to a book that is lawful as book n + 1
+pub batch_keeps : (own : Bytes) (batch : Batch) (n : ℕ) (b : Book) → IsMadeFor own batch → Lawful own (64 * n) b → IfOk (run batch.domain batch.ops b) (λ t. Lawful own (64 * (n + 1)) (after t.writes b))
+batch_keeps own batch n b m l =
+    let few = few_ops batch.domain batch.ops m.no_fault in
+    let k = run_keeps own (64 * n) batch.ops b m.proper l in
+    let d : own ≡ batch.domain = sym m.domain_is in
+    widened own (64 * n + length batch.ops) (64 * (n + 1)) b (run batch.domain batch.ops b) (omega arith)
+    (subst (λ t. IfOk (run t batch.ops b) (λ r. Lawful own (64 * n + length batch.ops) (after r.writes b))) d k)
+
+good_when : (own : Bytes) (query : Bool) (books : List Book) (b : Book) (r : RunResult) → Good own books → IfOk r (λ t. Lawful own (64 * length books) (after t.writes b)) → Good own (books_with books (verdict_when query b r))
+good_when own query books b (Err r) g h = g
+good_when own true books b (Ok t) g h = g
+good_when own false books b (Ok t) g h = record {
+  some = let n = length-append books (after t.writes b ∷ []) in omega arith;
+  lawful = lawful_more own 0 (length books) books (after t.writes b) (omega arith) g.lawful h;
+}
+
+last_lawful : (own : Bytes) (books : List Book) → Good own books → Lawful own (64 * (length books - 1)) (last_book books)
+last_lawful own [] g = absurd (let k = g.some in omega arith)
+last_lawful own (b ∷ bs) g = lawful_last own 0 (length (b ∷ bs) - 1) b bs (omega arith) g.lawful.0 g.lawful.1
+
+good_after : (own : Bytes) (batch : Batch) (books : List Book) → IsMadeFor own batch → Good own books → Good own (books_after batch books)
+good_after own batch books m g =
+    let s = g.some in
+    let q : length books - 1 + 1 ≡ length books = omega arith in
+    good_when own (is_query batch.ops) books (last_book books) (run batch.domain batch.ops (last_book books)) g
+    (subst (λ n. IfOk (run batch.domain batch.ops (last_book books)) (λ t. Lawful own (64 * n) (after t.writes (last_book books)))) q (batch_keeps own batch (length books - 1) (last_book books) m (last_lawful own books g)))
+
+good_from : (own : Bytes) (books : List Book) (batches : List Batch) → AllByRecursion (IsMadeFor own) batches → Good own books → Good own (books_from books batches)
+good_from own books [] m g = g
+good_from own books (x ∷ xs) m g = good_from own (books_after x books) xs m.1 (good_after own x books m.0 g)
+
+pub lawful_history : (own : Bytes) (books : List Book) → IsHistory own books → (n : ℕ) (b : Book) → slice_get books n ≡ Some b → Lawful own (64 * n) b
+lawful_history own books h n b e =
+    let leads : Leads own h.0 books = h.1 in
+    let g : Good own (books_of h.0) = good_from own first_books h.0 leads.made (record { some = omega arith; lawful = (empty_lawful own, tt) }) in
+    let q : 0 + n ≡ n = omega arith in
+    subst (λ k. Lawful own (64 * k) b) q (lawful_at own 0 (books_of h.0) n b g.lawful (sym (ap (λ l. slice_get l n) leads.books_are) ∙ e))
+
+pub all_lawful : (state : PlainState) (books : List Book) → Stands state books → (n : ℕ) (b : Book) → slice_get books n ≡ Some b → Lawful state.domain (64 * n) b
+all_lawful state books s n b e = lawful_history state.domain books s.history n b e

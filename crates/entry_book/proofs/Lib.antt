@@ -1,0 +1,15 @@
+pub mod Chains
+pub mod Copies
+pub mod Effects
+pub mod Faults
+pub mod Filters
+pub mod Histories
+pub mod InOrder
+pub mod Keeps
+pub mod Kept
+pub mod Keys
+pub mod Present
+pub mod Running
+pub mod Runs
+pub mod Servers
+pub mod Sets

@@ -1,0 +1,177 @@
+-- What the run of a batch's operations comes to.
+use Rattle.std.proofs.Common.{◌≡◌, ℕ, suc, ◌+◌, List, [], ◌∷◌, ◌++◌, length, Option, Some, None, Result, Ok, Err, IfOk, refl, sym, ap, ◌∙◌, append_assoc, arith}
+use Rattle.std.specs.Prelude.{MatchResult, filter, bytes_eq}
+use Rattle.std.proofs.lemmas.List.{append-nil}
+use Rattle.entry_book.specs.declared.agent.Agent.{Agent}
+use Rattle.entry_book.specs.declared.op.Op.{Op}
+use Rattle.entry_book.specs.declared.op.Op.TheVariants.{Create, Authorised, SetAgent}
+use Rattle.entry_book.specs.declared.reply.OpReply.{OpReply}
+use Rattle.entry_book.specs.declared.reply.OpRefusal.{OpRefusal}
+use Rattle.entry_book.specs.Rows.{Bytes, Entry, at_revision, entry_key, agent_key}
+use Rattle.entry_book.specs.Book.{Book, AscendingBook, entry_at, agent_at}
+use Rattle.entry_book.specs.Writes.{Write, FitAll, after, after_write}
+use Rattle.entry_book.specs.Ops.{Done, Answer, similar, lacking, create_named, create_beside, create_over, for_agent, op_of}
+use Rattle.entry_book.specs.Runs.{Ran, Stop, RunResult, onto, then_run, run}
+use Rattle.entry_book.specs.Laws.{StopsAt}
+use Rattle.entry_book.proofs.InOrder.{ascending-with_row}
+use Rattle.entry_book.proofs.Keys.{first_none, rows_at}
+use Rattle.entry_book.proofs.Keeps.{after-append}
+
+-- ---- two lists of operations, one after the other
+
+-- what comes after n operations that ran so
+abbrev shifted : ℕ → Ran → RunResult → RunResult
+shifted n t (Ok u) = Ok (record { replies = t.replies ++ u.replies; writes = t.writes ++ u.writes })
+shifted n t (Err s) = Err (record s { op = s.op + n })
+
+abbrev then_more : ℕ → RunResult → (Ran → RunResult) → RunResult
+then_more n (Ok t) f = shifted n t (f t)
+then_more n (Err s) f = Err s
+
+abbrev stop : ℕ → OpRefusal → RunResult
+stop n r = Err (record { op = n; reason = r })
+
+same_stop : (n m : ℕ) (r : OpRefusal) → n ≡ m → stop n r ≡ stop m r
+same_stop n m r e = ap (λ k. stop k r) e
+
+abbrev finished : List OpReply → List Write → RunResult
+finished rs ws = Ok (record { replies = rs; writes = ws })
+
+shifted_none : (r : RunResult) → r ≡ shifted 0 (record { replies = []; writes = [] }) r
+shifted_none (Ok u) = refl
+shifted_none (Err s) = same_stop s.op (s.op + 0) s.reason (omega arith)
+
+onto_shifted : (n : ℕ) (d : Done) (t : Ran) (r : RunResult) → onto d (shifted n t r) ≡ shifted (suc n) (record { replies = d.reply ∷ t.replies; writes = d.writes ++ t.writes }) r
+onto_shifted n d t (Ok u) = ap (finished (d.reply ∷ (t.replies ++ u.replies))) (sym (append_assoc d.writes t.writes u.writes))
+onto_shifted n d t (Err s) = same_stop (s.op + n + 1) (s.op + suc n) s.reason (omega arith)
+
+over_first : (n : ℕ) (b : Book) (d : Done) (r : RunResult) (f g : Ran → RunResult) → ((t : Ran) → g t ≡ f (record { replies = d.reply ∷ t.replies; writes = d.writes ++ t.writes })) → onto d (then_more n r g) ≡ then_more (suc n) (onto d r) f
+over_first n b d (Ok t) f g h = onto_shifted n d t (g t) ∙ ap (shifted (suc n) (record { replies = d.reply ∷ t.replies; writes = d.writes ++ t.writes })) (h t)
+over_first n b d (Err s) f g h = refl
+
+over_op : (n : ℕ) (b : Book) (o : Answer) (f : Ran → RunResult) (run_both run_first : Done → RunResult) (g : Done → Ran → RunResult) → ((d : Done) → run_both d ≡ then_more n (run_first d) (g d)) → ((d : Done) (t : Ran) → g d t ≡ f (record { replies = d.reply ∷ t.replies; writes = d.writes ++ t.writes })) → then_run o run_both ≡ then_more (suc n) (then_run o run_first) f
+over_op n b (Ok d) f both front g h k = ap (onto d) (h d) ∙ over_first n b d (front d) f (g d) (k d)
+over_op n b (Err r) f both front g h k = refl
+
+run_append : (domain : Bytes) (xs ys : List Op) (b : Book) → run domain (xs ++ ys) b ≡ then_more (length xs) (run domain xs b) (λ t. run domain ys (after t.writes b))
+run_append domain [] ys b = shifted_none (run domain ys b)
+run_append domain (x ∷ xs) ys b = over_op (length xs) b (op_of domain x b) (λ t. run domain ys (after t.writes b)) (λ d. run domain (xs ++ ys) (after d.writes b)) (λ d. run domain xs (after d.writes b)) (λ d t. run domain ys (after t.writes (after d.writes b)))
+    (λ d. run_append domain xs ys (after d.writes b))
+    (λ d t. ap (run domain ys) (sym (after-append d.writes t.writes b)))
+
+-- ---- one operation more
+
+one_more : (n : ℕ) (t : Ran) (o : Answer) → MatchResult o (λ d. shifted n t (then_run o (λ d. finished [] [])) ≡ finished (t.replies ++ d.reply ∷ []) (t.writes ++ d.writes)) (λ r. shifted n t (then_run o (λ d. finished [] [])) ≡ stop n r)
+one_more n t (Ok d) = ap (λ ws. finished (t.replies ++ d.reply ∷ []) (t.writes ++ ws)) (append-nil d.writes)
+one_more n t (Err r) = same_stop (0 + n) n r (omega arith)
+
+match_along : {X E : Type 0} (o : Result X E) (P Q : X → Type 0) (R S : E → Type 0) → ((x : X) → P x → Q x) → ((e : E) → R e → S e) → MatchResult o P R → MatchResult o Q S
+match_along (Ok x) P Q R S f g h = f x h
+match_along (Err e) P Q R S f g h = g e h
+
+pub run_goes_on : (domain : Bytes) (ops : List Op) (op : Op) (b : Book) (t : Ran) → run domain ops b ≡ Ok t → MatchResult (op_of domain op (after t.writes b)) (λ d. run domain (ops ++ op ∷ []) b ≡ Ok (record { replies = t.replies ++ d.reply ∷ []; writes = t.writes ++ d.writes })) (λ r. run domain (ops ++ op ∷ []) b ≡ Err (record { op = length ops; reason = r }))
+run_goes_on domain ops op b t h =
+    let both : run domain (ops ++ op ∷ []) b ≡ shifted (length ops) t (then_run (op_of domain op (after t.writes b)) (λ d. finished [] [])) = run_append domain ops (op ∷ []) b ∙ ap (λ r. then_more (length ops) r (λ t. run domain (op ∷ []) (after t.writes b))) h in
+    match_along (op_of domain op (after t.writes b)) _ _ _ _ (λ d e. both ∙ e) (λ r e. both ∙ e) (one_more (length ops) t (op_of domain op (after t.writes b)))
+
+-- ---- the first refused operation
+
+refused_first : (o : Answer) (f : Done → RunResult) (r : OpRefusal) → o ≡ Err r → then_run o f ≡ stop 0 r
+refused_first o f r e = ap (λ a. then_run a f) e
+
+pub from_stop : (domain : Bytes) (ops : List Op) (b : Book) (n : ℕ) (r : OpRefusal) → StopsAt domain ops b n r → run domain ops b ≡ Err (record { op = n; reason = r })
+from_stop domain ops b n r s =
+    let i = s.index in
+    ap (λ l. run domain l b) s.split
+    ∙ (run_append domain s.front (s.op ∷ s.rest) b
+    ∙ (ap (λ a. then_more (length s.front) a (λ t. run domain (s.op ∷ s.rest) (after t.writes b))) s.accepted
+    ∙ (ap (shifted (length s.front) s.done) (refused_first (op_of domain s.op (after s.done.writes b)) (λ d. run domain s.rest (after d.writes (after s.done.writes b))) r s.refused)
+    ∙ same_stop (0 + length s.front) n r (omega arith))))
+
+abbrev fails : Stop → RunResult
+fails x = Err x
+
+fail_is : (x y : Stop) → fails x ≡ fails y → x ≡ y
+fail_is x y e = cc
+
+-- the index and the reason of a stop
+stop_is : (n m : ℕ) (r s : OpRefusal) → stop n r ≡ stop m s → (n ≡ m) × (r ≡ s)
+stop_is n m r s e = let q = fail_is (record { op = n; reason = r }) (record { op = m; reason = s }) e in (ap (λ t. t.op) q, ap (λ t. t.reason) q)
+
+pub to_stop : (domain : Bytes) (ops : List Op) (b : Book) (n : ℕ) (r : OpRefusal) → run domain ops b ≡ stop n r → StopsAt domain ops b n r
+to_stop domain [] b n r h = cc
+to_stop domain (op ∷ ops) b n r h =
+    elim (op_of domain op b) as (λ o. op_of domain op b ≡ o → then_run o (λ d. run domain ops (after d.writes b)) ≡ stop n r → StopsAt domain (op ∷ ops) b n r) [
+      | Err s ↦ λ q k.
+          let p = stop_is 0 n s r k in
+          record { front = []; op = op; rest = ops; split = refl; index = sym p.0; done = record { replies = []; writes = [] }; accepted = refl; refused = q ∙ ap Err p.1 }
+      | Ok d ↦ λ q. elim (run domain ops (after d.writes b)) as (λ t. run domain ops (after d.writes b) ≡ t → onto d t ≡ stop n r → StopsAt domain (op ∷ ops) b n r) [
+        | Ok t ↦ λ e k. cc
+        | Err s ↦ λ e k.
+            let p = stop_is (s.op + 1) n s.reason r k in
+            let m = p.0 in
+            let later : StopsAt domain ops (after d.writes b) s.op s.reason = to_stop domain ops (after d.writes b) s.op s.reason e in
+            let i = later.index in
+            record {
+              front = op ∷ later.front;
+              op = later.op;
+              rest = later.rest;
+              split = ap (λ l. op ∷ l) later.split;
+              index = omega arith;
+              done = record { replies = d.reply ∷ later.done.replies; writes = d.writes ++ later.done.writes };
+              accepted = ap (λ o. then_run o (λ d. run domain later.front (after d.writes b))) q ∙ ap (onto d) later.accepted;
+              refused = ap (op_of domain later.op) (after-append d.writes later.done.writes b) ∙ (later.refused ∙ ap Err p.1);
+            }
+      ] refl
+    ] refl h
+
+-- ---- writes find the rows that they name
+
+abbrev FitsAnswer : Answer → Book → Type 0
+FitsAnswer o b = IfOk o (λ d. FitAll d.writes b × AscendingBook (after d.writes b))
+
+none_there : (e : Entry) (b : Book) → entry_at e.id b ≡ None → filter (λ x. bytes_eq x.id e.id) b.entries ≡ []
+none_there e b h = first_none entry_key (filter (λ x. bytes_eq x.id e.id) b.entries) h
+
+named_fits : (e : Entry) (b : Book) → AscendingBook b → entry_at e.id b ≡ None → (q : Option Bytes) → FitsAnswer (create_named q e) b
+named_fits e b a h (Some d) = tt
+named_fits e b a h None = (
+  (record { found = none_there e b h; keyed = refl }, tt),
+  record { entries = ascending-with_row entry_key e.id (Some e) b.entries a.entries refl; agents = a.agents; bundles = a.bundles },
+)
+
+beside_fits : (e : Entry) (b : Book) → AscendingBook b → entry_at e.id b ≡ None → (p : Option Entry) → FitsAnswer (create_beside p e b) b
+beside_fits e b a h (Some o) = tt
+beside_fits e b a h None = named_fits e b a h (lacking e.domains b)
+
+over_fits : (e : Entry) (b : Book) → AscendingBook b → (o : Option Entry) → entry_at e.id b ≡ o → FitsAnswer (create_over o e b) b
+over_fits e b a (Some o) h = tt
+over_fits e b a None h = beside_fits e b a h (similar e b)
+
+read_fits : (o : Option Agent) (f : Agent → Answer) (b : Book) → ((a : Agent) → FitsAnswer (f a) b) → FitsAnswer (for_agent o f) b
+read_fits None f b h = tt
+read_fits (Some a) f b h = h a
+
+op_fits : (domain : Bytes) (op : Op) (b : Book) → AscendingBook b → FitsAnswer (op_of domain op b) b
+op_fits domain (Create e) b a = over_fits (at_revision 0 e) b a (entry_at e.id b) refl
+op_fits domain (Authorised k) b a = read_fits (agent_at k b) _ b (λ x. (tt, a))
+op_fits domain (SetAgent x) b a = (
+  (record { found = rows_at agent_key x.id b.agents a.agents; keyed = refl }, tt),
+  record { entries = a.entries; agents = ascending-with_row agent_key x.id (Some x) b.agents a.agents refl; bundles = a.bundles },
+)
+
+fit_append : (vs ws : List Write) (b : Book) → FitAll vs b → FitAll ws (after vs b) → FitAll (vs ++ ws) b
+fit_append [] ws b f g = g
+fit_append (v ∷ vs) ws b f g = (f.0, fit_append vs ws (after_write v b) f.1 g)
+
+onto_fits : (d : Done) (r : RunResult) (b : Book) → FitAll d.writes b → IfOk r (λ t. FitAll t.writes (after d.writes b)) → IfOk (onto d r) (λ t. FitAll t.writes b)
+onto_fits d (Ok t) b f g = fit_append d.writes t.writes b f g
+onto_fits d (Err s) b f g = tt
+
+then_fits : (o : Answer) (f : Done → RunResult) (b : Book) → FitsAnswer o b → ((d : Done) → AscendingBook (after d.writes b) → IfOk (f d) (λ t. FitAll t.writes (after d.writes b))) → IfOk (then_run o f) (λ t. FitAll t.writes b)
+then_fits (Ok d) f b h k = onto_fits d (f d) b h.0 (k d h.1)
+then_fits (Err r) f b h k = tt
+
+pub run_fits : (domain : Bytes) (ops : List Op) (b : Book) → AscendingBook b → IfOk (run domain ops b) (λ t. FitAll t.writes b)
+run_fits domain [] b a = tt
+run_fits domain (op ∷ ops) b a = then_fits (op_of domain op b) (λ d. run domain ops (after d.writes b)) b (op_fits domain op b a) (λ d k. run_fits domain ops (after d.writes b) k)

@@ -1,0 +1,8 @@
+use Rattle.entry_book.proofs.Histories.{all_lawful, lawful_history}
+use Rattle.entry_book.proofs.laws.lawful_books.Goals as goal
+
+pub returns-clause-history : goal.returns-clause-history
+returns-clause-history c = lawful_history
+
+pub returns-clause-stands : goal.returns-clause-stands
+returns-clause-stands c = all_lawful

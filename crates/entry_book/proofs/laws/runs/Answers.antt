@@ -1,0 +1,15 @@
+use Rattle.entry_book.proofs.Keeps.{run_keeps}
+use Rattle.entry_book.proofs.Runs.{from_stop, run_fits, run_goes_on, to_stop}
+use Rattle.entry_book.proofs.laws.runs.Goals as goal
+
+pub returns-clause-stops : goal.returns-clause-stops
+returns-clause-stops c = λ domain ops b n r. (to_stop domain ops b n r, from_stop domain ops b n r)
+
+pub returns-clause-goes_on : goal.returns-clause-goes_on
+returns-clause-goes_on c = run_goes_on
+
+pub returns-clause-fits : goal.returns-clause-fits
+returns-clause-fits c = run_fits
+
+pub returns-clause-keeps : goal.returns-clause-keeps
+returns-clause-keeps c = run_keeps

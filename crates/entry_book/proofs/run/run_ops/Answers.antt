@@ -1,0 +1,16 @@
+use Rattle.std.proofs.Common.{◌+◌, sym, ap, ◌∙◌, drop}
+use Rattle.entry_book.specs.Runs.{run}
+use Rattle.entry_book.specs.Performed.{resumed}
+use Rattle.entry_book.proofs.Running.{goes_on, stops}
+use Rattle.entry_book.proofs.run.run_ops.Goals as goal
+
+pub returns-in-Err : goal.returns-in-Err
+returns-in-Err c = λ domain.
+    let h = rw c.in-Err.is at (c.in_ok-refusal.ensures domain) in
+    sym (stops domain c.args.ops.now c.loop-index.index c.index-ops-index.result c.loop-index.replies c.loop-index.current c.in-Err.refusal c.loop-index-test.true c.index-ops-index.is h) ∙ c.loop-index.invariant domain
+
+pub loop-index-preserved : goal.loop-index-preserved
+loop-index-preserved c = λ domain.
+    let h = rw c.in-Ok.is at (c.in_ok-refusal.ensures domain) in
+    ap (λ replies. resumed (c.loop-index.index + 1) replies c.in-Ok.after (run domain (drop (c.loop-index.index + 1) c.args.ops.now) c.in-Ok.after)) c.in_ok-push-in-Ok.ensures.ok
+    ∙ (sym (goes_on domain c.args.ops.now c.loop-index.index c.index-ops-index.result c.loop-index.replies c.in-Ok.reply c.loop-index.current c.in-Ok.after c.loop-index-test.true c.index-ops-index.is h) ∙ c.loop-index.invariant domain)

@@ -1,0 +1,104 @@
+-- Which lists of operations are a batch, and which batches only ask.
+use Rattle.std.specs.Prelude.{◌≡◌, ℕ, ◌+◌, Bool, true, false, not, ◌||◌, ◌==◌, List, [], ◌∷◌, length, codes, nat_lt, nat_eq, Option, Some, None, bytes_eq}
+use Rattle.std.specs.List.{AllByRecursion, list_all, starts_with}
+use Rattle.spiffe_name.specs.Failures.{refuse_if}
+use Rattle.spiffe_name.specs.Id.{domain_of, path_of, server_text}
+use Rattle.spiffe_name.specs.Selector.{SelectorPair}
+use Rattle.entry_book.specs.declared.agent.Agent.{Agent}
+use Rattle.entry_book.specs.declared.entry.NewEntry.{NewEntry}
+use Rattle.entry_book.specs.declared.op.Op.{Op}
+use Rattle.entry_book.specs.declared.op.Op.TheVariants.{Create, Authorised, SetAgent}
+use Rattle.entry_book.specs.declared.fault.OpFault.{OpFault}
+use Rattle.entry_book.specs.declared.fault.OpFault.TheVariants.{ForeignId, EmptyPath, ServerIdentity, Selectors, TooManyDomains, HintTooLong, AgentPath}
+use Rattle.entry_book.specs.declared.fault.BatchRefusal.{BatchRefusal}
+use Rattle.entry_book.specs.declared.fault.BatchRefusal.TheVariants.{NoOps, TooManyOps, OfOp}
+use Rattle.entry_book.specs.Rows.{Bytes, IsId, IsProperEntry, IsProperAgent}
+
+-- A batch: the trust domain that it was made for, and its operations in order.
+pub record Batch : Type 0 where
+  pub domain : Bytes
+  pub ops : List Op
+
+-- ---- which batches only ask
+
+abbrev pub is_question : Op → Bool
+is_question (Create e) = false
+is_question (Authorised k) = true
+is_question (SetAgent a) = false
+
+abbrev pub is_query : List Op → Bool
+is_query ops = list_all is_question ops
+
+-- ---- the table of faults: the least code first within an operation, then operation by operation
+
+-- an ID of another trust domain
+abbrev pub is_foreign : Bytes → Bytes → Bool
+is_foreign domain id = not (bytes_eq (domain_of id) domain)
+
+abbrev pub has_no_path : Bytes → Bool
+has_no_path id = length (path_of id) == 0
+
+-- not 1 to 16
+abbrev pub is_outside : List SelectorPair → Bool
+is_outside selectors = length selectors == 0 || nat_lt 16 (length selectors)
+
+abbrev pub is_agent_path : Bytes → Bool
+is_agent_path path = starts_with nat_eq path (codes "/spire/agent/")
+
+unfoldable pub entry_fault : Bytes → NewEntry → Option OpFault
+entry_fault domain e =
+    refuse_if (is_foreign domain e.parent || is_foreign domain e.identity) ForeignId (
+    refuse_if (has_no_path e.parent || has_no_path e.identity) EmptyPath (
+    refuse_if (bytes_eq e.identity (server_text domain)) ServerIdentity (
+    refuse_if (is_outside e.selectors) Selectors (
+    refuse_if (nat_lt 8 (length e.domains)) TooManyDomains (
+    refuse_if (nat_lt 1024 (length e.hint)) HintTooLong
+    None)))))
+
+-- an agent that is asked for
+unfoldable pub asked_fault : Bytes → Bytes → Option OpFault
+asked_fault domain id =
+    refuse_if (is_foreign domain id) ForeignId (
+    refuse_if (not (is_agent_path (path_of id))) AgentPath
+    None)
+
+-- an agent that is set; it may have no selectors
+unfoldable pub agent_fault : Bytes → Agent → Option OpFault
+agent_fault domain a =
+    refuse_if (is_foreign domain a.id) ForeignId (
+    refuse_if (nat_lt 64 (length a.selectors)) Selectors (
+    refuse_if (not (is_agent_path (path_of a.id))) AgentPath
+    None))
+
+abbrev pub op_fault : Bytes → Op → Option OpFault
+op_fault domain (Create e) = entry_fault domain e
+op_fault domain (Authorised k) = asked_fault domain k
+op_fault domain (SetAgent a) = agent_fault domain a
+
+abbrev pub or_later : Option OpFault → ℕ → Option BatchRefusal → Option BatchRefusal
+or_later (Some fault) n later = Some (OfOp n fault)
+or_later None n later = later
+
+-- the first fault of an operation, of operations counted from n
+abbrev pub ops_refusal : Bytes → ℕ → List Op → Option BatchRefusal
+ops_refusal domain n [] = None
+ops_refusal domain n (op ∷ ops) = or_later (op_fault domain op) n (ops_refusal domain (n + 1) ops)
+
+unfoldable pub batch_refusal : Bytes → List Op → Option BatchRefusal
+batch_refusal domain ops =
+    refuse_if (length ops == 0) NoOps (
+    refuse_if (nat_lt 64 (length ops)) TooManyOps (
+    ops_refusal domain 0 ops))
+
+-- ---- what the types of an operation's parts see to
+
+abbrev pub IsProperOp : Op → Type 0
+IsProperOp (Create e) = IsProperEntry e
+IsProperOp (Authorised k) = IsId k
+IsProperOp (SetAgent a) = IsProperAgent a
+
+-- A batch that was made for this trust domain: none of the faults holds of it.
+pub record IsMadeFor (own : Bytes) (batch : Batch) : Type 0 where
+  pub domain_is : batch.domain ≡ own
+  pub no_fault : batch_refusal batch.domain batch.ops ≡ None
+  pub proper : AllByRecursion IsProperOp batch.ops

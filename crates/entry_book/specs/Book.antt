@@ -1,0 +1,52 @@
+-- The book of a server: three sets of rows.
+use Rattle.std.specs.Prelude.{◌≡◌, Bool, List, [], filter, Option, bytes_eq, ◌&&◌}
+use Rattle.entry_book.specs.declared.agent.Agent.{Agent}
+use Rattle.entry_book.specs.declared.bundle.Bundle.{Bundle}
+use Rattle.entry_book.specs.Rows.{Bytes, Entry, entry_key, agent_key, bundle_key}
+use Rattle.entry_book.specs.Order.{Within, Ascending, first}
+
+pub record Book : Type 0 where
+  pub entries : List Entry
+  pub agents : List Agent
+  pub bundles : List Bundle
+
+abbrev pub empty_book : Book
+empty_book = record { entries = []; agents = []; bundles = [] }
+
+-- Each list is a set in order: entry ids, agent ids and bundle domains are each distinct.
+pub record AscendingBook (b : Book) : Type 0 where
+  pub entries : Ascending entry_key b.entries
+  pub agents : Ascending agent_key b.agents
+  pub bundles : Ascending bundle_key b.bundles
+
+-- ---- what stands in a book
+
+abbrev pub HasEntry : Book → Bytes → Type 0
+HasEntry b k = (x : Entry) × Within b.entries x × (x.id ≡ k)
+
+abbrev pub HasAgent : Book → Bytes → Type 0
+HasAgent b k = (x : Agent) × Within b.agents x × (x.id ≡ k)
+
+abbrev pub HasBundle : Book → Bytes → Type 0
+HasBundle b k = (x : Bundle) × Within b.bundles x × (x.domain ≡ k)
+
+-- the row of a key, where there is one
+abbrev pub entry_at : Bytes → Book → Option Entry
+entry_at k b = first (filter (λ e. bytes_eq e.id k) b.entries)
+
+abbrev pub agent_at : Bytes → Book → Option Agent
+agent_at k b = first (filter (λ a. bytes_eq a.id k) b.agents)
+
+abbrev pub bundle_at : Bytes → Book → Option Bundle
+bundle_at k b = first (filter (λ d. bytes_eq d.domain k) b.bundles)
+
+-- the entries of a parent and an identity, in the order of ids
+abbrev pub in_group : Bytes → Bytes → Entry → Bool
+in_group p i e = bytes_eq e.parent p && bytes_eq e.identity i
+
+abbrev pub group_of : Bytes → Bytes → Book → List Entry
+group_of p i b = filter (in_group p i) b.entries
+
+-- the entries of a parent, in the order of ids
+abbrev pub children_of : Bytes → Book → List Entry
+children_of p b = filter (λ e. bytes_eq e.parent p) b.entries

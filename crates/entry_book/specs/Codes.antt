@@ -1,0 +1,42 @@
+-- The codes under which refusals are printed, and the indices beside them.
+use Rattle.std.specs.Prelude.{ℕ, List, Option, Some, None, codes}
+use Rattle.entry_book.specs.declared.fault.OpFault.{OpFault}
+use Rattle.entry_book.specs.declared.fault.OpFault.TheVariants as fault
+use Rattle.entry_book.specs.declared.fault.BatchRefusal.{BatchRefusal}
+use Rattle.entry_book.specs.declared.fault.BatchRefusal.TheVariants as batch
+use Rattle.entry_book.specs.declared.reply.OpRefusal.{OpRefusal}
+use Rattle.entry_book.specs.declared.reply.OpRefusal.TheVariants as refused
+use Rattle.entry_book.specs.declared.reply.Refusal.{Refusal}
+use Rattle.entry_book.specs.declared.reply.Refusal.TheVariants as reply
+
+abbrev pub fault_code : OpFault → List ℕ
+fault_code fault.ForeignId = codes "B3"
+fault_code fault.EmptyPath = codes "B4"
+fault_code fault.ServerIdentity = codes "B5"
+fault_code fault.Selectors = codes "B6"
+fault_code fault.TooManyDomains = codes "B7"
+fault_code fault.HintTooLong = codes "B8"
+fault_code fault.AgentPath = codes "B10"
+
+abbrev pub batch_code : BatchRefusal → List ℕ
+batch_code batch.NoOps = codes "B1"
+batch_code batch.TooManyOps = codes "B2"
+batch_code (batch.OfOp n f) = fault_code f
+
+abbrev pub op_code : OpRefusal → List ℕ
+op_code refused.IdTaken = codes "O1"
+op_code (refused.Similar id) = codes "O2"
+op_code (refused.NoBundle domain) = codes "O5"
+op_code refused.NoAgent = codes "O7"
+
+abbrev pub refusal_code : Refusal → List ℕ
+refusal_code (reply.OfOp n r) = op_code r
+
+-- the operation at fault, where it is a single one
+abbrev pub batch_op : BatchRefusal → Option ℕ
+batch_op batch.NoOps = None
+batch_op batch.TooManyOps = None
+batch_op (batch.OfOp n f) = Some n
+
+abbrev pub refusal_op : Refusal → Option ℕ
+refusal_op (reply.OfOp n r) = Some n

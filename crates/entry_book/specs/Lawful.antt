@@ -1,0 +1,23 @@
+-- The lawful books of a trust domain.
+use Rattle.std.specs.Prelude.{◌≡◌, ℕ, ◌≤◌}
+use Rattle.entry_book.specs.declared.agent.Agent.{Agent}
+use Rattle.entry_book.specs.declared.bundle.Bundle.{Bundle}
+use Rattle.entry_book.specs.Rows.{Bytes, Entry, given_of, IsProperEntry, IsProperAgent}
+use Rattle.entry_book.specs.Order.{Within}
+use Rattle.entry_book.specs.Book.{Book, AscendingBook, HasBundle}
+
+-- `own` is the server's trust domain, and `most` bounds revisions and sequences.
+pub record Lawful (own : Bytes) (most : ℕ) (b : Book) : Type 0 where
+  -- entry ids, agent ids and bundle domains are each distinct
+  pub ascending : AscendingBook b
+  -- no two entries have the same parent, identity and selectors
+  pub apart : (e f : Entry) → Within b.entries e → Within b.entries f → e.parent ≡ f.parent → e.identity ≡ f.identity → e.selectors ≡ f.selectors → e.id ≡ f.id
+  -- each domain of an entry has a bundle
+  pub bundled : (e : Entry) → Within b.entries e → (d : Bytes) → Within e.domains d → HasBundle b d
+  -- the server's own domain has none
+  pub not_own : HasBundle b own → ⊥
+  -- the sets of each row are in their order, and its ids are ids
+  pub proper : (e : Entry) → Within b.entries e → IsProperEntry (given_of e)
+  pub proper_agents : (a : Agent) → Within b.agents a → IsProperAgent a
+  pub revisions : (e : Entry) → Within b.entries e → e.revision ≤ most
+  pub sequences : (d : Bundle) → Within b.bundles d → d.sequence ≤ most

@@ -1,0 +1,15 @@
+pub mod Authorised
+pub mod Batches
+pub mod Book
+pub mod Codes
+pub mod Effects
+pub mod History
+pub mod Lawful
+pub mod Laws
+pub mod Ops
+pub mod Order
+pub mod Performed
+pub mod Rows
+pub mod Runs
+pub mod Worked
+pub mod Writes

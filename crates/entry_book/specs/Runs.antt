@@ -1,0 +1,34 @@
+-- The run of a batch's operations on a book: each finds the book that the earlier ones left, and the first refusal refuses them all.
+use Rattle.std.specs.Prelude.{ℕ, ◌+◌, List, [], ◌∷◌, ◌++◌, Result, Ok, Err}
+use Rattle.entry_book.specs.declared.op.Op.{Op}
+use Rattle.entry_book.specs.declared.reply.OpReply.{OpReply}
+use Rattle.entry_book.specs.declared.reply.OpRefusal.{OpRefusal}
+use Rattle.entry_book.specs.Rows.{Bytes}
+use Rattle.entry_book.specs.Book.{Book}
+use Rattle.entry_book.specs.Writes.{Write, after}
+use Rattle.entry_book.specs.Ops.{Done, Answer, op_of}
+
+pub record Ran : Type 0 where
+  pub replies : List OpReply
+  pub writes : List Write
+
+-- A refused operation: its index, from 0, and why it is refused.
+pub record Stop : Type 0 where
+  pub op : ℕ
+  pub reason : OpRefusal
+
+-- the replies and the writes of all operations, or the one that was refused
+abbrev pub RunResult : Type 0
+RunResult = Result Ran Stop
+
+abbrev pub onto : Done → RunResult → RunResult
+onto d (Ok t) = Ok (record { replies = d.reply ∷ t.replies; writes = d.writes ++ t.writes })
+onto d (Err s) = Err (record s { op = s.op + 1 })
+
+abbrev pub then_run : Answer → (Done → RunResult) → RunResult
+then_run (Err r) f = Err (record { op = 0; reason = r })
+then_run (Ok d) f = onto d (f d)
+
+abbrev pub run : Bytes → List Op → Book → RunResult
+run domain [] b = Ok (record { replies = []; writes = [] })
+run domain (op ∷ ops) b = then_run (op_of domain op b) (λ d. run domain ops (after d.writes b))

@@ -1,0 +1,137 @@
+-- Worked books, computed: a cycle of parents, and an alias. The domain is `ex.org`.
+use Rattle.std.specs.Prelude.{◌≡◌, ℕ, List, [], ◌∷◌, ◌++◌, codes}
+use Rattle.spiffe_name.specs.Id.{server_text}
+use Rattle.spiffe_name.specs.Selector.{SelectorPair}
+use Rattle.entry_book.specs.declared.agent.Agent.{Agent}
+use Rattle.entry_book.specs.declared.op.Op.{Op}
+use Rattle.entry_book.specs.declared.op.Op.TheVariants.{Create, Authorised, SetAgent}
+use Rattle.entry_book.specs.declared.reply.OpReply.{OpReply}
+use Rattle.entry_book.specs.declared.reply.OpReply.TheVariants as replied
+use Rattle.entry_book.specs.declared.reply.OpRefusal.{OpRefusal}
+use Rattle.entry_book.specs.declared.reply.OpRefusal.TheVariants.{IdTaken, Similar, NoBundle, NoAgent}
+use Rattle.entry_book.specs.declared.reply.Outcome.TheVariants.{Committed, Answered, Refused}
+use Rattle.entry_book.specs.declared.reply.Refusal.TheVariants.{OfOp}
+use Rattle.entry_book.specs.declared.reply.Reply.{Reply}
+use Rattle.entry_book.specs.Rows.{Bytes, Entry, given_of}
+use Rattle.entry_book.specs.Book.{Book}
+use Rattle.entry_book.specs.Authorised.{authorised}
+use Rattle.entry_book.specs.Batches.{Batch}
+use Rattle.entry_book.specs.History.{reply_to, books_after, first_books}
+
+abbrev pub server : Bytes
+server = server_text (codes "ex.org")
+
+abbrev pub id_of : Bytes → Bytes
+id_of path = codes "spiffe://ex.org" ++ path
+
+abbrev pub agent_id : Bytes
+agent_id = id_of (codes "/spire/agent/n1")
+
+-- the UUID whose last byte is n, all others being 0
+abbrev pub uuid_of : ℕ → Bytes
+uuid_of n = 0 ∷ 0 ∷ 0 ∷ 0 ∷ 0 ∷ 0 ∷ 0 ∷ 0 ∷ 0 ∷ 0 ∷ 0 ∷ 0 ∷ 0 ∷ 0 ∷ 0 ∷ n ∷ []
+
+abbrev pub selector : Bytes → Bytes → SelectorPair
+selector t v = record { type = t; value = v }
+
+abbrev pub entry : ℕ → Bytes → Bytes → List SelectorPair → Entry
+entry n parent identity selectors = record { id = uuid_of n; parent = parent; identity = identity; selectors = selectors; hint = []; domains = []; expiry = 0; revision = 0 }
+
+abbrev pub agent : List SelectorPair → Agent
+agent selectors = record { id = agent_id; selectors = selectors }
+
+abbrev pub book : List Entry → Agent → Book
+book entries a = record { entries = entries; agents = a ∷ []; bundles = [] }
+
+-- ---- a cycle: the agent's entry A, B under A, and A again under B; and one entry that no chain reaches
+
+abbrev pub cycle : List Entry
+cycle = entry 1 agent_id (id_of (codes "/A")) (selector (codes "u") (codes "1") ∷ []) ∷ entry 2 (id_of (codes "/A")) (id_of (codes "/B")) (selector (codes "u") (codes "1") ∷ []) ∷ entry 3 (id_of (codes "/B")) (id_of (codes "/A")) (selector (codes "u") (codes "1") ∷ []) ∷ []
+
+abbrev pub stranger : Entry
+stranger = entry 4 (id_of (codes "/C")) (id_of (codes "/A")) (selector (codes "u") (codes "1") ∷ [])
+
+abbrev pub plain_agent : Agent
+plain_agent = agent (selector (codes "x") (codes "1") ∷ [])
+
+abbrev pub CycleIsAuthorised : Type 0
+CycleIsAuthorised = authorised server plain_agent (book (cycle ++ stranger ∷ []) plain_agent) ≡ cycle
+
+-- ---- an alias with two selectors, an entry under it, and one under that one
+
+abbrev pub x1 : SelectorPair
+x1 = selector (codes "x") (codes "1")
+
+abbrev pub x2 : SelectorPair
+x2 = selector (codes "x") (codes "2")
+
+abbrev pub x3 : SelectorPair
+x3 = selector (codes "x") (codes "3")
+
+abbrev pub aliased : List Entry
+aliased = entry 1 server (id_of (codes "/alias")) (x1 ∷ x2 ∷ []) ∷ entry 2 (id_of (codes "/alias")) (id_of (codes "/web")) (selector (codes "u") (codes "1") ∷ []) ∷ entry 3 (id_of (codes "/web")) (id_of (codes "/side")) (selector (codes "u") (codes "2") ∷ []) ∷ []
+
+abbrev pub authorised_with : List SelectorPair → List Entry
+authorised_with selectors = authorised server (agent selectors) (book aliased (agent selectors))
+
+-- held with just the alias's selectors, and with one more; not held with one of the two, nor with none
+abbrev pub AliasHeld : Type 0
+AliasHeld = authorised_with (x1 ∷ x2 ∷ []) ≡ aliased
+
+abbrev pub AliasHeldWithMore : Type 0
+AliasHeldWithMore = authorised_with (x1 ∷ x2 ∷ x3 ∷ []) ≡ aliased
+
+abbrev pub AliasNotHeld : Type 0
+AliasNotHeld = authorised_with (x1 ∷ []) ≡ []
+
+abbrev pub AliasNotHeldWithNone : Type 0
+AliasNotHeldWithNone = authorised_with [] ≡ []
+
+-- another agent of the book holds the alias, and the asking one doesn't
+abbrev pub other_agent : Agent
+other_agent = record { id = id_of (codes "/spire/agent/n2"); selectors = x1 ∷ x2 ∷ [] }
+
+abbrev pub AliasOfAnother : Type 0
+AliasOfAnother = authorised server (agent (x1 ∷ [])) (record { entries = aliased; agents = agent (x1 ∷ []) ∷ other_agent ∷ []; bundles = [] }) ≡ []
+
+-- ---- batches, run one after another
+
+abbrev pub replies_from : List Book → List Batch → List Reply
+replies_from books [] = []
+replies_from books (batch ∷ batches) = reply_to batch books ∷ replies_from (books_after batch books) batches
+
+abbrev pub batch_of : List Op → Batch
+batch_of ops = record { domain = codes "ex.org"; ops = ops }
+
+abbrev pub committed : ℕ → OpReply → Reply
+committed n r = record { place = n; outcome = Committed (r ∷ []) }
+
+abbrev pub answered : ℕ → OpReply → Reply
+answered n r = record { place = n; outcome = Answered (r ∷ []) }
+
+abbrev pub refused : ℕ → ℕ → OpRefusal → Reply
+refused n op reason = record { place = n; outcome = Refused (OfOp op reason) }
+
+abbrev pub u1 : List SelectorPair
+u1 = selector (codes "u") (codes "1") ∷ []
+
+abbrev pub web : ℕ → Entry
+web n = entry n agent_id (id_of (codes "/web")) u1
+
+abbrev pub api : ℕ → Entry
+api n = entry n agent_id (id_of (codes "/api")) u1
+
+abbrev pub create : Entry → Op
+create e = Create (given_of e)
+
+-- the agent is set, one entry is created under it, and it is asked for
+abbrev pub FirstBatches : Type 0
+FirstBatches = replies_from first_books (batch_of (SetAgent plain_agent ∷ []) ∷ batch_of (create (web 1) ∷ []) ∷ batch_of (Authorised agent_id ∷ []) ∷ []) ≡ committed 1 (replied.Agent plain_agent) ∷ committed 2 (replied.Entry (web 1)) ∷ answered 2 (replied.Entries (web 1 ∷ [])) ∷ []
+
+-- on the empty book there is no agent, and no bundle
+abbrev pub EmptyRefuses : Type 0
+EmptyRefuses = replies_from first_books (batch_of (Authorised agent_id ∷ []) ∷ batch_of (Create (record (given_of (web 1)) { domains = codes "b.org" ∷ codes "c.org" ∷ [] }) ∷ []) ∷ []) ≡ refused 0 0 NoAgent ∷ refused 0 0 (NoBundle (codes "b.org")) ∷ []
+
+-- a batch that is refused at its third operation keeps nothing of the first two: both can be added after it
+abbrev pub NothingKept : Type 0
+NothingKept = replies_from first_books (batch_of (create (web 1) ∷ []) ∷ batch_of (create (api 2) ∷ create (entry 3 agent_id (id_of (codes "/side")) u1) ∷ create (api 1) ∷ []) ∷ batch_of (create (api 3) ∷ []) ∷ batch_of (create (web 2) ∷ []) ∷ []) ≡ committed 1 (replied.Entry (web 1)) ∷ refused 1 2 IdTaken ∷ committed 2 (replied.Entry (api 3)) ∷ refused 2 0 (Similar (uuid_of 1)) ∷ []

@@ -1,0 +1,44 @@
+-- How a book changes: by writes, row by row.
+use Rattle.std.specs.Prelude.{◌≡◌, ⊤, List, [], ◌∷◌, filter, Option, option_to_list, IfSome, bytes_eq}
+use Rattle.entry_book.specs.declared.agent.Agent.{Agent}
+use Rattle.entry_book.specs.declared.bundle.Bundle.{Bundle}
+use Rattle.entry_book.specs.Rows.{Bytes, Entry, entry_key, agent_key, bundle_key}
+use Rattle.entry_book.specs.Order.{with_row}
+use Rattle.entry_book.specs.Book.{Book}
+
+-- One row's change: the row at a key as it was found, and as it is put. Either may be absent.
+pub record Change (X : Type 0) : Type 0 where
+  pub key : Bytes
+  pub old : Option X
+  pub new : Option X
+
+pub data Write : Type 0 where
+  wrote_entry : Change Entry → Write
+  wrote_agent : Change Agent → Write
+  wrote_bundle : Change Bundle → Write
+
+abbrev pub after_write : Write → Book → Book
+after_write (wrote_entry c) b = record b { entries = with_row entry_key c.key c.new b.entries }
+after_write (wrote_agent c) b = record b { agents = with_row agent_key c.key c.new b.agents }
+after_write (wrote_bundle c) b = record b { bundles = with_row bundle_key c.key c.new b.bundles }
+
+-- the book after these writes, one after another
+abbrev pub after : List Write → Book → Book
+after [] b = b
+after (w ∷ ws) b = after ws (after_write w b)
+
+-- ---- a write finds the row that it names, or no row where it names none, and what it puts has its key
+
+pub record FitsRows {X : Type 0} (row_key : X → Bytes) (c : Change X) (rows : List X) : Type 0 where
+  pub found : filter (λ x. bytes_eq (row_key x) c.key) rows ≡ option_to_list c.old
+  pub keyed : IfSome c.new (λ x. row_key x ≡ c.key)
+
+abbrev pub FitsBook : Write → Book → Type 0
+FitsBook (wrote_entry c) b = FitsRows entry_key c b.entries
+FitsBook (wrote_agent c) b = FitsRows agent_key c b.agents
+FitsBook (wrote_bundle c) b = FitsRows bundle_key c b.bundles
+
+-- each on the book that the earlier ones left
+abbrev pub FitAll : List Write → Book → Type 0
+FitAll [] b = ⊤
+FitAll (w ∷ ws) b = FitsBook w b × FitAll ws (after_write w b)

@@ -1,0 +1,18 @@
+//! What is a trust bundle of a book?
+
+ghost use Rattle.std.specs.Prelude.{◌≡◌};
+
+use crate::shared::Shared;
+use crate::text::Text;
+use spiffe_name::TrustDomain;
+
+/// The bundle of another trust domain. Its inside isn't read. A copy of it copies no text.
+#[derive(Drop)]
+pub struct Bundle {
+    /// The bundle's key.
+    pub domain: Shared<TrustDomain>,
+    /// The bundle's text.
+    pub text: Shared<Text>,
+    /// 0 for a new bundle, and one more with each further set.
+    pub sequence: u64,
+}

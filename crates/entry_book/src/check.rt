@@ -1,0 +1,193 @@
+//! Can these operations stand in a batch of a trust domain?
+
+ghost use Rattle.std.specs.Prelude.{◌≡◌, bytes_eq, length};
+ghost use Rattle.std.specs.List.{AllByRecursion};
+ghost use Rattle.entry_book.specs.Rows.{IsProperAgent, IsProperEntry};
+ghost use Rattle.entry_book.specs.Batches.{IsProperOp, agent_fault, asked_fault, batch_refusal, entry_fault, has_no_path, is_agent_path, is_foreign, is_outside, op_fault, ops_refusal};
+ghost use Rattle.spiffe_name.specs.Id.{path_of, server_text};
+
+use crate::agent::Agent;
+use crate::entry::NewEntry;
+use crate::fault::{BatchRefusal, OpFault};
+use crate::op::Op;
+use spiffe_name::{SelectorSet, SpiffeId, TrustDomain};
+
+/// The first fault of a list of operations.
+#[tactic(auto, unfolding(crate::specs::Batches::batch_refusal))]
+pub(crate) fn refusal_of(domain: &TrustDomain, ops: &[Op]) -> Option<BatchRefusal>
+    ensures { result ≡ batch_refusal domain.now ops.now }
+{
+    if ops.is_empty() {
+        return Some(BatchRefusal::NoOps);
+    }
+    if ops.len() > 64 {
+        return Some(BatchRefusal::TooManyOps);
+    }
+    ops_refusal(domain, ops)
+}
+
+/// The first operation with a fault, and the fault.
+fn ops_refusal(domain: &TrustDomain, ops: &[Op]) -> Option<BatchRefusal>
+    ensures { result ≡ ops_refusal domain.now 0 ops.now }
+{
+    for (index, op) in ops.iter().enumerate() {
+        if let Some(fault) = op_fault(domain, op) {
+            return Some(BatchRefusal::OfOp(index, fault));
+        }
+    }
+    None
+}
+
+/// The least fault of an operation.
+fn op_fault(domain: &TrustDomain, op: &Op) -> Option<OpFault>
+    ensures { result ≡ op_fault domain.now op.now }
+{
+    match op {
+        Op::Create(new) => entry_fault(domain, new.get()),
+        Op::Authorised(agent) => asked_fault(domain, agent.get()),
+        Op::SetAgent(agent) => agent_fault(domain, agent),
+    }
+}
+
+/// The least fault of an entry.
+#[tactic(auto, unfolding(crate::specs::Batches::entry_fault))]
+fn entry_fault(domain: &TrustDomain, new: &NewEntry) -> Option<OpFault>
+    ensures { result ≡ entry_fault domain.now new.now }
+{
+    let parent = new.parent.get();
+    let identity = new.identity.get();
+    if is_foreign(domain, parent) || is_foreign(domain, identity) {
+        return Some(OpFault::ForeignId);
+    }
+    if has_no_path(parent) || has_no_path(identity) {
+        return Some(OpFault::EmptyPath);
+    }
+    if is_server(domain, identity) {
+        return Some(OpFault::ServerIdentity);
+    }
+    if is_outside(new.selectors.get()) {
+        return Some(OpFault::Selectors);
+    }
+    if new.domains.len() > 8 {
+        return Some(OpFault::TooManyDomains);
+    }
+    if new.hint.get().as_str().len() > 1024 {
+        return Some(OpFault::HintTooLong);
+    }
+    None
+}
+
+/// The fault of an agent that is asked for.
+#[tactic(auto, unfolding(crate::specs::Batches::asked_fault))]
+fn asked_fault(domain: &TrustDomain, agent: &SpiffeId) -> Option<OpFault>
+    ensures { result ≡ asked_fault domain.now agent.now }
+{
+    if is_foreign(domain, agent) {
+        return Some(OpFault::ForeignId);
+    }
+    if !is_agent_path(agent) {
+        return Some(OpFault::AgentPath);
+    }
+    None
+}
+
+/// The least fault of an agent that is set.
+#[tactic(auto, unfolding(crate::specs::Batches::agent_fault))]
+fn agent_fault(domain: &TrustDomain, agent: &Agent) -> Option<OpFault>
+    ensures { result ≡ agent_fault domain.now agent.now }
+{
+    let id = agent.id.get();
+    if is_foreign(domain, id) {
+        return Some(OpFault::ForeignId);
+    }
+    if agent.selectors.get().len() > 64 {
+        return Some(OpFault::Selectors);
+    }
+    if !is_agent_path(id) {
+        return Some(OpFault::AgentPath);
+    }
+    None
+}
+
+fn is_foreign(domain: &TrustDomain, id: &SpiffeId) -> bool
+    ensures { result ≡ is_foreign domain.now id.now }
+{
+    id.domain() != domain.as_str()
+}
+
+fn has_no_path(id: &SpiffeId) -> bool
+    ensures { result ≡ has_no_path id.now }
+{
+    id.path().is_empty()
+}
+
+fn is_agent_path(id: &SpiffeId) -> bool
+    ensures { result ≡ is_agent_path (path_of id.now) }
+{
+    id.path().as_bytes().starts_with(b"/spire/agent/")
+}
+
+/// Is this the ID of the trust domain's server?
+fn is_server(domain: &TrustDomain, id: &SpiffeId) -> bool
+    ensures { result ≡ bytes_eq id.now (server_text domain.now) }
+{
+    let Some(rest) = id.as_str().as_bytes().strip_prefix(b"spiffe://") else {
+        return false;
+    };
+    let Some(path) = rest.strip_prefix(domain.as_str().as_bytes()) else {
+        return false;
+    };
+    path == b"/spire/server".as_slice()
+}
+
+/// Are these not 1 to 16?
+fn is_outside(selectors: &SelectorSet) -> bool
+    ensures { result ≡ is_outside selectors.now }
+{
+    selectors.is_empty() || selectors.len() > 16
+}
+
+/// Each operation is what the types of its parts see to.
+pub(crate) fn know_ops(ops: &[Op])
+    ensures { AllByRecursion IsProperOp ops.now }
+{
+    for op in ops {
+        know_op(op);
+    }
+}
+
+fn know_op(op: &Op)
+    ensures { IsProperOp op.now }
+{
+    match op {
+        Op::Create(new) => know_entry(new.get()),
+        Op::Authorised(agent) => {
+            let _ = agent.get().as_str();
+        }
+        Op::SetAgent(agent) => know_agent(agent),
+    }
+}
+
+fn know_entry(new: &NewEntry)
+    ensures { IsProperEntry new.now }
+{
+    let _ = byte_count(new.id.as_bytes());
+    let _ = new.parent.get().as_str();
+    let _ = new.identity.get().as_str();
+    let _ = new.selectors.get().as_slice();
+    let _ = new.domains.as_slice();
+}
+
+fn know_agent(agent: &Agent)
+    ensures { IsProperAgent agent.now }
+{
+    let _ = agent.id.get().as_str();
+    let _ = agent.selectors.get().as_slice();
+}
+
+/// How many bytes a UUID has.
+fn byte_count(bytes: &[u8; 16]) -> usize
+    ensures { length bytes.now ≡ 16 }
+{
+    bytes.len()
+}

@@ -1,0 +1,85 @@
+//! What is a set of trust domains?
+
+ghost use Rattle.std.specs.Prelude.{◌≡◌, IfOk};
+
+use crate::shared::Shared;
+use spiffe_name::TrustDomain;
+use std::alloc::{AllocError, Global};
+use std::marker::Model;
+
+/// A finite set of trust domains: each once, in the order of their bytes. Equal sets are equal lists. A contract sees
+/// it as this list.
+#[derive(Drop)]
+pub struct DomainSet {
+    domains: Vec<Shared<TrustDomain>>,
+}
+
+impl Model for DomainSet {
+    ghost use Rattle.std.specs.Prelude.{List, ℕ};
+    ghost use Rattle.entry_book.specs.Order.{Ascending};
+
+    ghost Value = { List (List ℕ) };
+
+    ghost view = { λ set. set.domains.items };
+
+    ghost invariant = { λ set. Ascending (λ domain. domain) set.domains.items };
+}
+
+impl DomainSet {
+    ghost use Rattle.std.specs.Prelude.{Contains, IfOk, List, [], length, ◌↔◌, ◌≡◌, ◌==◌, ℕ};
+    ghost use Rattle.entry_book.specs.Rows.{IsDomainSet};
+
+    /// The set of these domains: repeats collapse. The error is want of memory.
+    pub fn of(alloc: Global, domains: Vec<TrustDomain>) -> Result<DomainSet, AllocError>
+        ensures members { IfOk result (λ set. (domain : List ℕ) → Contains set domain ↔ Contains domains.items domain) }
+        ensures ordered { IfOk result IsDomainSet }
+    {
+        let mut domains = domains;
+        domains.sort()?;
+        domains.dedup();
+        Ok(DomainSet {
+            domains: shared(alloc, domains)?,
+        })
+    }
+
+    /// The set with no domain.
+    pub fn empty(alloc: Global) -> DomainSet
+        ensures { result ≡ [] }
+    {
+        DomainSet {
+            domains: Vec::new(alloc),
+        }
+    }
+
+    /// How many domains there are.
+    pub fn len(&self) -> usize
+        ensures { result ≡ length self.now }
+    {
+        self.domains.len()
+    }
+
+    pub fn is_empty(&self) -> bool
+        ensures { result ≡ (length self.now == 0) }
+    {
+        self.domains.is_empty()
+    }
+
+    /// The domains in order.
+    pub fn as_slice(&self) -> &[Shared<TrustDomain>]
+        ensures items { result.now ≡ self.now }
+        ensures set { IsDomainSet self.now }
+    {
+        self.domains.as_slice()
+    }
+}
+
+/// The domains, each with its first owner.
+fn shared(alloc: Global, domains: Vec<TrustDomain>) -> Result<Vec<Shared<TrustDomain>>, AllocError>
+    ensures { IfOk result (λ shared. shared.items ≡ domains.items) }
+{
+    let mut shared = Vec::new(alloc);
+    for domain in domains {
+        shared.push(Shared::of(alloc, domain)?)?;
+    }
+    Ok(shared)
+}

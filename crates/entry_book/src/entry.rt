@@ -1,0 +1,128 @@
+//! What is an entry of a book?
+
+ghost use Rattle.std.specs.Prelude.{◌≡◌};
+
+use crate::domains::DomainSet;
+use crate::shared::Shared;
+use crate::text::Text;
+use spiffe_name::{SelectorSet, SpiffeId};
+use std::alloc::AllocError;
+use std::marker::Model;
+use uuid::Uuid;
+
+/// What a caller gives of an entry: all but its revision.
+#[derive(Drop)]
+pub struct NewEntry {
+    /// The entry's key.
+    pub id: Uuid,
+    /// The ID of the agent, of the server, or of the workload under which this one is registered.
+    pub parent: Shared<SpiffeId>,
+    /// The ID that the workload gets.
+    pub identity: Shared<SpiffeId>,
+    /// What the workload, or for an alias the agent's node, has to have.
+    pub selectors: Shared<SelectorSet>,
+    /// A text for the workload's own use.
+    pub hint: Shared<Text>,
+    /// The trust domains whose bundles the workload is given.
+    pub domains: DomainSet,
+    /// Seconds since the epoch, 0 for none.
+    pub expiry: u64,
+}
+
+/// An entry of the book: what was given, and how often it was changed since. A copy of it copies no text. A contract
+/// sees it as a record of its eight fields.
+#[derive(Drop)]
+pub struct Entry {
+    given: Shared<NewEntry>,
+    revision: u64,
+}
+
+impl Model for Entry {
+    ghost use Rattle.entry_book.specs.Rows.{Entry, at_revision};
+
+    ghost Value = { Entry };
+
+    ghost view = { λ entry. at_revision entry.revision entry.given };
+}
+
+impl Entry {
+    ghost use Rattle.std.specs.Prelude.{◌≡◌, IfOk};
+    ghost use Rattle.entry_book.specs.Rows.{at_revision};
+
+    /// The entry that was given, at this revision. The error is want of memory.
+    pub(crate) fn at_revision(given: &Shared<NewEntry>, revision: u64) -> Result<Entry, AllocError>
+        ensures { IfOk result (λ entry. entry ≡ at_revision revision given.now) }
+    {
+        Ok(Entry {
+            given: given.clone()?,
+            revision,
+        })
+    }
+
+    /// The entry's key.
+    pub fn id(&self) -> &Uuid
+        ensures { result.now ≡ self.now.id }
+    {
+        &self.given.get().id
+    }
+
+    /// The ID under which the workload is registered.
+    pub fn parent(&self) -> &Shared<SpiffeId>
+        ensures { result.now ≡ self.now.parent }
+    {
+        &self.given.get().parent
+    }
+
+    /// The ID that the workload gets.
+    pub fn identity(&self) -> &Shared<SpiffeId>
+        ensures { result.now ≡ self.now.identity }
+    {
+        &self.given.get().identity
+    }
+
+    /// What the workload, or for an alias the agent's node, has to have.
+    pub fn selectors(&self) -> &Shared<SelectorSet>
+        ensures { result.now ≡ self.now.selectors }
+    {
+        &self.given.get().selectors
+    }
+
+    /// A text for the workload's own use.
+    pub fn hint(&self) -> &Shared<Text>
+        ensures { result.now ≡ self.now.hint }
+    {
+        &self.given.get().hint
+    }
+
+    /// The trust domains whose bundles the workload is given, in order.
+    pub fn domains(&self) -> &DomainSet
+        ensures { result.now ≡ self.now.domains }
+    {
+        &self.given.get().domains
+    }
+
+    /// Seconds since the epoch, 0 for none.
+    pub fn expiry(&self) -> u64
+        ensures { result ≡ self.now.expiry }
+    {
+        self.given.get().expiry
+    }
+
+    /// How often the entry was changed since it was added.
+    pub fn revision(&self) -> u64
+        ensures { result ≡ self.now.revision }
+    {
+        self.revision
+    }
+}
+
+impl Clone for Entry {
+    ghost is_clone = { λ original copy. copy ≡ original };
+
+    fn clone(&self) -> Result<Entry, AllocError> {
+        Ok(Entry {
+            given: self.given.clone()?,
+            revision: self.revision,
+        })
+    }
+}

@@ -1,0 +1,76 @@
+//! Which laws hold of the book?
+//!
+//! Each function does nothing. What it ensures is a law of the definitions, stated in `specs/Laws.antt`; a caller
+//! that calls it may rest on the law.
+
+ghost use Rattle.entry_book.specs.Laws.{AllLawful, AuthorisedInOrder, ChangesCommit, ChildrenEffect, CommitAdds, CountOfBooks, CreateEffect, EndsOfChains, FirstFault, HistoryGoesOn, LawfulHistory, NoFault, OneMore, OneMoreCommits, OthersLeave, QueriesOnlyAsk, RunFits, RunGoesOn, RunKeeps, RunStops, SetAgentEffect, WithinIsContains};
+ghost use Rattle.entry_book.specs.Worked.{AliasHeld, AliasHeldWithMore, AliasNotHeld, AliasNotHeldWithNone, AliasOfAnother, CycleIsAuthorised, EmptyRefuses, FirstBatches, NothingKept};
+
+/// To be within a list is to stand at some place of it.
+pub fn membership()
+    ensures { WithinIsContains }
+{}
+
+/// The authorised entries are the book's entries in which some chain for the agent ends, each once, in the order of
+/// their ids.
+pub fn authorised_entries()
+    ensures ends { EndsOfChains }
+    ensures order { AuthorisedInOrder }
+{}
+
+/// When each operation is refused, and which rows stand in the book after it.
+pub fn effects()
+    ensures create { CreateEffect }
+    ensures set_agent { SetAgentEffect }
+    ensures authorised { ChildrenEffect }
+{}
+
+/// What the run of a batch's operations comes to.
+pub fn runs()
+    ensures stops { RunStops }
+    ensures goes_on { RunGoesOn }
+    ensures fits { RunFits }
+    ensures keeps { RunKeeps }
+{}
+
+/// Which lists of operations are refused as a batch.
+pub fn faults()
+    ensures first { FirstFault }
+    ensures none { NoFault }
+{}
+
+/// How the list of all books grows with the list of batches.
+pub fn histories()
+    ensures adds { CommitAdds }
+    ensures leaves { OthersLeave }
+    ensures queries { QueriesOnlyAsk }
+    ensures changes { ChangesCommit }
+    ensures one_more { OneMore }
+    ensures one_more_commits { OneMoreCommits }
+    ensures count { CountOfBooks }
+    ensures goes_on { HistoryGoesOn }
+{}
+
+/// Every book of a history is lawful, and so is every book that a plain book stands for.
+pub fn lawful_books()
+    ensures history { LawfulHistory }
+    ensures stands { AllLawful }
+{}
+
+/// The worked books of `specs/Worked.antt`: a cycle of parents ends, and an alias is held by an agent that has all of
+/// its selectors, and by no other.
+pub fn worked_books()
+    ensures cycle { CycleIsAuthorised }
+    ensures held { AliasHeld }
+    ensures held_with_more { AliasHeldWithMore }
+    ensures not_held { AliasNotHeld }
+    ensures not_held_with_none { AliasNotHeldWithNone }
+    ensures of_another { AliasOfAnother }
+{}
+
+/// The worked batches of `specs/Worked.antt`: what they are answered, one after another.
+pub fn worked_batches()
+    ensures first { FirstBatches }
+    ensures empty { EmptyRefuses }
+    ensures nothing_kept { NothingKept }
+{}

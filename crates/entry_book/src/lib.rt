@@ -1,0 +1,54 @@
+//! What is a registration book, and what does a batch of operations do to it?
+//!
+//! The book of a server has three sets of rows: entries, agents and trust bundles. A batch of operations is all or
+//! nothing. This crate says what that means, in `specs/`, and has the plain book whose contract is this meaning; each
+//! later representation of a book is proved to answer the same.
+//!
+//! - [`PlainBook`]: a registration book for one thread. It stands for the list of all its books so far.
+//! - [`Batch`]: 1 to 64 operations for the book of one trust domain, none with a fault. [`BatchRefusal`] and
+//!   [`OpFault`] tell why a list of operations is none.
+//! - [`Op`]: one operation, and [`NewEntry`], what a caller gives of an entry.
+//! - [`Reply`]: what became of a batch ([`Outcome`]): the [`OpReply`] of each operation, or the [`Refusal`] of the
+//!   first that the book refuses ([`OpRefusal`]).
+//! - [`Entry`], [`Agent`], [`Bundle`]: the rows. A copy of a row copies no text.
+//! - [`Shared`], [`Sequence`], [`Text`], [`DomainSet`]: what rows are made of, seen by contracts as a value, a list,
+//!   bytes and a set.
+//! - [`laws`]: what holds of every book, such as that each book that can be reached is lawful.
+//!
+//! `docs/BOOK.md` tells the rules.
+#![tactic(auto)]
+
+mod agent;
+mod batch;
+mod book;
+mod bundle;
+mod check;
+mod domains;
+mod entry;
+mod fault;
+mod find;
+pub mod laws;
+mod op;
+mod ops;
+mod plain_book;
+mod reply;
+mod row;
+mod run;
+mod sequence;
+mod shared;
+#[cfg(test)]
+mod tests;
+mod text;
+
+pub use agent::Agent;
+pub use batch::Batch;
+pub use bundle::Bundle;
+pub use domains::DomainSet;
+pub use entry::{Entry, NewEntry};
+pub use fault::{BatchRefusal, OpFault};
+pub use op::Op;
+pub use plain_book::PlainBook;
+pub use reply::{OpRefusal, OpReply, Outcome, Refusal, Reply};
+pub use sequence::Sequence;
+pub use shared::Shared;
+pub use text::Text;

@@ -1,0 +1,54 @@
+//! How is one value held by several owners?
+
+ghost use Rattle.std.specs.Prelude.{◌≡◌};
+
+use std::alloc::{AllocError, Global};
+use std::marker::Model;
+use std::sync::Arc;
+
+/// A value with several owners, behind an `Arc`. A copy is one more owner, and copies no text. A contract sees the
+/// value itself.
+#[derive(Drop)]
+pub struct Shared<T> {
+    value: Arc<T>,
+}
+
+impl<T> Model for Shared<T> {
+    ghost use Rattle.std.specs.Arc.{arc_value};
+
+    ghost Value = { T };
+
+    ghost view = { λ shared. arc_value shared.value };
+}
+
+impl<T> Shared<T> {
+    ghost use Rattle.std.specs.Prelude.{◌≡◌, IfOk};
+
+    /// The value with its first owner. The error is want of memory.
+    pub fn of(alloc: Global, value: T) -> Result<Shared<T>, AllocError>
+    where
+        T: Drop,
+        ensures { IfOk result (λ shared. shared ≡ value) }
+    {
+        Ok(Shared {
+            value: Arc::new(alloc, value)?,
+        })
+    }
+
+    /// The value.
+    pub fn get(&self) -> &T
+        ensures { result.now ≡ self.now }
+    {
+        &self.value
+    }
+}
+
+impl<T: Drop> Clone for Shared<T> {
+    ghost is_clone = { λ original copy. copy ≡ original };
+
+    fn clone(&self) -> Result<Shared<T>, AllocError> {
+        Ok(Shared {
+            value: self.value.clone()?,
+        })
+    }
+}
