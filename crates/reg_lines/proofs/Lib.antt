@@ -1,0 +1,15 @@
+pub mod Known
+pub mod LinesLemmas
+pub mod FirstLf
+pub mod HeldLemmas
+pub mod InputLemmas
+pub mod Puts
+pub mod Escapes
+pub mod Items
+pub mod RunLemmas
+pub mod LinesLaw
+pub mod Front
+pub mod Utf8
+pub mod Rows
+pub mod Domain
+pub mod Compact

@@ -1,0 +1,8 @@
+use Rattle.reg_lines.proofs.Puts.{Puts-nil}
+use Rattle.reg_lines.proofs.replies.put_op_detail.Goals as goal
+
+pub returns-in-IdTaken : goal.returns-in-IdTaken
+returns-in-IdTaken g c = rw c.in-IdTaken.is (Puts-nil _)
+
+pub returns-in-NoAgent : goal.returns-in-NoAgent
+returns-in-NoAgent g c = rw c.in-NoAgent.is (Puts-nil _)

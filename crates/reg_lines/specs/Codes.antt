@@ -1,0 +1,34 @@
+-- The texts of codes and keys.
+use Rattle.std.specs.Prelude.{ℕ, List, codes}
+use Rattle.spiffe_name.specs.Codes.{id_code, selector_code}
+use Rattle.entry_book.specs.Codes.{batch_code}
+use Rattle.reg_lines.specs.declared.fault.Key.{Key}
+use Rattle.reg_lines.specs.declared.fault.Key.TheVariants as key
+use Rattle.reg_lines.specs.declared.fault.Field.{Field}
+use Rattle.reg_lines.specs.declared.fault.Field.TheVariants as field
+use Rattle.reg_lines.specs.declared.fault.Code.{Code}
+use Rattle.reg_lines.specs.declared.fault.Code.TheVariants as code
+
+abbrev pub key_name : Key → List ℕ
+key_name key.Ops = codes "ops"
+key_name key.Op = codes "op"
+key_name key.Id = codes "id"
+key_name key.Parent = codes "parent"
+key_name key.Identity = codes "identity"
+key_name key.Selectors = codes "selectors"
+key_name key.Agent = codes "agent"
+
+abbrev pub field_text : Field → List ℕ
+field_text (field.Known k) = key_name k
+field_text (field.Unknown text) = text
+
+abbrev pub code_text : Code → List ℕ
+code_text code.LineTooLong = codes "L1"
+code_text code.NotJson = codes "L2"
+code_text code.Truncated = codes "L3"
+code_text code.NotObject = codes "L4"
+code_text code.Field = codes "L5"
+code_text code.NotUuid = codes "U1"
+code_text (code.Id r) = id_code r
+code_text (code.Selector r) = selector_code r
+code_text (code.Batch r) = batch_code r

@@ -1,0 +1,12 @@
+pub mod Counted
+pub mod Lines
+pub mod Stream
+pub mod Json
+pub mod Runs
+pub mod Numbered
+pub mod Codes
+pub mod Fields
+pub mod Requests
+pub mod Refusals
+pub mod Replies
+pub mod Values

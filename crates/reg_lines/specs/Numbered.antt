@@ -1,0 +1,5 @@
+-- The engine that the tests run: each line is answered by its number and itself.
+use Rattle.std.specs.Prelude.{◌≡◌, ℕ, ◌+◌, List, ◌++◌, codes, decimal}
+
+abbrev pub numbered : ℕ → List ℕ → ℕ → List ℕ → Type 0
+numbered count line next reply = (next ≡ count + 1) × (reply ≡ decimal (count + 1) ++ codes ":" ++ line)

@@ -1,0 +1,34 @@
+-- What is known of an input and an output.
+use Rattle.std.specs.Prelude.{◌≡◌, ◌<◌, ℕ, Bool, List, [], ◌++◌, Option, Result, MatchResult, MatchBool, ⊤}
+use Rattle.std.specs.Io.KnownBytes.{Keeps, Consumes, Appends, IsAtEnd}
+
+-- the bytes that are left, whether a whole line of them is held, and how many calls failed
+pub record InputState : Type 0 where
+  pub left : Option (List ℕ)
+  pub has_line : Bool
+  pub failures : ℕ
+
+-- the bytes that came are held: none at the end alone; an error takes none
+abbrev pub Fills : {E : Type 0} → Option (List ℕ) → Option (List ℕ) → List ℕ → Result Bool E → Type 0
+Fills old new held r = MatchResult r (λ any. Consumes old new held × MatchBool any ⊤ ((held ≡ []) × IsAtEnd new)) (λ _. Keeps old new × (held ≡ []))
+
+-- the bytes that a sink has, those that are held on their way to it, and how many of its calls failed
+pub record OutputState : Type 0 where
+  pub written : Option (List ℕ)
+  pub held : List ℕ
+  pub failures : ℕ
+
+-- known bytes grow by a beginning of the text
+abbrev pub AppendsFront : Option (List ℕ) → Option (List ℕ) → List ℕ → Type 0
+AppendsFront old new text = (front : List ℕ) × (rest : List ℕ) × (text ≡ front ++ rest) × Appends old new front
+
+-- known bytes grow by all of the bytes, or after an error by a beginning of them
+abbrev pub SendsAll : {T E : Type 0} → Option (List ℕ) → Option (List ℕ) → List ℕ → Result T E → Type 0
+SendsAll old new bytes r = MatchResult r (λ _. Appends old new bytes) (λ _. AppendsFront old new bytes)
+
+-- The text is put behind the bytes held: some of these went to the sink, from the front, and the others are held.
+-- Where a call fails the sink has a beginning of them. After a failed call all stays as it is.
+pub data Puts (old new : OutputState) (text : List ℕ) : Type 0 where
+  stopped : 0 < old.failures → new ≡ old → Puts old new text
+  whole : old.failures ≡ 0 → new.failures ≡ 0 → (sent : List ℕ) → Appends old.written new.written sent → old.held ++ text ≡ sent ++ new.held → Puts old new text
+  cut : old.failures ≡ 0 → new.failures ≡ 1 → AppendsFront old.written new.written (old.held ++ text) → Puts old new text

@@ -1,0 +1,131 @@
+-- The JSON value that each printed line is, and the law that it is printed as that value's compact text. `put` keeps the keys of an object in ascending order of their bytes.
+use Rattle.std.specs.Prelude.{◌≡◌, ℕ, false, List, map, codes, Option, None, Some}
+use Rattle.serde_json.specs.Data.{Data, object, array, string, number, unsigned, Members, put, no_members}
+use Rattle.serde_json.specs.View.{items_of}
+use Rattle.serde_json.specs.Written.{compact_text, has_float}
+use Rattle.spiffe_name.specs.Selector.{SelectorPair, selector_text}
+use Rattle.spiffe_name.specs.declared.refusals.Failure.{Failure}
+use Rattle.spiffe_name.specs.declared.refusals.Failure.TheVariants.{NoMemory, Refused}
+use Rattle.entry_book.specs.Codes.{refusal_code, refusal_op}
+use Rattle.entry_book.specs.Rows.{Entry}
+use Rattle.entry_book.specs.declared.agent.Agent.{Agent}
+use Rattle.entry_book.specs.declared.reply.OpRefusal.{OpRefusal}
+use Rattle.entry_book.specs.declared.reply.OpRefusal.TheVariants as refused
+use Rattle.entry_book.specs.declared.reply.OpReply.{OpReply}
+use Rattle.entry_book.specs.declared.reply.OpReply.TheVariants as replied
+use Rattle.entry_book.specs.declared.reply.Outcome.{Outcome}
+use Rattle.entry_book.specs.declared.reply.Outcome.TheVariants as outcome
+use Rattle.entry_book.specs.declared.reply.Refusal.{Refusal}
+use Rattle.entry_book.specs.declared.reply.Refusal.TheVariants.{OfOp}
+use Rattle.entry_book.specs.declared.reply.Reply.{Reply}
+use Rattle.reg_lines.specs.declared.fault.Fault.{Fault}
+use Rattle.reg_lines.specs.declared.fault.Field.{Field}
+use Rattle.reg_lines.specs.declared.refusal.LineRefusal.{LineRefusal}
+use Rattle.reg_lines.specs.Codes.{code_text, field_text}
+use Rattle.reg_lines.specs.Refusals.{refusal_json}
+use Rattle.reg_lines.specs.Replies.{reply_json, uuid_text}
+
+abbrev pub whole : ℕ → Data
+whole n = number (unsigned n)
+
+abbrev pub list_data : {A : Type 0} → (A → Data) → List A → Data
+list_data f xs = array (items_of (map f xs))
+
+abbrev pub selector_data : SelectorPair → Data
+selector_data s = string (selector_text s)
+
+abbrev pub entry_data : Entry → Data
+entry_data e = object (
+    put (codes "domains") (list_data string e.domains) (
+    put (codes "expiry") (whole e.expiry) (
+    put (codes "hint") (string e.hint) (
+    put (codes "id") (string (uuid_text e.id)) (
+    put (codes "identity") (string e.identity) (
+    put (codes "parent") (string e.parent) (
+    put (codes "revision") (whole e.revision) (
+    put (codes "selectors") (list_data selector_data e.selectors)
+    no_members))))))))
+
+abbrev pub agent_data : Agent → Data
+agent_data a = object (
+    put (codes "id") (string a.id) (
+    put (codes "selectors") (list_data selector_data a.selectors)
+    no_members))
+
+abbrev pub op_reply_data : OpReply → Data
+op_reply_data (replied.Entry e) = object (put (codes "entry") (entry_data e) no_members)
+op_reply_data (replied.Entries es) = object (put (codes "entries") (list_data entry_data es) no_members)
+op_reply_data (replied.Agent a) = object (put (codes "agent") (agent_data a) no_members)
+
+abbrev pub done_data : ℕ → ℕ → List OpReply → List ℕ → Data
+done_data call place replies result = object (
+    put (codes "call") (whole call) (
+    put (codes "place") (whole place) (
+    put (codes "replies") (list_data op_reply_data replies) (
+    put (codes "result") (string result)
+    no_members))))
+
+-- a key that stands there where it is due
+abbrev pub if_due : {A : Type 0} → List ℕ → (A → Data) → Option A → Members → Members
+if_due key f None ms = ms
+if_due key f (Some x) ms = put key (f x) ms
+
+abbrev pub op_detail : OpRefusal → Option (List ℕ)
+op_detail refused.IdTaken = None
+op_detail (refused.Similar id) = Some (uuid_text id)
+op_detail (refused.NoBundle domain) = Some domain
+op_detail refused.NoAgent = None
+
+abbrev pub detail : Refusal → Option (List ℕ)
+detail (OfOp n r) = op_detail r
+
+abbrev pub refused_data : ℕ → ℕ → Refusal → Data
+refused_data call place r = object (
+    put (codes "call") (whole call) (
+    put (codes "code") (string (refusal_code r)) (
+    if_due (codes "detail") string (detail r) (
+    if_due (codes "op") whole (refusal_op r) (
+    put (codes "place") (whole place) (
+    put (codes "result") (string (codes "refused"))
+    no_members))))))
+
+abbrev pub outcome_data : ℕ → ℕ → Outcome → Data
+outcome_data call place (outcome.Committed replies) = done_data call place replies (codes "committed")
+outcome_data call place (outcome.Answered replies) = done_data call place replies (codes "answered")
+outcome_data call place (outcome.Refused refusal) = refused_data call place refusal
+
+abbrev pub reply_data : ℕ → Reply → Data
+reply_data call reply = outcome_data call reply.place reply.outcome
+
+abbrev pub field_data : Field → Data
+field_data field = string (field_text field)
+
+abbrev pub fault_data : ℕ → Fault → Data
+fault_data line f = object (
+    put (codes "code") (string (code_text f.code)) (
+    if_due (codes "field") field_data f.field (
+    put (codes "line") (whole line) (
+    if_due (codes "op") whole f.op
+    no_members))))
+
+abbrev pub failure_data : ℕ → Failure Fault → Data
+failure_data line NoMemory = object (put (codes "code") (string (codes "L6")) (put (codes "line") (whole line) no_members))
+failure_data line (Refused fault) = fault_data line fault
+
+abbrev pub refusal_data : LineRefusal → Data
+refusal_data r = failure_data r.line r.failure
+
+-- ---- the law
+
+abbrev pub RepliesAreCompact : Type 0
+RepliesAreCompact = (call : ℕ) (reply : Reply) → reply_json call reply ≡ compact_text (reply_data call reply)
+
+abbrev pub RefusalsAreCompact : Type 0
+RefusalsAreCompact = (r : LineRefusal) → refusal_json r ≡ compact_text (refusal_data r)
+
+-- so the compact text is what `serde_json` writes of the value
+abbrev pub RepliesHaveNoFloat : Type 0
+RepliesHaveNoFloat = (call : ℕ) (reply : Reply) → has_float (reply_data call reply) ≡ false
+
+abbrev pub RefusalsHaveNoFloat : Type 0
+RefusalsHaveNoFloat = (r : LineRefusal) → has_float (refusal_data r) ≡ false

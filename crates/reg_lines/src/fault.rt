@@ -1,0 +1,117 @@
+//! What can be wrong with a line, and where.
+
+ghost use Rattle.std.specs.Prelude.{◌≡◌};
+ghost use Rattle.reg_lines.specs.Codes.{code_text, field_text, key_name};
+
+use entry_book::{BatchRefusal, Text};
+use spiffe_name::{IdRefusal, SelectorRefusal};
+
+/// A key of the format.
+#[derive(Clone, Copy, Debug, PartialEq, Eq, Drop)]
+pub enum Key {
+    /// The operations of a batch.
+    Ops,
+    /// Which operation an object is.
+    Op,
+    /// An entry's key.
+    Id,
+    /// The ID under which a workload is registered.
+    Parent,
+    /// The ID that a workload gets.
+    Identity,
+    /// The selectors of an entry or an agent.
+    Selectors,
+    /// An agent's ID.
+    Agent,
+}
+
+impl Key {
+    /// The key's text.
+    pub fn name(self) -> &'static str
+        ensures { result.now ≡ key_name self }
+    {
+        match self {
+            Key::Ops => "ops",
+            Key::Op => "op",
+            Key::Id => "id",
+            Key::Parent => "parent",
+            Key::Identity => "identity",
+            Key::Selectors => "selectors",
+            Key::Agent => "agent",
+        }
+    }
+}
+
+/// The key that a refusal names.
+#[derive(Drop)]
+pub enum Field {
+    /// A key of the format.
+    Known(Key),
+    /// A key that has no place where it stands.
+    Unknown(Text),
+}
+
+impl Field {
+    /// The key's text.
+    pub fn name(&self) -> &str
+        ensures { result.now ≡ field_text self.now }
+    {
+        match self {
+            Field::Known(key) => key.name(),
+            Field::Unknown(text) => text.as_str(),
+        }
+    }
+}
+
+/// Why a line spells no request.
+#[derive(Clone, Copy, Debug, PartialEq, Eq, Drop)]
+pub enum Code {
+    /// The line has over 1,048,576 bytes before its LF.
+    LineTooLong,
+    /// The line is no JSON text in UTF-8, or its lists and objects lie in each other more than 127 deep.
+    NotJson,
+    /// The line has no LF at its end.
+    Truncated,
+    /// The line is JSON, but no object.
+    NotObject,
+    /// A key is missing, unknown, of the wrong kind, or not one of its stated values.
+    Field,
+    /// A text is no UUID.
+    NotUuid,
+    /// A text is no SPIFFE ID.
+    Id(IdRefusal),
+    /// A text is no selector.
+    Selector(SelectorRefusal),
+    /// The operations are no batch.
+    Batch(BatchRefusal),
+}
+
+impl Code {
+    /// The code, as it is printed.
+    pub fn text(self) -> &'static str
+        ensures { result.now ≡ code_text self }
+    {
+        match self {
+            Code::LineTooLong => "L1",
+            Code::NotJson => "L2",
+            Code::Truncated => "L3",
+            Code::NotObject => "L4",
+            Code::Field => "L5",
+            Code::NotUuid => "U1",
+            Code::Id(refusal) => refusal.code(),
+            Code::Selector(refusal) => refusal.code(),
+            Code::Batch(refusal) => refusal.code(),
+        }
+    }
+}
+
+/// What is wrong with a line: the first fault found.
+#[derive(Drop)]
+pub struct Fault {
+    /// Why the line spells no request.
+    pub code: Code,
+    /// The key at which the fault lies, where it lies at one.
+    pub field: Option<Field>,
+    /// The operation, counted from 0, in which the fault lies or to which it belongs.
+    pub op: Option<usize>,
+}

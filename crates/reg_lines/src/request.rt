@@ -1,0 +1,153 @@
+//! Which request does a line spell?
+
+ghost use Rattle.std.specs.Prelude.{◌≡◌, IfOk, MatchResult, length};
+ghost use Rattle.std.specs.Io.BufRead.{ends_with_byte, strip_last};
+ghost use Rattle.serde_json.specs.Find.{as_object};
+ghost use Rattle.serde_json.specs.View.{members_view, view};
+ghost use Rattle.reg_lines.specs.Fields.{Fails, Gives};
+ghost use Rattle.reg_lines.specs.Requests.{batch_in, batch_of, framed, object_in, spelled, value_in};
+
+use crate::fault::{Code, Fault, Key};
+use crate::fields::{at_key, at_line, no_others, value_at};
+use crate::ops::ops_in;
+use crate::refusal::LineRefusal;
+use entry_book::{Batch, Op, Sequence};
+use serde_json::{Map, Value};
+use spiffe_name::{Failure, TrustDomain};
+use std::alloc::Global;
+
+/// How many bytes may stand before a line's LF.
+const LINE_LIMIT: usize = 1_048_576;
+
+/// What a request line asks for.
+#[derive(Drop)]
+pub struct Request {
+    /// The batch that is to be run.
+    pub batch: Batch,
+}
+
+fn ends_with_lf(line: &[u8]) -> bool
+    ensures { result ≡ ends_with_byte 10 line.now }
+{
+    !line.is_empty() && line[line.len() - 1] == b'\n'
+}
+
+/// How many bytes stand before the LF.
+fn len_before_lf(line: &[u8]) -> usize
+    ensures { result ≡ length (strip_last 10 line.now) }
+{
+    if ends_with_lf(line) {
+        line.len() - 1
+    } else {
+        line.len()
+    }
+}
+
+/// Refuses a line that is too long, or has no LF.
+#[tactic(auto, unfolding(crate::specs::Requests::framed, crate::specs::Requests::line_limit))]
+fn framed(line: &[u8]) -> Result<(), Failure<Fault>>
+    ensures { Gives (λ _. tt) result (framed line.now) }
+{
+    if len_before_lf(line) > LINE_LIMIT {
+        return Err(at_line(Code::LineTooLong));
+    }
+    if !ends_with_lf(line) {
+        return Err(at_line(Code::Truncated));
+    }
+    Ok(())
+}
+
+/// The value that the line's text is.
+#[tactic(auto, unfolding(crate::specs::Requests::value_in))]
+fn value_in(alloc: Global, line: &[u8]) -> Result<Value, Failure<Fault>>
+    ensures { Gives view result (value_in line.now) }
+{
+    let Ok(text) = str::from_utf8(line) else {
+        return Err(at_line(Code::NotJson));
+    };
+    match Value::from_str(alloc, text) {
+        Ok(value) => Ok(value),
+        Err(error) => Err(if error.is_memory() {
+            Failure::NoMemory
+        } else {
+            at_line(Code::NotJson)
+        }),
+    }
+}
+
+fn object_in(value: &Value) -> Result<&Map<String, Value>, Failure<Fault>>
+    ensures { Gives (λ m. members_view m.now.entries) result (object_in (as_object (view value.now))) }
+{
+    match value.as_object() {
+        Some(members) => Ok(members),
+        None => Err(at_line(Code::NotObject)),
+    }
+}
+
+/// The batch of these operations.
+fn batch_of(domain: &TrustDomain, ops: Sequence<Op>) -> Result<Batch, Failure<Fault>>
+    ensures { Gives (λ batch. batch) result (batch_of domain.now ops) }
+{
+    match Batch::new(domain, ops) {
+        Ok(batch) => Ok(batch),
+        Err(Failure::NoMemory) => Err(Failure::NoMemory),
+        Err(Failure::Refused(refusal)) => Err(Failure::Refused(Fault {
+            code: Code::Batch(refusal),
+            field: None,
+            op: refusal.op(),
+        })),
+    }
+}
+
+/// The batch that an object spells.
+#[tactic(auto, unfolding(crate::specs::Requests::batch_in))]
+fn batch_in(
+    alloc: Global,
+    domain: &TrustDomain,
+    object: &Value,
+    members: &Map<String, Value>,
+) -> Result<Batch, Failure<Fault>>
+    ensures { Gives (λ batch. batch) result
+        (batch_in domain.now (view object.now) (members_view members.now.entries)) }
+{
+    let Some(items) = value_at(object, Key::Ops).and_then(Value::as_array) else {
+        return Err(at_key(Code::Field, Key::Ops));
+    };
+    no_others(members, &[Key::Ops])?;
+    let ops = ops_in(alloc, items)?;
+    batch_of(domain, ops)
+}
+
+/// What the line spells.
+#[tactic(auto, unfolding(crate::specs::Requests::spelled))]
+fn request_in(alloc: Global, domain: &TrustDomain, line: &[u8]) -> Result<Request, Failure<Fault>>
+    ensures { Gives (λ request. request) result (spelled domain.now line.now) }
+{
+    framed(line)?;
+    let value = value_in(alloc, line)?;
+    let members = object_in(&value)?;
+    let batch = batch_in(alloc, domain, &value, members)?;
+    Ok(Request { batch })
+}
+
+/// Reads a request line: its bytes with its LF where it has one (of a line over the limit the first 1,048,577 bytes
+/// are enough), and its number from 1. The error is the first fault found, or want of memory, with the line's number.
+pub fn read_request(
+    alloc: Global,
+    domain: &TrustDomain,
+    line: &[u8],
+    number: u64,
+) -> Result<Request, LineRefusal>
+    ensures spelled { MatchResult result
+        (λ request. spelled domain.now line.now ≡ Ok request)
+        (λ refusal. (refusal.line ≡ number) × Fails refusal.failure (spelled domain.now line.now)) }
+    ensures domain { IfOk result (λ request. request.batch.domain ≡ domain.now) }
+{
+    match request_in(alloc, domain, line) {
+        Ok(request) => Ok(request),
+        Err(failure) => Err(LineRefusal {
+            line: number,
+            failure,
+        }),
+    }
+}

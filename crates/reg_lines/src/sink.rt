@@ -1,0 +1,30 @@
+ghost use Rattle.std.specs.Prelude.{◌≡◌, ◌+◌, ◌<◌, ◌≤◌, ◌^◌, ℕ, List, Option, IfOk, is_ok, if◌then◌else◌, length};
+ghost use Rattle.std.specs.Io.KnownBytes.{Keeps, WriteAppends};
+
+/// A call of a sink failed.
+#[derive(Clone, Copy, Debug, PartialEq, Eq)]
+pub struct SinkFailed;
+
+/// Where bytes go. It counts its calls that failed.
+pub trait Sink {
+    // The bytes that it has: known over memory, unknown over a device.
+    ghost written: { Self → Option (List ℕ) };
+
+    // How many calls have failed.
+    ghost failures: { Self → ℕ };
+
+    /// Writes at least one of the bytes, from the front, and answers how many. A call that takes
+    /// none of the bytes offered has failed, and a call that failed has taken none.
+    fn write_some(&mut self, bytes: &[u8]) -> Result<usize, SinkFailed>
+        requires some { 0 < length bytes.now }
+        requires countable { failures self.old + 1 < 2 ^ 64 }
+        ensures bound { IfOk result (λ n. (0 < n) × (n ≤ length bytes.now)) }
+        ensures bytes { WriteAppends (written self.old) (written self.new) result bytes.now }
+        ensures failed { failures self.new ≡ failures self.old + (if is_ok result then 0 else 1) };
+
+    /// Hands on what the device itself may hold back.
+    fn flush(&mut self) -> Result<(), SinkFailed>
+        requires { failures self.old + 1 < 2 ^ 64 }
+        ensures bytes { Keeps (written self.old) (written self.new) }
+        ensures failed { failures self.new ≡ failures self.old + (if is_ok result then 0 else 1) };
+}

@@ -1,0 +1,114 @@
+ghost use Rattle.std.specs.Prelude.{◌≡◌};
+
+use crate::{CallReply, Counted, LineRefusal, Output, PrintJson, print_line, read_request};
+use entry_book::PlainBook;
+use serde_json::Value;
+use spiffe_name::{Failure, TrustDomain};
+use std::alloc::Global;
+use std::process::Abort;
+use std::test::Fail;
+
+/// The printed line of a value, without its LF. It is the text that `serde_json` writes of the
+/// value that it reads there.
+pub fn printed<T: PrintJson>(alloc: Global, value: &T) -> Result<String, Fail> {
+    let mut bytes = Vec::new(alloc);
+    let mut output = Output::new(Counted::new(&mut bytes));
+    print_line(value, &mut output);
+    output.flush();
+    if output.has_failed() {
+        return Err(Fail::from("no memory for the output"));
+    }
+    drop(output);
+    let Some(b'\n') = bytes.pop() else {
+        return Err(Fail::from("no LF at the end"));
+    };
+    let text = str::from_utf8(&bytes)?;
+    let again = Value::from_str(alloc, text)?.to_string(alloc)?;
+    if again.as_str() != text {
+        return Err(Fail::from("serde_json writes another text"));
+    }
+    Ok(String::from_str(alloc, text)?)
+}
+
+/// A book of `ex.org` with nothing in it.
+pub fn new_book(alloc: Global) -> Result<PlainBook, Fail> {
+    let domain = TrustDomain::parse(alloc, "ex.org")?;
+    Ok(PlainBook::new(alloc, domain)?)
+}
+
+/// The printed answer to a line: the reply of the book to its batch, or its refusal. Want of memory is an error, so
+/// that no table has to know of it.
+pub fn answer_on(
+    alloc: Global,
+    book: &mut PlainBook,
+    line: &[u8],
+    number: u64,
+    call: u64,
+) -> Result<String, Fail> {
+    match read_request(alloc, book.domain(), line, number) {
+        Err(refusal) => {
+            if let Failure::NoMemory = &refusal.failure {
+                return Err(Fail::from("no memory"));
+            }
+            printed(alloc, &refusal)
+        }
+        Ok(request) => {
+            if book.place() > 64 {
+                return Err(Fail::from("too many batches"));
+            }
+            let reply = book.run(&request.batch)?;
+            let line = CallReply {
+                call,
+                reply: &reply,
+            };
+            printed(alloc, &line)
+        }
+    }
+}
+
+/// The printed answer to a line on a book with nothing in it.
+pub fn answer(alloc: Global, line: &[u8], number: u64) -> Result<String, Fail> {
+    let mut book = new_book(alloc)?;
+    answer_on(alloc, &mut book, line, number, 1)
+}
+
+/// A text with an LF at its end.
+pub fn line_of(alloc: Global, text: &str) -> Result<Vec<u8>, Fail> {
+    let mut line = Vec::from_slice(alloc, text.as_bytes())?;
+    line.push(b'\n')?;
+    Ok(line)
+}
+
+/// Each line of the table is a request line and what it is answered on a book with nothing in it.
+pub fn answers(rt: &impl Abort, alloc: Global, table: &str) -> Result<(), Fail> {
+    for case in table.lines() {
+        if let Some((text, want)) = case.split_once(" => ") {
+            let line = line_of(alloc, text)?;
+            assert_eq!(rt; answer(alloc, &line, 1)?.as_str(), want, "{text}");
+        }
+    }
+    Ok(())
+}
+
+/// The same on one book, with the lines and the calls counted from 1.
+pub fn answers_in_a_row(rt: &impl Abort, alloc: Global, table: &str) -> Result<(), Fail> {
+    let mut book = new_book(alloc)?;
+    let mut count = 0u64;
+    for case in table.lines() {
+        if let Some((text, want)) = case.split_once(" => ") {
+            count = count.saturating_add(1);
+            let line = line_of(alloc, text)?;
+            let got = answer_on(alloc, &mut book, &line, count, count)?;
+            assert_eq!(rt; got.as_str(), want, "{text}");
+        }
+    }
+    Ok(())
+}
+
+/// A line for which memory was wanting.
+pub fn without_memory(line: u64) -> LineRefusal {
+    LineRefusal {
+        line,
+        failure: Failure::NoMemory,
+    }
+}

@@ -1,0 +1,200 @@
+use super::answers::{answer, answers, answers_in_a_row, new_book, printed, without_memory};
+use crate::CallReply;
+use entry_book::{
+    Batch, DomainSet, NewEntry, Op, OpRefusal, Outcome, Refusal, Reply, Sequence, Shared, Text,
+};
+use spiffe_name::{Selector, SelectorSet, SpiffeId, TrustDomain};
+use std::alloc::Global;
+use std::test::Fail;
+use uuid::Uuid;
+
+/// The lines of one run, each with the line that answers it.
+const RUN: &str = r#"
+{"ops":[{"op":"set_agent","agent":"spiffe://ex.org/spire/agent/n1","selectors":["x:1"]}]} => {"call":1,"place":1,"replies":[{"agent":{"id":"spiffe://ex.org/spire/agent/n1","selectors":["x:1"]}}],"result":"committed"}
+{"ops":[{"op":"create","id":"00000000-0000-0000-0000-000000000001","parent":"spiffe://ex.org/spire/agent/n1","identity":"spiffe://ex.org/web","selectors":["unix:uid:1000"]}]} => {"call":2,"place":2,"replies":[{"entry":{"domains":[],"expiry":0,"hint":"","id":"00000000-0000-0000-0000-000000000001","identity":"spiffe://ex.org/web","parent":"spiffe://ex.org/spire/agent/n1","revision":0,"selectors":["unix:uid:1000"]}}],"result":"committed"}
+{"ops":[{"op":"authorised","agent":"spiffe://ex.org/spire/agent/n1"}]} => {"call":3,"place":2,"replies":[{"entries":[{"domains":[],"expiry":0,"hint":"","id":"00000000-0000-0000-0000-000000000001","identity":"spiffe://ex.org/web","parent":"spiffe://ex.org/spire/agent/n1","revision":0,"selectors":["unix:uid:1000"]}]}],"result":"answered"}
+"#;
+
+/// Lines, each answered on a book with nothing in it: escapes, sets in their order, refusals of the book.
+const ANSWERS: &str = r#"
+{"ops":[{"op":"set_agent","agent":"spiffe:\/\/ex.org/spire/agent/\u006e1","selectors":["x:\u0041\"\\\/\b\f\n\r\t\u0001\u001F\u00e9\ud83d\ude00"]}]} => {"call":1,"place":1,"replies":[{"agent":{"id":"spiffe://ex.org/spire/agent/n1","selectors":["x:A\"\\/\b\f\n\r\t\u0001\u001fé😀"]}}],"result":"committed"}
+{"ops":[{"op":"set_agent","agent":"spiffe://ex.org/spire/agent/n1","selectors":["u:2","a!:y","u:1","a:x","u:2"]}]} => {"call":1,"place":1,"replies":[{"agent":{"id":"spiffe://ex.org/spire/agent/n1","selectors":["a:x","a!:y","u:1","u:2"]}}],"result":"committed"}
+{"ops":[{"op":"set_agent","agent":"spiffe://ex.org/spire/agent/n1","selectors":[]},{"op":"authorised","agent":"spiffe://ex.org/spire/agent/n1"}]} => {"call":1,"place":1,"replies":[{"agent":{"id":"spiffe://ex.org/spire/agent/n1","selectors":[]}},{"entries":[]}],"result":"committed"}
+{"ops":[{"op":"authorised","agent":"spiffe://ex.org/spire/agent/n1"}]} => {"call":1,"code":"O7","op":0,"place":0,"result":"refused"}
+{"ops":[{"op":"create","id":"00000000-0000-0000-0000-000000000001","parent":"spiffe://ex.org/a","identity":"spiffe://ex.org/b","selectors":["u:1"]},{"op":"create","id":"00000000000000000000000000000001","parent":"spiffe://ex.org/a","identity":"spiffe://ex.org/c","selectors":["u:1"]}]} => {"call":1,"code":"O1","op":1,"place":0,"result":"refused"}
+{"ops":[{"op":"create","id":"0000000a-0000-0000-0000-000000000001","parent":"spiffe://ex.org/a","identity":"spiffe://ex.org/b","selectors":["u:1","u:2"]},{"op":"create","id":"00000000000000000000000000000002","parent":"spiffe://ex.org/a","identity":"spiffe://ex.org/b","selectors":["u:2","u:1"]}]} => {"call":1,"code":"O2","detail":"0000000a-0000-0000-0000-000000000001","op":1,"place":0,"result":"refused"}
+"#;
+
+#[test]
+fn batches_are_answered_by_the_book(rt: HostRuntime) -> Result<(), Fail> {
+    answers_in_a_row(&rt, rt.alloc(), RUN)?;
+    answers(&rt, rt.alloc(), ANSWERS)
+}
+
+/// The line of one create whose id has this text, on a book with nothing in it.
+fn created(alloc: Global, id: &str) -> Result<String, Fail> {
+    let line = format!(in alloc;
+        "{{\"ops\":[{{\"op\":\"create\",\"id\":\"{id}\",\"parent\":\"spiffe://ex.org/a\",\"identity\":\"spiffe://ex.org/b\",\"selectors\":[\"u:1\"]}}]}}\n"
+    )?;
+    answer(alloc, line.as_bytes(), 1)
+}
+
+#[test]
+fn an_id_is_read_in_each_of_its_forms(rt: HostRuntime) -> Result<(), Fail> {
+    let want =
+        r#"{"call":1,"place":1,"replies":[{"entry":{"domains":[],"expiry":0,"hint":"","id":"0a0b0c0d-0000-4000-8000-0000000000ff","identity":"spiffe://ex.org/b","parent":"spiffe://ex.org/a","revision":0,"selectors":["u:1"]}}],"result":"committed"}"#;
+    for id in [
+        "0a0b0c0d-0000-4000-8000-0000000000ff",
+        "0A0B0C0D-0000-4000-8000-0000000000FF",
+        "0a0b0c0d0000400080000000000000ff",
+        "{0a0b0c0d-0000-4000-8000-0000000000fF}",
+        "urn:uuid:0a0b0c0d-0000-4000-8000-0000000000ff",
+        "URN:uuid:0a0b0c0d-0000-4000-8000-0000000000ff",
+    ] {
+        assert_eq!(rt; created(rt.alloc(), id)?.as_str(), want, "{id}");
+    }
+    for id in [
+        "",
+        "0a0b0c0d-0000-4000-8000-0000000000f",
+        "0a0b0c0d-0000-4000-8000-0000000000fg",
+    ] {
+        let want = r#"{"code":"U1","field":"id","line":1,"op":0}"#;
+        assert_eq!(rt; created(rt.alloc(), id)?.as_str(), want, "{id}");
+    }
+    Ok(())
+}
+
+/// A line of so many questions, the last of which is of this agent.
+fn questions(alloc: Global, count: usize, last: &str) -> Result<String, Fail> {
+    let mut line = String::from_str(alloc, "{\"ops\":[")?;
+    for _ in 1..count {
+        line.push_str(r#"{"op":"authorised","agent":"spiffe://ex.org/spire/agent/n1"},"#)?;
+    }
+    line.push_str(last)?;
+    line.push_str("]}\n")?;
+    Ok(line)
+}
+
+#[test]
+fn a_batch_has_at_most_64_operations(rt: HostRuntime) -> Result<(), Fail> {
+    let good = r#"{"op":"authorised","agent":"spiffe://ex.org/spire/agent/n1"}"#;
+    for (count, last, want) in [
+        (
+            64,
+            good,
+            r#"{"call":1,"code":"O7","op":0,"place":0,"result":"refused"}"#,
+        ),
+        (65, good, r#"{"code":"B2","line":9}"#),
+        (
+            65,
+            r#"{"op":"mint"}"#,
+            r#"{"code":"L5","field":"op","line":9,"op":64}"#,
+        ),
+        (
+            65,
+            r#"{"op":"authorised","agent":"spiffe://ex.org/n1/"}"#,
+            r#"{"code":"I6","field":"agent","line":9,"op":64}"#,
+        ),
+    ] {
+        let line = questions(rt.alloc(), count, last)?;
+        assert_eq!(rt; answer(rt.alloc(), line.as_bytes(), 9)?.as_str(), want);
+    }
+    Ok(())
+}
+
+/// The answer to a line with a selector `x:` and so many times the escape of a letter of two bytes.
+fn with_escapes(alloc: Global, count: usize) -> Result<String, Fail> {
+    let mut line = String::from_str(
+        alloc,
+        r#"{"ops":[{"op":"set_agent","agent":"spiffe://ex.org/spire/agent/n1","selectors":["x:"#,
+    )?;
+    for _ in 0..count {
+        line.push_str("\\u00e9")?;
+    }
+    line.push_str("\"]}]}\n")?;
+    answer(alloc, line.as_bytes(), 1)
+}
+
+#[test]
+fn the_length_of_a_text_is_that_of_its_bytes_after_escapes(rt: HostRuntime) -> Result<(), Fail> {
+    let got = with_escapes(rt.alloc(), 255)?;
+    assert!(rt;
+        got.as_str()
+            .starts_with(r#"{"call":1,"place":1,"replies":[{"agent":"#),
+        "{got}"
+    );
+    let want = r#"{"code":"S1","field":"selectors","line":1,"op":0}"#;
+    assert_eq!(rt; with_escapes(rt.alloc(), 256)?.as_str(), want);
+    Ok(())
+}
+
+fn domain_of(alloc: Global, text: &str) -> Result<TrustDomain, Fail> {
+    Ok(TrustDomain::parse(alloc, text)?)
+}
+
+fn id_of(alloc: Global, text: &str) -> Result<Shared<SpiffeId>, Fail> {
+    Ok(Shared::of(alloc, SpiffeId::parse(alloc, text)?)?)
+}
+
+/// The reply to a create whose hint and expiry no line of this stage gives.
+fn reply_with_hint(alloc: Global) -> Result<Reply, Fail> {
+    let selectors = Vec::from_array(alloc, [Selector::parse(alloc, "u:1")?])?;
+    let new = NewEntry {
+        id: Uuid::from_u128(1),
+        parent: id_of(alloc, "spiffe://ex.org/a")?,
+        identity: id_of(alloc, "spiffe://ex.org/b")?,
+        selectors: Shared::of(alloc, SelectorSet::of(selectors)?)?,
+        hint: Shared::of(alloc, Text::of(String::from_str(alloc, "a \"hint\"\n")?))?,
+        domains: DomainSet::empty(alloc),
+        expiry: u64::MAX,
+    };
+    let mut book = new_book(alloc)?;
+    let mut ops = Sequence::empty(alloc);
+    ops.push(Op::Create(Shared::of(alloc, new)?))?;
+    let batch = Batch::new(book.domain(), ops)?;
+    if book.place() > 64 {
+        return Err(Fail::from("too many batches"));
+    }
+    Ok(book.run(&batch)?)
+}
+
+#[test]
+fn values_that_no_line_of_this_stage_asks_for(rt: HostRuntime) -> Result<(), Fail> {
+    let alloc = rt.alloc();
+    let reply = reply_with_hint(alloc)?;
+    let line = CallReply {
+        call: u64::MAX,
+        reply: &reply,
+    };
+    let want =
+        r#"{"call":18446744073709551615,"place":1,"replies":[{"entry":{"domains":[],"expiry":18446744073709551615,"hint":"a \"hint\"\n","id":"00000000-0000-0000-0000-000000000001","identity":"spiffe://ex.org/b","parent":"spiffe://ex.org/a","revision":0,"selectors":["u:1"]}}],"result":"committed"}"#;
+    assert_eq!(rt; printed(alloc, &line)?.as_str(), want);
+    let domain = Shared::of(alloc, domain_of(alloc, "b.org")?)?;
+    let reply = Reply {
+        place: 3,
+        outcome: Outcome::Refused(Refusal::OfOp(2, OpRefusal::NoBundle(domain))),
+    };
+    let line = CallReply {
+        call: 7,
+        reply: &reply,
+    };
+    let want = r#"{"call":7,"code":"O5","detail":"b.org","op":2,"place":3,"result":"refused"}"#;
+    assert_eq!(rt; printed(alloc, &line)?.as_str(), want);
+    let domains = Vec::from_array(
+        alloc,
+        [
+            domain_of(alloc, "b.org")?,
+            domain_of(alloc, "a.org")?,
+            domain_of(alloc, "b.org")?,
+        ],
+    )?;
+    assert_eq!(rt;
+        printed(alloc, &DomainSet::of(alloc, domains)?)?.as_str(),
+        r#"["a.org","b.org"]"#
+    );
+    assert_eq!(rt;
+        printed(alloc, &without_memory(12))?.as_str(),
+        r#"{"code":"L6","line":12}"#
+    );
+    Ok(())
+}

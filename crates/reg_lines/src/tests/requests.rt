@@ -1,0 +1,135 @@
+use super::answers::answers;
+use std::test::Fail;
+
+/// Lines, and what each is answered on a book with nothing in it.
+const TABLE: &str = r#"
+# no JSON text
+ => {"code":"L2","line":1}
+{ => {"code":"L2","line":1}
+{"ops":[]} x => {"code":"L2","line":1}
+{"ops":[]}{} => {"code":"L2","line":1}
+{'ops':[]} => {"code":"L2","line":1}
+{"ops":[],} => {"code":"L2","line":1}
+{"ops":[01]} => {"code":"L2","line":1}
+nul => {"code":"L2","line":1}
+
+# JSON, but no object
+null => {"code":"L4","line":1}
+true => {"code":"L4","line":1}
+7 => {"code":"L4","line":1}
+[] => {"code":"L4","line":1}
+"ops" => {"code":"L4","line":1}
+
+# the top key
+{} => {"code":"L5","field":"ops","line":1}
+{"ops":null} => {"code":"L5","field":"ops","line":1}
+{"ops":7} => {"code":"L5","field":"ops","line":1}
+{"ops":"x"} => {"code":"L5","field":"ops","line":1}
+{"ops":{}} => {"code":"L5","field":"ops","line":1}
+{"ops":true} => {"code":"L5","field":"ops","line":1}
+{"zz":1} => {"code":"L5","field":"ops","line":1}
+
+# keys that aren't known, or not yet: in the order of their bytes, before the operations, whatever their value
+{"ops":[],"zz":1} => {"code":"L5","field":"zz","line":1}
+{"ops":[],"zz":1,"aa":1} => {"code":"L5","field":"aa","line":1}
+{"zz":1,"Zz":1,"ops":[7]} => {"code":"L5","field":"Zz","line":1}
+{"ops":[7],"zz":null} => {"code":"L5","field":"zz","line":1}
+{"ops":[],"":1} => {"code":"L5","field":"","line":1}
+{"ops":[],"～":1,"𐀀":1} => {"code":"L5","field":"～","line":1}
+{"ops":[],"after":0} => {"code":"L5","field":"after","line":1}
+{"ops":[],"tries":1} => {"code":"L5","field":"tries","line":1}
+{"ops":[],"token":null} => {"code":"L5","field":"token","line":1}
+
+# keys are compared with their escapes read, and the last value of a key stays
+{"\u006fp\u0073":[]} => {"code":"B1","line":1}
+{"ops":7,"ops":[]} => {"code":"B1","line":1}
+{"ops":[],"ops":7} => {"code":"L5","field":"ops","line":1}
+{"ops":[],"a\"\\\/\b\f\n\r\t\u0001\u001F\u00e9\ud83d\ude00":1} => {"code":"L5","field":"a\"\\/\b\f\n\r\t\u0001\u001fé😀","line":1}
+{"ops":[{"op":"mint","op":"authorised","agent":"spiffe://ex.org/x","agent":"spiffe://ex.org/spire/agent/n1"}]} => {"call":1,"code":"O7","op":0,"place":0,"result":"refused"}
+
+# operations that are none, each in its turn
+{"ops":[7]} => {"code":"L5","field":"ops","line":1,"op":0}
+{"ops":[null]} => {"code":"L5","field":"ops","line":1,"op":0}
+{"ops":[[]]} => {"code":"L5","field":"ops","line":1,"op":0}
+{"ops":[{"op":"authorised","agent":"spiffe://ex.org/spire/agent/n1"},"x"]} => {"code":"L5","field":"ops","line":1,"op":1}
+{"ops":[{"op":"mint"},7]} => {"code":"L5","field":"op","line":1,"op":0}
+{"ops":[7,{"op":"mint"}]} => {"code":"L5","field":"ops","line":1,"op":0}
+{"ops":[{}]} => {"code":"L5","field":"op","line":1,"op":0}
+{"ops":[{"op":null}]} => {"code":"L5","field":"op","line":1,"op":0}
+{"ops":[{"op":7}]} => {"code":"L5","field":"op","line":1,"op":0}
+{"ops":[{"op":"mint"}]} => {"code":"L5","field":"op","line":1,"op":0}
+{"ops":[{"op":"Create"}]} => {"code":"L5","field":"op","line":1,"op":0}
+{"ops":[{"zz":1}]} => {"code":"L5","field":"op","line":1,"op":0}
+{"ops":[{"op":"authorised","agent":"spiffe://ex.org/spire/agent/n1"},{"op":"authorised","agent":"spiffe://ex.org/spire/agent/n1"},{"op":"page","size":1}]} => {"code":"L5","field":"op","line":1,"op":2}
+{"ops":[{"op":"update"}]} => {"code":"L5","field":"op","line":1,"op":0}
+
+# authorised
+{"ops":[{"op":"authorised"}]} => {"code":"L5","field":"agent","line":1,"op":0}
+{"ops":[{"op":"authorised","agent":null}]} => {"code":"L5","field":"agent","line":1,"op":0}
+{"ops":[{"op":"authorised","agent":7}]} => {"code":"L5","field":"agent","line":1,"op":0}
+{"ops":[{"op":"authorised","agent":["spiffe://ex.org/spire/agent/n1"]}]} => {"code":"L5","field":"agent","line":1,"op":0}
+{"ops":[{"op":"authorised","agent":"SPIFFE://ex.org/x"}]} => {"code":"I2","field":"agent","line":1,"op":0}
+{"ops":[{"op":"authorised","agent":""}]} => {"code":"I2","field":"agent","line":1,"op":0}
+{"ops":[{"op":"authorised","agent":"spiffe://ex.org/spire/agent/n1","selectors":[]}]} => {"code":"L5","field":"selectors","line":1,"op":0}
+{"ops":[{"op":"authorised","agent":"spiffe://ex.org/spire/agent/n1"},{"op":"authorised","zz":1}]} => {"code":"L5","field":"agent","line":1,"op":1}
+{"ops":[{"op":"authorised","agent":"spiffe://ex.org/a//b","zz":1}]} => {"code":"I6","field":"agent","line":1,"op":0}
+
+# set_agent
+{"ops":[{"op":"set_agent"}]} => {"code":"L5","field":"agent","line":1,"op":0}
+{"ops":[{"op":"set_agent","selectors":[]}]} => {"code":"L5","field":"agent","line":1,"op":0}
+{"ops":[{"op":"set_agent","agent":"spiffe://ex.org/spire/agent/n1"}]} => {"code":"L5","field":"selectors","line":1,"op":0}
+{"ops":[{"op":"set_agent","agent":"spiffe://ex.org/spire/agent/n1","selectors":null}]} => {"code":"L5","field":"selectors","line":1,"op":0}
+{"ops":[{"op":"set_agent","agent":"spiffe://ex.org/spire/agent/n1","selectors":"x:1"}]} => {"code":"L5","field":"selectors","line":1,"op":0}
+{"ops":[{"op":"set_agent","agent":"spiffe://ex.org/spire/agent/n1","selectors":{}}]} => {"code":"L5","field":"selectors","line":1,"op":0}
+{"ops":[{"op":"set_agent","agent":false,"selectors":[]}]} => {"code":"L5","field":"agent","line":1,"op":0}
+{"ops":[{"op":"set_agent","agent":"spiffe://a:80/x","selectors":[7]}]} => {"code":"I5","field":"agent","line":1,"op":0}
+{"ops":[{"op":"set_agent","agent":"spiffe://ex.org/spire/agent/n1","selectors":["unix",7]}]} => {"code":"S2","field":"selectors","line":1,"op":0}
+{"ops":[{"op":"set_agent","agent":"spiffe://ex.org/spire/agent/n1","selectors":[7,"unix"]}]} => {"code":"L5","field":"selectors","line":1,"op":0}
+{"ops":[{"op":"set_agent","agent":"spiffe://ex.org/spire/agent/n1","selectors":["a:b",null]}]} => {"code":"L5","field":"selectors","line":1,"op":0}
+{"ops":[{"op":"set_agent","agent":"spiffe://ex.org/spire/agent/n1","selectors":[":x"]}]} => {"code":"S3","field":"selectors","line":1,"op":0}
+{"ops":[{"op":"set_agent","agent":"spiffe://ex.org/spire/agent/n1","selectors":["x:"],"zz":1}]} => {"code":"S4","field":"selectors","line":1,"op":0}
+{"ops":[{"op":"authorised","agent":"spiffe://ex.org/spire/agent/n1"},{"op":"authorised","agent":"spiffe://ex.org/spire/agent/n1"},{"op":"set_agent","agent":"spiffe://ex.org/spire/agent/n1","selectors":["x:1"],"zz":1,"id":1}]} => {"code":"L5","field":"id","line":1,"op":2}
+
+# create: its keys in their order, each required
+{"ops":[{"op":"create"}]} => {"code":"L5","field":"id","line":1,"op":0}
+{"ops":[{"op":"create","parent":"spiffe://ex.org/spire/agent/n1","identity":"spiffe://ex.org/web","selectors":["unix:uid:1000"]}]} => {"code":"L5","field":"id","line":1,"op":0}
+{"ops":[{"op":"create","id":null,"parent":"spiffe://ex.org/spire/agent/n1","identity":"spiffe://ex.org/web","selectors":["unix:uid:1000"]}]} => {"code":"L5","field":"id","line":1,"op":0}
+{"ops":[{"op":"create","id":1,"parent":"spiffe://ex.org/spire/agent/n1","identity":"spiffe://ex.org/web","selectors":["unix:uid:1000"]}]} => {"code":"L5","field":"id","line":1,"op":0}
+{"ops":[{"op":"create","id":null,"parent":"x","identity":"spiffe://ex.org/web","selectors":["unix:uid:1000"]}]} => {"code":"L5","field":"id","line":1,"op":0}
+{"ops":[{"op":"create","id":"","parent":"spiffe://ex.org/spire/agent/n1","identity":"spiffe://ex.org/web","selectors":["unix:uid:1000"]}]} => {"code":"U1","field":"id","line":1,"op":0}
+{"ops":[{"op":"create","id":"1","parent":"spiffe://ex.org/spire/agent/n1","identity":"spiffe://ex.org/web","selectors":["unix:uid:1000"]}]} => {"code":"U1","field":"id","line":1,"op":0}
+{"ops":[{"op":"create","id":"00000000-0000-0000-0000-000000000001 ","parent":7,"identity":"spiffe://ex.org/web","selectors":["unix:uid:1000"]}]} => {"code":"U1","field":"id","line":1,"op":0}
+{"ops":[{"op":"create","id":"{00000000000000000000000000000001}","parent":"spiffe://ex.org/spire/agent/n1","identity":"spiffe://ex.org/web","selectors":["unix:uid:1000"]}]} => {"code":"U1","field":"id","line":1,"op":0}
+{"ops":[{"op":"create","id":"00000000-0000-0000-0000-000000000001","identity":"spiffe://ex.org/web","selectors":["unix:uid:1000"]}]} => {"code":"L5","field":"parent","line":1,"op":0}
+{"ops":[{"op":"create","id":"00000000-0000-0000-0000-000000000001","parent":null,"identity":"spiffe://ex.org/web","selectors":["unix:uid:1000"]}]} => {"code":"L5","field":"parent","line":1,"op":0}
+{"ops":[{"op":"create","id":"00000000-0000-0000-0000-000000000001","parent":[],"identity":7,"selectors":["unix:uid:1000"]}]} => {"code":"L5","field":"parent","line":1,"op":0}
+{"ops":[{"op":"create","id":"00000000-0000-0000-0000-000000000001","parent":"spiffe://ex.org/","identity":"spiffe://ex.org/web","selectors":["unix:uid:1000"]}]} => {"code":"I6","field":"parent","line":1,"op":0}
+{"ops":[{"op":"create","id":"00000000-0000-0000-0000-000000000001","parent":"spiffe://ex.org/spire/agent/n1","selectors":["unix:uid:1000"]}]} => {"code":"L5","field":"identity","line":1,"op":0}
+{"ops":[{"op":"create","id":"00000000-0000-0000-0000-000000000001","parent":"spiffe://ex.org/spire/agent/n1","identity":null,"selectors":["unix:uid:1000"]}]} => {"code":"L5","field":"identity","line":1,"op":0}
+{"ops":[{"op":"create","id":"00000000-0000-0000-0000-000000000001","parent":"spiffe://ex.org/spire/agent/n1","identity":true,"selectors":7}]} => {"code":"L5","field":"identity","line":1,"op":0}
+{"ops":[{"op":"create","id":"00000000-0000-0000-0000-000000000001","parent":"spiffe://ex.org/spire/agent/n1","identity":"spiffe://ex.org/..","selectors":["x"]}]} => {"code":"I7","field":"identity","line":1,"op":0}
+{"ops":[{"op":"create","id":"00000000-0000-0000-0000-000000000001","parent":"spiffe://ex.org/spire/agent/n1","identity":"spiffe://ex.org/web"}]} => {"code":"L5","field":"selectors","line":1,"op":0}
+{"ops":[{"op":"create","id":"00000000-0000-0000-0000-000000000001","parent":"spiffe://ex.org/spire/agent/n1","identity":"spiffe://ex.org/web","selectors":null}]} => {"code":"L5","field":"selectors","line":1,"op":0}
+{"ops":[{"op":"create","id":"00000000-0000-0000-0000-000000000001","parent":"spiffe://ex.org/spire/agent/n1","identity":"spiffe://ex.org/web","selectors":"x:1"}]} => {"code":"L5","field":"selectors","line":1,"op":0}
+{"ops":[{"op":"create","id":"00000000-0000-0000-0000-000000000001","parent":"spiffe://ex.org/spire/agent/n1","identity":"spiffe://ex.org/web","selectors":["x:1",[]],"zz":1}]} => {"code":"L5","field":"selectors","line":1,"op":0}
+{"ops":[{"op":"create","id":"00000000-0000-0000-0000-000000000001","parent":"spiffe://ex.org/spire/agent/n1","identity":"spiffe://ex.org/web","selectors":[""]}]} => {"code":"S2","field":"selectors","line":1,"op":0}
+{"ops":[{"op":"create","id":"00000000-0000-0000-0000-000000000001","parent":"spiffe://ex.org/spire/agent/n1","identity":"spiffe://ex.org/web","selectors":["unix:uid:1000"],"hint":""}]} => {"code":"L5","field":"hint","line":1,"op":0}
+{"ops":[{"op":"create","id":"00000000-0000-0000-0000-000000000001","parent":"spiffe://ex.org/spire/agent/n1","identity":"spiffe://ex.org/web","selectors":["unix:uid:1000"],"domains":[]}]} => {"code":"L5","field":"domains","line":1,"op":0}
+{"ops":[{"op":"create","id":"00000000-0000-0000-0000-000000000001","parent":"spiffe://ex.org/spire/agent/n1","identity":"spiffe://ex.org/web","selectors":["unix:uid:1000"],"expiry":0}]} => {"code":"L5","field":"expiry","line":1,"op":0}
+{"ops":[{"op":"create","id":"00000000-0000-0000-0000-000000000001","parent":"spiffe://ex.org/spire/agent/n1","identity":"spiffe://ex.org/web","selectors":["unix:uid:1000"],"agent":"spiffe://ex.org/spire/agent/n1","Agent":"spiffe://ex.org/spire/agent/n1"}]} => {"code":"L5","field":"Agent","line":1,"op":0}
+
+# what is no batch, after all operations were read
+{"ops":[]} => {"code":"B1","line":1}
+{"ops":[{"op":"authorised","agent":"spiffe://b.org/spire/agent/n1"}]} => {"code":"B3","line":1,"op":0}
+{"ops":[{"op":"authorised","agent":"spiffe://ex.org/spire/agent/n1"},{"op":"create","id":"00000000-0000-0000-0000-000000000001","parent":"spiffe://ex.org/spire/agent/n1","identity":"spiffe://b.org/web","selectors":["unix:uid:1000"]}]} => {"code":"B3","line":1,"op":1}
+{"ops":[{"op":"create","id":"00000000-0000-0000-0000-000000000001","parent":"spiffe://ex.org","identity":"spiffe://ex.org/web","selectors":["unix:uid:1000"]}]} => {"code":"B4","line":1,"op":0}
+{"ops":[{"op":"authorised","agent":"spiffe://ex.org/spire/agent/n1"},{"op":"authorised","agent":"spiffe://ex.org/spire/agent/n1"},{"op":"create","id":"00000000-0000-0000-0000-000000000001","parent":"spiffe://ex.org/spire/agent/n1","identity":"spiffe://ex.org/spire/server","selectors":["unix:uid:1000"]}]} => {"code":"B5","line":1,"op":2}
+{"ops":[{"op":"create","id":"00000000-0000-0000-0000-000000000001","parent":"spiffe://ex.org/spire/agent/n1","identity":"spiffe://ex.org/web","selectors":[]}]} => {"code":"B6","line":1,"op":0}
+{"ops":[{"op":"authorised","agent":"spiffe://ex.org/n1"}]} => {"code":"B10","line":1,"op":0}
+{"ops":[{"op":"authorised","agent":"spiffe://b.org/spire/agent/n1"},{"op":"mint"}]} => {"code":"L5","field":"op","line":1,"op":1}
+"#;
+
+#[test]
+fn lines_are_read_in_the_order_of_the_format(rt: HostRuntime) -> Result<(), Fail> {
+    answers(&rt, rt.alloc(), TABLE)
+}
