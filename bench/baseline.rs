@@ -1,0 +1,847 @@
+//! What an ordinary, unverified Rust program does with the same request lines: the measure that `bench/run` holds `regd`
+//! against. It has the same lists as the plain book (entries and agents as vectors of rows in order, linear scans, no
+//! index), reads any JSON text and writes the same bytes.
+//!
+//!     rustc -O bench/baseline.rs && ./baseline plain --domain ex.org < requests > replies
+
+use std::collections::BTreeMap;
+use std::io::{self, BufRead, BufReader, BufWriter, Write};
+use std::process::ExitCode;
+use std::rc::Rc;
+
+// ---- JSON
+
+enum Value {
+    Null,
+    Bool,
+    Number,
+    Text(String),
+    List(Vec<Value>),
+    Object(BTreeMap<String, Value>),
+}
+
+const MAX_DEPTH: usize = 127;
+
+struct Reader<'a> {
+    text: &'a str,
+    at: usize,
+}
+
+impl<'a> Reader<'a> {
+    fn value_of(text: &'a str) -> Option<Value> {
+        let mut reader = Reader { text, at: 0 };
+        let value = reader.value(MAX_DEPTH)?;
+        reader.skip_space();
+        (reader.at == text.len()).then_some(value)
+    }
+
+    fn peek(&self) -> Option<u8> {
+        self.text.as_bytes().get(self.at).copied()
+    }
+
+    fn next(&mut self) -> Option<u8> {
+        let byte = self.peek()?;
+        self.at += 1;
+        Some(byte)
+    }
+
+    fn skip_space(&mut self) {
+        while matches!(self.peek(), Some(b' ' | b'\t' | b'\n' | b'\r')) {
+            self.at += 1;
+        }
+    }
+
+    fn word(&mut self, word: &str, value: Value) -> Option<Value> {
+        self.text[self.at..].starts_with(word).then(|| {
+            self.at += word.len();
+            value
+        })
+    }
+
+    fn value(&mut self, depth: usize) -> Option<Value> {
+        self.skip_space();
+        match self.peek()? {
+            b'n' => self.word("null", Value::Null),
+            b't' => self.word("true", Value::Bool),
+            b'f' => self.word("false", Value::Bool),
+            b'"' => Some(Value::Text(self.string()?)),
+            b'[' => self.list(depth.checked_sub(1)?),
+            b'{' => self.object(depth.checked_sub(1)?),
+            _ => self.number(),
+        }
+    }
+
+    fn list(&mut self, depth: usize) -> Option<Value> {
+        self.at += 1;
+        let mut items = Vec::new();
+        self.skip_space();
+        if self.peek()? == b']' {
+            self.at += 1;
+            return Some(Value::List(items));
+        }
+        loop {
+            items.push(self.value(depth)?);
+            self.skip_space();
+            match self.next()? {
+                b',' => {}
+                b']' => return Some(Value::List(items)),
+                _ => return None,
+            }
+        }
+    }
+
+    fn object(&mut self, depth: usize) -> Option<Value> {
+        self.at += 1;
+        let mut members = BTreeMap::new();
+        self.skip_space();
+        if self.peek()? == b'}' {
+            self.at += 1;
+            return Some(Value::Object(members));
+        }
+        loop {
+            self.skip_space();
+            if self.peek()? != b'"' {
+                return None;
+            }
+            let key = self.string()?;
+            self.skip_space();
+            if self.next()? != b':' {
+                return None;
+            }
+            members.insert(key, self.value(depth)?);
+            self.skip_space();
+            match self.next()? {
+                b',' => {}
+                b'}' => return Some(Value::Object(members)),
+                _ => return None,
+            }
+        }
+    }
+
+    fn string(&mut self) -> Option<String> {
+        self.at += 1;
+        let mut text = String::new();
+        loop {
+            let start = self.at;
+            while !matches!(self.peek()?, b'"' | b'\\' | 0..=31) {
+                self.at += 1;
+            }
+            text.push_str(&self.text[start..self.at]);
+            match self.next()? {
+                b'"' => return Some(text),
+                b'\\' => text.push(self.escape()?),
+                _ => return None,
+            }
+        }
+    }
+
+    fn escape(&mut self) -> Option<char> {
+        Some(match self.next()? {
+            b'"' => '"',
+            b'\\' => '\\',
+            b'/' => '/',
+            b'b' => '\u{8}',
+            b'f' => '\u{c}',
+            b'n' => '\n',
+            b'r' => '\r',
+            b't' => '\t',
+            b'u' => {
+                let first = self.four_digits()?;
+                if !(0xd800..0xdc00).contains(&first) {
+                    return char::from_u32(first);
+                }
+                if self.next()? != b'\\' || self.next()? != b'u' {
+                    return None;
+                }
+                let second = self.four_digits()?;
+                if !(0xdc00..0xe000).contains(&second) {
+                    return None;
+                }
+                char::from_u32(0x10000 + ((first - 0xd800) << 10) + (second - 0xdc00))?
+            }
+            _ => return None,
+        })
+    }
+
+    fn four_digits(&mut self) -> Option<u32> {
+        let mut number = 0;
+        for _ in 0..4 {
+            number = number * 16 + char::from(self.next()?).to_digit(16)?;
+        }
+        Some(number)
+    }
+
+    fn digits(&mut self) -> Option<()> {
+        let start = self.at;
+        while matches!(self.peek(), Some(b'0'..=b'9')) {
+            self.at += 1;
+        }
+        (self.at > start).then_some(())
+    }
+
+    fn number(&mut self) -> Option<Value> {
+        let start = self.at;
+        if self.peek()? == b'-' {
+            self.at += 1;
+        }
+        if self.peek()? == b'0' {
+            self.at += 1;
+        } else {
+            self.digits()?;
+        }
+        if self.peek() == Some(b'.') {
+            self.at += 1;
+            self.digits()?;
+        }
+        if let Some(b'e' | b'E') = self.peek() {
+            self.at += 1;
+            if let Some(b'+' | b'-') = self.peek() {
+                self.at += 1;
+            }
+            self.digits()?;
+        }
+        let number: f64 = self.text[start..self.at].parse().ok()?;
+        number.is_finite().then_some(Value::Number)
+    }
+}
+
+fn write_text(out: &mut impl Write, text: &str) -> io::Result<()> {
+    out.write_all(b"\"")?;
+    let bytes = text.as_bytes();
+    let mut start = 0;
+    for (at, byte) in bytes.iter().enumerate() {
+        if *byte >= 32 && *byte != b'"' && *byte != b'\\' {
+            continue;
+        }
+        out.write_all(&bytes[start..at])?;
+        start = at + 1;
+        match byte {
+            b'"' => out.write_all(b"\\\"")?,
+            b'\\' => out.write_all(b"\\\\")?,
+            8 => out.write_all(b"\\b")?,
+            9 => out.write_all(b"\\t")?,
+            10 => out.write_all(b"\\n")?,
+            12 => out.write_all(b"\\f")?,
+            13 => out.write_all(b"\\r")?,
+            _ => write!(out, "\\u{byte:04x}")?,
+        }
+    }
+    out.write_all(&bytes[start..])?;
+    out.write_all(b"\"")
+}
+
+// ---- names
+
+fn domain_fault(domain: &str) -> Option<&'static str> {
+    if domain.is_empty() {
+        Some("I3")
+    } else if domain.len() > 255 {
+        Some("I4")
+    } else if !domain
+        .bytes()
+        .all(|b| matches!(b, b'a'..=b'z' | b'0'..=b'9' | b'.' | b'-' | b'_'))
+    {
+        Some("I5")
+    } else {
+        None
+    }
+}
+
+fn segment_fault(segment: &str) -> Option<&'static str> {
+    if segment.is_empty() {
+        Some("I6")
+    } else if segment == "." || segment == ".." {
+        Some("I7")
+    } else if !segment
+        .bytes()
+        .all(|b| b.is_ascii_alphanumeric() || matches!(b, b'.' | b'-' | b'_'))
+    {
+        Some("I8")
+    } else {
+        None
+    }
+}
+
+fn id_fault(text: &str) -> Option<&'static str> {
+    if text.len() > 2048 {
+        return Some("I1");
+    }
+    let Some(rest) = text.strip_prefix("spiffe://") else {
+        return Some("I2");
+    };
+    let mut parts = rest.split('/');
+    let domain = parts.next().unwrap_or("");
+    domain_fault(domain).or_else(|| parts.find_map(segment_fault))
+}
+
+#[derive(Clone, PartialEq, Eq, PartialOrd, Ord)]
+struct Id {
+    text: String,
+    path_at: usize,
+}
+
+impl Id {
+    fn parse(text: &str) -> Result<Id, &'static str> {
+        if let Some(code) = id_fault(text) {
+            return Err(code);
+        }
+        let path_at = text[9..].find('/').map_or(text.len(), |at| at + 9);
+        Ok(Id {
+            text: text.to_owned(),
+            path_at,
+        })
+    }
+
+    fn domain(&self) -> &str {
+        &self.text[9..self.path_at]
+    }
+
+    fn path(&self) -> &str {
+        &self.text[self.path_at..]
+    }
+}
+
+#[derive(Clone, PartialEq, Eq)]
+struct Selector {
+    text: String,
+    colon: usize,
+}
+
+impl Selector {
+    fn parse(text: &str) -> Result<Selector, &'static str> {
+        if text.len() > 512 {
+            return Err("S1");
+        }
+        let colon = text.find(':').ok_or("S2")?;
+        if colon == 0 {
+            return Err("S3");
+        }
+        if colon + 1 == text.len() {
+            return Err("S4");
+        }
+        Ok(Selector {
+            text: text.to_owned(),
+            colon,
+        })
+    }
+
+    fn key(&self) -> (&str, &str) {
+        (&self.text[..self.colon], &self.text[self.colon + 1..])
+    }
+}
+
+fn set_of(mut selectors: Vec<Selector>) -> Vec<Selector> {
+    selectors.sort_by(|a, b| a.key().cmp(&b.key()));
+    selectors.dedup();
+    selectors
+}
+
+fn uuid_of(text: &str) -> Option<u128> {
+    let hyphenated = |text: &str| {
+        let bytes = text.as_bytes();
+        let marks = bytes.len() == 36 && [8, 13, 18, 23].iter().all(|at| bytes[*at] == b'-');
+        marks.then(|| text.replacen('-', "", 4))
+    };
+    let digits = match text.len() {
+        32 => Some(text.to_owned()),
+        36 => hyphenated(text),
+        38 => text
+            .strip_prefix('{')
+            .and_then(|t| t.strip_suffix('}'))
+            .and_then(hyphenated),
+        45 => {
+            let (scheme, rest) = text.split_at_checked(9)?;
+            scheme
+                .eq_ignore_ascii_case("urn:uuid:")
+                .then(|| hyphenated(rest))?
+        }
+        _ => None,
+    }?;
+    digits
+        .bytes()
+        .all(|b| b.is_ascii_hexdigit())
+        .then(|| u128::from_str_radix(&digits, 16).ok())?
+}
+
+// ---- requests
+
+enum Op {
+    SetAgent {
+        agent: Id,
+        selectors: Vec<Selector>,
+    },
+    Create {
+        id: u128,
+        parent: Id,
+        identity: Id,
+        selectors: Vec<Selector>,
+    },
+    Authorised {
+        agent: Id,
+    },
+}
+
+struct Refusal {
+    code: &'static str,
+    field: Option<String>,
+    op: Option<usize>,
+}
+
+fn field_refusal(code: &'static str, field: &str) -> Refusal {
+    Refusal {
+        code,
+        field: Some(field.to_owned()),
+        op: None,
+    }
+}
+
+type Members = BTreeMap<String, Value>;
+
+fn text_of<'a>(members: &'a Members, key: &str) -> Result<&'a str, Refusal> {
+    match members.get(key) {
+        Some(Value::Text(text)) => Ok(text),
+        _ => Err(field_refusal("L5", key)),
+    }
+}
+
+fn id_of(members: &Members, key: &str) -> Result<Id, Refusal> {
+    Id::parse(text_of(members, key)?).map_err(|code| field_refusal(code, key))
+}
+
+fn selectors_of(members: &Members) -> Result<Vec<Selector>, Refusal> {
+    let Some(Value::List(items)) = members.get("selectors") else {
+        return Err(field_refusal("L5", "selectors"));
+    };
+    let selectors: Result<Vec<Selector>, &'static str> = items
+        .iter()
+        .map(|item| match item {
+            Value::Text(text) => Selector::parse(text),
+            _ => Err("L5"),
+        })
+        .collect();
+    selectors
+        .map(set_of)
+        .map_err(|code| field_refusal(code, "selectors"))
+}
+
+fn no_others(members: &Members, keys: &[&str]) -> Result<(), Refusal> {
+    match members.keys().find(|key| !keys.contains(&key.as_str())) {
+        Some(key) => Err(field_refusal("L5", key)),
+        None => Ok(()),
+    }
+}
+
+fn op_of(value: &Value) -> Result<Op, Refusal> {
+    let Value::Object(members) = value else {
+        return Err(field_refusal("L5", "ops"));
+    };
+    match text_of(members, "op")? {
+        "set_agent" => {
+            let agent = id_of(members, "agent")?;
+            let selectors = selectors_of(members)?;
+            no_others(members, &["op", "agent", "selectors"])?;
+            Ok(Op::SetAgent { agent, selectors })
+        }
+        "create" => {
+            let id = uuid_of(text_of(members, "id")?).ok_or_else(|| field_refusal("U1", "id"))?;
+            let parent = id_of(members, "parent")?;
+            let identity = id_of(members, "identity")?;
+            let selectors = selectors_of(members)?;
+            no_others(members, &["op", "id", "parent", "identity", "selectors"])?;
+            Ok(Op::Create {
+                id,
+                parent,
+                identity,
+                selectors,
+            })
+        }
+        "authorised" => {
+            let agent = id_of(members, "agent")?;
+            no_others(members, &["op", "agent"])?;
+            Ok(Op::Authorised { agent })
+        }
+        _ => Err(field_refusal("L5", "op")),
+    }
+}
+
+fn op_fault(domain: &str, op: &Op) -> Option<&'static str> {
+    let agent_fault = |agent: &Id, count: usize| {
+        if agent.domain() != domain {
+            Some("B3")
+        } else if count > 64 {
+            Some("B6")
+        } else if !agent.path().starts_with("/spire/agent/") {
+            Some("B10")
+        } else {
+            None
+        }
+    };
+    match op {
+        Op::SetAgent { agent, selectors } => agent_fault(agent, selectors.len()),
+        Op::Authorised { agent } => agent_fault(agent, 0),
+        Op::Create {
+            parent,
+            identity,
+            selectors,
+            ..
+        } => {
+            if parent.domain() != domain || identity.domain() != domain {
+                Some("B3")
+            } else if parent.path().is_empty() || identity.path().is_empty() {
+                Some("B4")
+            } else if identity.path() == "/spire/server" {
+                Some("B5")
+            } else if selectors.is_empty() || selectors.len() > 16 {
+                Some("B6")
+            } else {
+                None
+            }
+        }
+    }
+}
+
+const MAX_LINE: usize = 1_048_576;
+
+fn refused(code: &'static str) -> Refusal {
+    Refusal {
+        code,
+        field: None,
+        op: None,
+    }
+}
+
+fn request_of(domain: &str, line: &[u8]) -> Result<Vec<Op>, Refusal> {
+    let body = line.strip_suffix(b"\n");
+    if body.unwrap_or(line).len() > MAX_LINE {
+        return Err(refused("L1"));
+    }
+    let body = body.ok_or_else(|| refused("L3"))?;
+    let value = std::str::from_utf8(body)
+        .ok()
+        .and_then(Reader::value_of)
+        .ok_or_else(|| refused("L2"))?;
+    let Value::Object(members) = &value else {
+        return Err(refused("L4"));
+    };
+    let Some(Value::List(items)) = members.get("ops") else {
+        return Err(field_refusal("L5", "ops"));
+    };
+    no_others(members, &["ops"])?;
+    let mut ops = Vec::with_capacity(items.len());
+    for (index, item) in items.iter().enumerate() {
+        ops.push(op_of(item).map_err(|refusal| Refusal {
+            op: Some(index),
+            ..refusal
+        })?);
+    }
+    if ops.is_empty() {
+        return Err(refused("B1"));
+    }
+    if ops.len() > 64 {
+        return Err(refused("B2"));
+    }
+    for (index, op) in ops.iter().enumerate() {
+        if let Some(code) = op_fault(domain, op) {
+            return Err(Refusal {
+                code,
+                field: None,
+                op: Some(index),
+            });
+        }
+    }
+    Ok(ops)
+}
+
+// ---- the book
+
+struct Entry {
+    id: u128,
+    parent: Id,
+    identity: Id,
+    selectors: Vec<Selector>,
+}
+
+struct Agent {
+    id: Id,
+    selectors: Vec<Selector>,
+}
+
+#[derive(Clone, Default)]
+struct Book {
+    entries: Vec<Rc<Entry>>,
+    agents: Vec<Rc<Agent>>,
+}
+
+enum Reply {
+    Agent(Rc<Agent>),
+    Entry(Rc<Entry>),
+    Entries(Vec<Rc<Entry>>),
+}
+
+enum Answer {
+    Refused {
+        code: &'static str,
+        op: usize,
+        detail: Option<u128>,
+    },
+    Replies(Vec<Reply>),
+}
+
+impl Book {
+    fn set_agent(&mut self, agent: Agent) -> Reply {
+        let agent = Rc::new(agent);
+        match self.agents.iter().position(|other| other.id >= agent.id) {
+            Some(at) if self.agents[at].id == agent.id => self.agents[at] = agent.clone(),
+            Some(at) => self.agents.insert(at, agent.clone()),
+            None => self.agents.push(agent.clone()),
+        }
+        Reply::Agent(agent)
+    }
+
+    fn create(&mut self, entry: Entry) -> Result<Reply, (&'static str, Option<u128>)> {
+        if self.entries.iter().any(|other| other.id == entry.id) {
+            return Err(("O1", None));
+        }
+        let similar = self.entries.iter().find(|other| {
+            other.parent == entry.parent
+                && other.identity == entry.identity
+                && other.selectors == entry.selectors
+        });
+        if let Some(other) = similar {
+            return Err(("O2", Some(other.id)));
+        }
+        let at = self
+            .entries
+            .iter()
+            .position(|other| other.id > entry.id)
+            .unwrap_or(self.entries.len());
+        let entry = Rc::new(entry);
+        self.entries.insert(at, entry.clone());
+        Ok(Reply::Entry(entry))
+    }
+
+    fn authorised(&self, agent: &Id) -> Result<Reply, (&'static str, Option<u128>)> {
+        if !self.agents.iter().any(|other| other.id == *agent) {
+            return Err(("O7", None));
+        }
+        let entries = self
+            .entries
+            .iter()
+            .filter(|entry| entry.parent == *agent)
+            .cloned()
+            .collect();
+        Ok(Reply::Entries(entries))
+    }
+
+    fn run(&mut self, ops: Vec<Op>) -> Answer {
+        let mut replies = Vec::with_capacity(ops.len());
+        for (index, op) in ops.into_iter().enumerate() {
+            let reply = match op {
+                Op::SetAgent { agent, selectors } => Ok(self.set_agent(Agent {
+                    id: agent,
+                    selectors,
+                })),
+                Op::Create {
+                    id,
+                    parent,
+                    identity,
+                    selectors,
+                } => self.create(Entry {
+                    id,
+                    parent,
+                    identity,
+                    selectors,
+                }),
+                Op::Authorised { agent } => self.authorised(&agent),
+            };
+            match reply {
+                Ok(reply) => replies.push(reply),
+                Err((code, detail)) => {
+                    return Answer::Refused {
+                        code,
+                        op: index,
+                        detail,
+                    }
+                }
+            }
+        }
+        Answer::Replies(replies)
+    }
+}
+
+// ---- replies
+
+fn write_list<T, W: Write>(
+    out: &mut W,
+    items: &[T],
+    write_item: impl Fn(&mut W, &T) -> io::Result<()>,
+) -> io::Result<()> {
+    out.write_all(b"[")?;
+    for (index, item) in items.iter().enumerate() {
+        if index > 0 {
+            out.write_all(b",")?;
+        }
+        write_item(out, item)?;
+    }
+    out.write_all(b"]")
+}
+
+fn write_selectors<W: Write>(out: &mut W, selectors: &[Selector]) -> io::Result<()> {
+    write_list(out, selectors, |out, selector| {
+        write_text(out, &selector.text)
+    })
+}
+
+fn write_uuid(out: &mut impl Write, id: u128) -> io::Result<()> {
+    let [a, b, c, d] = [
+        id >> 96,
+        id >> 80 & 0xffff,
+        id >> 64 & 0xffff,
+        id >> 48 & 0xffff,
+    ];
+    let e = id & 0xffff_ffff_ffff;
+    write!(out, "\"{a:08x}-{b:04x}-{c:04x}-{d:04x}-{e:012x}\"")
+}
+
+fn write_entry<W: Write>(out: &mut W, entry: &Entry) -> io::Result<()> {
+    out.write_all(b"{\"domains\":[],\"expiry\":0,\"hint\":\"\",\"id\":")?;
+    write_uuid(out, entry.id)?;
+    out.write_all(b",\"identity\":")?;
+    write_text(out, &entry.identity.text)?;
+    out.write_all(b",\"parent\":")?;
+    write_text(out, &entry.parent.text)?;
+    out.write_all(b",\"revision\":0,\"selectors\":")?;
+    write_selectors(out, &entry.selectors)?;
+    out.write_all(b"}")
+}
+
+fn write_reply<W: Write>(out: &mut W, reply: &Reply) -> io::Result<()> {
+    match reply {
+        Reply::Agent(agent) => {
+            out.write_all(b"{\"agent\":{\"id\":")?;
+            write_text(out, &agent.id.text)?;
+            out.write_all(b",\"selectors\":")?;
+            write_selectors(out, &agent.selectors)?;
+            out.write_all(b"}}")
+        }
+        Reply::Entry(entry) => {
+            out.write_all(b"{\"entry\":")?;
+            write_entry(out, entry)?;
+            out.write_all(b"}")
+        }
+        Reply::Entries(entries) => {
+            out.write_all(b"{\"entries\":")?;
+            write_list(out, entries, |out, entry| write_entry(out, entry))?;
+            out.write_all(b"}")
+        }
+    }
+}
+
+fn write_refusal(out: &mut impl Write, refusal: &Refusal, line: u64) -> io::Result<()> {
+    write!(out, "{{\"code\":\"{}\"", refusal.code)?;
+    if let Some(field) = &refusal.field {
+        out.write_all(b",\"field\":")?;
+        write_text(out, field)?;
+    }
+    write!(out, ",\"line\":{line}")?;
+    if let Some(op) = refusal.op {
+        write!(out, ",\"op\":{op}")?;
+    }
+    out.write_all(b"}\n")
+}
+
+struct Program {
+    domain: String,
+    book: Book,
+    place: u64,
+    calls: u64,
+}
+
+impl Program {
+    fn answer(&mut self, out: &mut impl Write, ops: Vec<Op>) -> io::Result<()> {
+        self.calls += 1;
+        let is_query = ops.iter().all(|op| matches!(op, Op::Authorised { .. }));
+        // a batch is all or nothing
+        let (answer, changed) = if is_query {
+            (self.book.run(ops), None)
+        } else {
+            let mut book = self.book.clone();
+            (book.run(ops), Some(book))
+        };
+        let calls = self.calls;
+        match answer {
+            Answer::Refused { code, op, detail } => {
+                write!(out, "{{\"call\":{calls},\"code\":\"{code}\"")?;
+                if let Some(id) = detail {
+                    out.write_all(b",\"detail\":")?;
+                    write_uuid(out, id)?;
+                }
+                writeln!(
+                    out,
+                    ",\"op\":{op},\"place\":{},\"result\":\"refused\"}}",
+                    self.place
+                )
+            }
+            Answer::Replies(replies) => {
+                if let Some(book) = changed {
+                    self.book = book;
+                    self.place += 1;
+                }
+                write!(
+                    out,
+                    "{{\"call\":{calls},\"place\":{},\"replies\":",
+                    self.place
+                )?;
+                write_list(out, &replies, write_reply)?;
+                let result = if is_query { "answered" } else { "committed" };
+                writeln!(out, ",\"result\":\"{result}\"}}")
+            }
+        }
+    }
+
+    fn run(&mut self) -> io::Result<()> {
+        let mut input = BufReader::with_capacity(1 << 16, io::stdin().lock());
+        let mut out = BufWriter::with_capacity(1 << 16, io::stdout().lock());
+        let mut line = Vec::new();
+        for number in 1.. {
+            if input.buffer().is_empty() {
+                out.flush()?;
+            }
+            line.clear();
+            if input.read_until(b'\n', &mut line)? == 0 {
+                break;
+            }
+            match request_of(&self.domain, &line) {
+                Ok(ops) => self.answer(&mut out, ops)?,
+                Err(refusal) => write_refusal(&mut out, &refusal, number)?,
+            }
+        }
+        out.flush()
+    }
+}
+
+fn main() -> ExitCode {
+    let words: Vec<String> = std::env::args().skip(1).collect();
+    let [program, option, domain] = words.as_slice() else {
+        eprintln!("usage: baseline plain --domain D");
+        return ExitCode::from(2);
+    };
+    if program != "plain" || option != "--domain" {
+        eprintln!("usage: baseline plain --domain D");
+        return ExitCode::from(2);
+    }
+    if let Some(code) = domain_fault(domain) {
+        eprintln!("regd: domain {code}");
+        return ExitCode::from(2);
+    }
+    let mut program = Program {
+        domain: domain.clone(),
+        book: Book::default(),
+        place: 0,
+        calls: 0,
+    };
+    match program.run() {
+        Ok(()) => ExitCode::SUCCESS,
+        Err(_) => ExitCode::FAILURE,
+    }
+}

@@ -1,0 +1,14 @@
+use Rattle.regd.proofs.Lines.{domain_apart, help_is_refused, joined_domain, nothing_is_refused}
+use Rattle.regd.proofs.laws.a_line_gives_its_domain.Goals as goal
+
+pub returns-clause-joined : goal.returns-clause-joined
+returns-clause-joined c = joined_domain
+
+pub returns-clause-apart : goal.returns-clause-apart
+returns-clause-apart c = domain_apart
+
+pub returns-clause-help : goal.returns-clause-help
+returns-clause-help c = help_is_refused
+
+pub returns-clause-nothing : goal.returns-clause-nothing
+returns-clause-nothing c = nothing_is_refused

@@ -1,0 +1,26 @@
+use Rattle.std.proofs.Common.{refl, ◌∙◌}
+use Rattle.clap.proofs.TakesLemmas.{passed_up}
+use Rattle.clap.specs.Walk.{texts}
+use Rattle.regd.specs.CommandLine.{domain_word}
+use Rattle.regd.proofs.Words.{IsFaultOf-parse, IsFaultOf-domain, domain_word-given, domain_word-parse, line_faults-parse, unwrap_or-text}
+use Rattle.regd.proofs.settings.Settings.from_words.Goals as goal
+
+pub returns-in_err-matches-clause-fault : goal.returns-in_err-matches-clause-fault
+returns-in_err-matches-clause-fault c = passed_up c.from_residual-in_err-matches.result _ _ c.from_residual-in_err-matches.ensures.1
+    (IsFaultOf-parse _ _ _ c.in_ok-regd_command.ensures c.in_err-matches.ensures.kinds)
+
+pub returns-in_err-domain-clause-fault : goal.returns-in_err-domain-clause-fault
+returns-in_err-domain-clause-fault c =
+    let given = c.option_word.ensures ∙ domain_word-parse _ _ _ c.in_ok-regd_command.ensures c.in_ok-matches.ensures.matches in
+    let text = unwrap_or-text c.option_word.result _ _ _ c.unwrap_or-word.ensures refl given in
+    passed_up c.from_residual-in_err-domain.result _ _ c.from_residual-in_err-domain.ensures.1
+    (IsFaultOf-domain (texts c.args.words.now) _ _ (line_faults-parse _ _ c.in_ok-regd_command.ensures c.in_ok-matches.ensures.kinds) text c.in_err-domain.ensures.table)
+
+pub returns-clause-taken : goal.returns-clause-taken
+returns-clause-taken c = line_faults-parse _ _ c.in_ok-regd_command.ensures c.in_ok-matches.ensures.kinds
+
+pub returns-clause-domain : goal.returns-clause-domain
+returns-clause-domain c =
+    let given = c.option_word.ensures ∙ domain_word-parse _ _ _ c.in_ok-regd_command.ensures c.in_ok-matches.ensures.matches in
+    let text = unwrap_or-text c.option_word.result _ _ _ c.unwrap_or-word.ensures refl given in
+    domain_word-given (domain_word (texts c.args.words.now)) _ (c.in_ok-domain.ensures.table.0 ∙ text) (rw (c.in_ok-domain.ensures.table.0) c.in_ok-domain.ensures.table.1)

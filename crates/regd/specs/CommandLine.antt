@@ -1,0 +1,55 @@
+-- Which words are a command line of `regd`, by the command-line parser's own account of its words.
+use Rattle.std.specs.Prelude.{codes, if◌then◌else◌, option_and_then, true, unwrap_or, ◌≡◌, List, None, Option, Some, [], ⊤}
+use Rattle.std.specs.Str.{bytes_eq}
+use Rattle.clap.specs.Words.{App, IsAmong, Kinds, Row, Rule, Text, fault_of, first_of, kind_of, new_app, new_rule, subcommand_of, with_rule, with_subcommand}
+use Rattle.clap.specs.Simple.{on_top}
+use Rattle.spiffe_name.specs.Domain.{domain_refusal}
+use Rattle.regd.specs.declared.faults.LineFault.{LineFault}
+use Rattle.regd.specs.declared.faults.LineFault.TheVariants.{Refused, Domain, NotText, NoMemory}
+
+-- ---- the program, as it is told to the parser
+
+-- `--domain D`, which is required
+abbrev pub domain_option : Rule
+domain_option = record (new_rule (codes "domain")) {
+  long = Some (codes "domain");
+  value_names = 1;
+  required = true;
+}
+
+-- `plain --domain D`
+abbrev pub plain_command : App
+plain_command = with_rule (new_app (codes "plain")) domain_option
+
+-- `regd`, which wants the word of one of its programs
+abbrev pub regd_alone : App
+regd_alone = on_top (λ s. record s { subcommand_required = true; disable_help_subcommand = true })
+    (new_app (codes "regd"))
+
+abbrev pub regd_command : App
+regd_command = with_subcommand regd_alone plain_command.top
+
+-- ---- what the words say; the program's own name is the first of them
+
+-- what the parser holds against the words: nothing where it takes them, and else the kinds that its refusal may have
+abbrev pub line_faults : List Text → Kinds
+line_faults words = fault_of regd_command words
+
+-- the text under `id` among the options of the program `name`, where that is the program that was met
+abbrev pub option_in : Text → Text → Option (Text × List Row) → Option Text
+option_in name id = option_and_then (λ program. if bytes_eq program.0 name then first_of id program.1 else None)
+
+-- the text that the words give to `--domain`
+abbrev pub domain_word : List Text → Option Text
+domain_word words = option_in (codes "plain") (codes "domain") (subcommand_of regd_command words)
+
+-- ---- the faults of a command line
+
+-- the words have this fault: the parser refuses them; or it takes them, and the domain that they give (the empty text,
+-- where they give none) is no trust domain
+abbrev pub IsFaultOf : List Text → LineFault → Type 0
+IsFaultOf words (Refused error) = IsAmong (kind_of error) (line_faults words)
+IsFaultOf words (Domain refusal) =
+    (line_faults words ≡ []) × (domain_refusal (unwrap_or (domain_word words) []) ≡ Some refusal)
+IsFaultOf words NotText = ⊥
+IsFaultOf words NoMemory = ⊤

@@ -1,0 +1,29 @@
+-- Command lines that are written out: what the definitions say of them.
+use Rattle.std.specs.Prelude.{codes, ◌≡◌, ◌≢◌, ◌++◌, ℕ, [], ◌∷◌, List, Some}
+use Rattle.clap.specs.Words.{Text}
+use Rattle.clap.specs.declared.error.ErrorKind.TheVariants.{DisplayHelp, MissingSubcommand}
+use Rattle.regd.specs.CommandLine.{domain_word, line_faults}
+
+-- the parser takes the words, and they give this domain
+pub record Gives (words : List Text) (domain : Text) : Type 0 where
+  pub taken : line_faults words ≡ []
+  pub given : domain_word words ≡ Some domain
+
+-- `regd plain --domain=D` gives D
+abbrev pub JoinedDomain : Type 0
+JoinedDomain = (name domain : Text)
+    → Gives (name ∷ codes "plain" ∷ (codes "--domain=" ++ domain) ∷ []) domain
+
+-- `regd plain --domain D` gives D, where D begins with no hyphen (45)
+abbrev pub DomainApart : Type 0
+DomainApart = (name rest : Text) (first : ℕ) → first ≢ 45
+    → Gives (name ∷ codes "plain" ∷ codes "--domain" ∷ (first ∷ rest) ∷ []) (first ∷ rest)
+
+-- `regd --help` and `regd plain --help` are refused, with the help as the refusal's text
+abbrev pub HelpIsRefused : Type 0
+HelpIsRefused = (name : Text) → (line_faults (name ∷ codes "--help" ∷ []) ≡ DisplayHelp ∷ [])
+    × (line_faults (name ∷ codes "plain" ∷ codes "--help" ∷ []) ≡ DisplayHelp ∷ [])
+
+-- `regd` alone is refused
+abbrev pub NothingIsRefused : Type 0
+NothingIsRefused = (name : Text) → line_faults (name ∷ []) ≡ MissingSubcommand ∷ []

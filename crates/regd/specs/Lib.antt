@@ -1,0 +1,6 @@
+pub mod Answers
+pub mod Asked
+pub mod CommandLine
+pub mod Conversions
+pub mod Laws
+pub mod Statuses

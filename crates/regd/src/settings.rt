@@ -1,0 +1,99 @@
+//! What does a command line ask for?
+
+use crate::faults::LineFault;
+use clap::{Arg, ArgMatches, Command};
+use spiffe_name::TrustDomain;
+use std::alloc::{AllocError, Global};
+use std::marker::Model;
+
+/// What a program was asked to do: `regd plain --domain D`.
+#[derive(Debug, Drop)]
+pub struct Settings {
+    domain: TrustDomain,
+}
+
+impl Model for Settings {
+    ghost use Rattle.regd.specs.Asked.{Asked};
+
+    ghost Value = { Asked };
+
+    ghost view = { λ settings. record { domain = settings.domain } };
+}
+
+impl Settings {
+    ghost use Rattle.std.specs.Prelude.{◌≡◌, IfErr, IfOk, []};
+    ghost use Rattle.clap.specs.Walk.{texts};
+    ghost use Rattle.regd.specs.CommandLine.{IsFaultOf, domain_word, line_faults};
+
+    /// Reads a command line, the program's own name first: all words by the command-line parser, and then the domain.
+    /// The error is the first fault, or want of memory; a request for help is a refusal, too, with the help as its text.
+    pub fn from_words(alloc: Global, words: &[&str]) -> Result<Settings, LineFault>
+        ensures taken { IfOk result (λ _. line_faults (texts words.now) ≡ []) }
+        ensures domain { IfOk result (λ settings. domain_word (texts words.now) ≡ Some settings.domain) }
+        ensures fault { IfErr result (IsFaultOf (texts words.now)) }
+    {
+        let matches = regd_command(alloc)?.try_get_matches_from(words)?;
+        let word = option_word(&matches, "plain", "domain").unwrap_or("");
+        let domain = TrustDomain::parse(alloc, word)?;
+        Ok(Settings { domain })
+    }
+
+    /// The server's own trust domain.
+    pub fn domain(&self) -> &TrustDomain
+        ensures { result.now ≡ self.now.domain }
+    {
+        &self.domain
+    }
+
+    /// The server's own trust domain, taken out.
+    pub fn into_domain(self) -> TrustDomain
+        ensures { result ≡ self.domain }
+    {
+        self.domain
+    }
+}
+
+ghost use Rattle.std.specs.Prelude.{◌≡◌, IfOk, false, option_map};
+ghost use Rattle.clap.specs.Words.{app_of, rule_of, subcommand_rows_of};
+ghost use Rattle.clap.specs.declared.Command.TheViews.{out-Command};
+ghost use Rattle.regd.specs.CommandLine.{domain_option, option_in, plain_command, regd_command};
+
+fn domain_option<'a>(alloc: Global) -> Arg<'a>
+    ensures rule { rule_of result ≡ domain_option }
+    ensures local { result.global ≡ false }
+{
+    Arg::new(alloc, "domain")
+        .long("domain")
+        .value_name("D")
+        .required(true)
+        .help("The server's own trust domain, such as ex.org")
+}
+
+fn plain_command<'a>(alloc: Global) -> Result<Command<'a>, AllocError>
+    ensures app { IfOk result (λ command. app_of command ≡ plain_command) }
+    ensures local { IfOk result (λ command. (out-Command command).has_globals ≡ false) }
+{
+    Command::new(alloc, "plain")
+        .about(
+            "Answers request lines on a plain book, one thread: standard input to standard output",
+        )
+        .arg(domain_option(alloc))
+}
+
+/// The program as the command-line parser is told of it.
+fn regd_command<'a>(alloc: Global) -> Result<Command<'a>, AllocError>
+    ensures { IfOk result (λ command. app_of command ≡ regd_command) }
+{
+    Command::new(alloc, "regd")
+        .about("A workload registration server")
+        .subcommand_required(true)
+        .disable_help_subcommand(true)
+        .subcommand(plain_command(alloc)?)
+}
+
+/// The text that the words give to the option `id` of `program`, where that is the program that they name.
+fn option_word<'a>(matches: &ArgMatches<'a>, program: &str, id: &str) -> Option<&'a str>
+    ensures { option_map (λ word. word.now) result ≡ option_in program.now id.now (subcommand_rows_of matches.now) }
+{
+    matches.subcommand_matches(program)?.get_str(id)
+}

@@ -1,0 +1,125 @@
+//! Command lines and what is told of them, word for word.
+
+mod devices;
+mod runs;
+
+use crate::{Ended, Fault, LineFault, Settings, a_line_gives_its_domain, status};
+use spiffe_name::IdRefusal;
+use std::alloc::Global;
+use std::test::Fail;
+
+/// The status and the text of a command line; of settings 0, and their domain.
+fn told(alloc: Global, words: &[&str]) -> Result<(u8, String), Fail> {
+    match Settings::from_words(alloc, words) {
+        Ok(settings) => Ok((0, settings.domain().to_string(alloc)?)),
+        Err(LineFault::NoMemory) => Err(Fail::from("no memory")),
+        Err(fault) => {
+            let text = fault.to_string(alloc)?;
+            Ok((status(&Ended::Line(fault)), text))
+        }
+    }
+}
+
+#[test]
+fn settings_have_the_domain_that_was_given(rt: HostRuntime) -> Result<(), Fail> {
+    a_line_gives_its_domain();
+    let lines: [&[&str]; 3] = [
+        &["regd", "plain", "--domain", "ex.org"],
+        &["./out/regd", "plain", "--domain=ex.org"],
+        &["", "plain", "--domain", "ex.org", "--"],
+    ];
+    for words in lines {
+        let (status, text) = told(rt.alloc(), words)?;
+        assert_eq!(rt; status, 0);
+        assert_eq!(rt; text.as_str(), "ex.org");
+    }
+    Ok(())
+}
+
+#[test]
+fn a_domain_that_is_none_is_refused_with_its_code(rt: HostRuntime) -> Result<(), Fail> {
+    let lines: [(&[&str], &str); 3] = [
+        (&["regd", "plain", "--domain", "Ex.org"], "regd: domain I5"),
+        (&["regd", "plain", "--domain", ""], "regd: domain I3"),
+        (&["regd", "plain", "--domain=a/b"], "regd: domain I5"),
+    ];
+    for (words, want) in lines {
+        let (status, text) = told(rt.alloc(), words)?;
+        assert_eq!(rt; status, 2);
+        assert_eq!(rt; text.as_str(), want);
+    }
+    Ok(())
+}
+
+/// The parser's refusals come before the domain's, which is bad here wherever it is given.
+#[test]
+fn the_parser_refuses_every_other_word(rt: HostRuntime) -> Result<(), Fail> {
+    let lines: [(&[&str], &str); 8] = [
+        (
+            &[],
+            "error: 'regd' requires a subcommand but one was not provided\n",
+        ),
+        (
+            &["regd"],
+            "error: 'regd' requires a subcommand but one was not provided\n",
+        ),
+        (
+            &["regd", "schedule", "--domain", "A"],
+            "error: unrecognized subcommand 'schedule'\n",
+        ),
+        (
+            &["regd", "plain"],
+            "error: the following required arguments were not provided:\n  --domain <D>\n",
+        ),
+        (
+            &["regd", "plain", "--domain"],
+            "error: a value is required for '--domain <D>' but none was supplied\n",
+        ),
+        (
+            &["regd", "plain", "--domain", "A", "--nope"],
+            "error: unexpected argument '--nope' found\n",
+        ),
+        (
+            &["regd", "--help"],
+            "A workload registration server\n\nUsage: regd <COMMAND>\n",
+        ),
+        (
+            &["regd", "plain", "--domain", "A", "-h"],
+            "Answers request lines on a plain book",
+        ),
+    ];
+    for (words, start) in lines {
+        let (status, text) = told(rt.alloc(), words)?;
+        assert_eq!(rt; status, 2);
+        assert!(rt; text.starts_with(start), "{text}");
+    }
+    Ok(())
+}
+
+#[test]
+fn each_end_has_its_status_and_its_text(rt: HostRuntime) -> Result<(), Fail> {
+    assert_eq!(rt; status(&Ended::of_run(Ok(()))), 0);
+    let faults = [
+        (Fault::Input, "regd: input failed"),
+        (Fault::Output, "regd: output failed"),
+        (Fault::NoMemory, "regd: out of memory"),
+    ];
+    for (fault, want) in faults {
+        assert_eq!(rt; fault.to_string(rt.alloc())?.as_str(), want);
+        assert_eq!(rt; status(&Ended::of_run(Err(fault))), 1);
+    }
+    let lines = [
+        (
+            LineFault::Domain(IdRefusal::DomainTooLong),
+            2,
+            "regd: domain I4",
+        ),
+        (LineFault::NotText, 2, "regd: a word isn't UTF-8"),
+        (LineFault::NoMemory, 1, "regd: out of memory"),
+    ];
+    for (fault, number, want) in lines {
+        assert_eq!(rt; fault.to_string(rt.alloc())?.as_str(), want);
+        assert_eq!(rt; status(&Ended::Line(fault)), number);
+    }
+    Ok(())
+}
