@@ -13,17 +13,17 @@ use Rattle.spiffe_name.specs.SelectorOrder.{selector_eq}
 use Rattle.spiffe_name.specs.SelectorSet.{has, is_within}
 use Rattle.entry_book.specs.Authorised.{Holds, Starts, FollowsOn, Linked, IsChain, EndsChain, holds, starts, ends_within, authorised}
 use Rattle.entry_book.proofs.Present.{selector_is, selector_same}
-use Rattle.entry_book.proofs.Sets.{within_any, from_any, within_filter, from_within_filter, count_grows, all_pass, text_is, text_same, ascending_filter}
+use Rattle.entry_book.proofs.Sets.{All-more, within_any, from_any, within_filter, from_within_filter, count_grows, all_pass, text_is, text_same, ascending_filter}
 
 module _ (s : Bytes) (a : Agent) (es : List Entry) where
-  more : (n : ℕ) (e c : Entry) → Within es c → e.parent ≡ c.identity → ends_within s a es n c ≡ true → ends_within s a es (suc n) e ≡ true
+  pub more : (n : ℕ) (e c : Entry) → Within es c → e.parent ≡ c.identity → ends_within s a es n c ≡ true → ends_within s a es (suc n) e ≡ true
   more n e c w q t = or_right (starts s a e) _ (within_any (λ c. bytes_eq e.parent c.identity && ends_within s a es n c) es c w (and_from _ _ (text_same e.parent c.identity q) t))
 
   -- by what an entry ends a chain of at most n + 2 entries
-  less : (n : ℕ) (e : Entry) → ends_within s a es (suc n) e ≡ true → (starts s a e ≡ true) ⊎ ((c : Entry) × Within es c × (e.parent ≡ c.identity) × (ends_within s a es n c ≡ true))
+  pub less : (n : ℕ) (e : Entry) → ends_within s a es (suc n) e ≡ true → (starts s a e ≡ true) ⊎ ((c : Entry) × Within es c × (e.parent ≡ c.identity) × (ends_within s a es n c ≡ true))
   less n e h = ⊎_elim (λ t. inl t) (λ v. let r = from_any (λ c. bytes_eq e.parent c.identity && ends_within s a es n c) es v in let k = and_parts _ _ r.2 in inr (r.0, r.1, text_is e.parent (r.0).identity k.0, k.1)) (or_cases (starts s a e) _ h)
 
-  start : (n : ℕ) (e : Entry) → starts s a e ≡ true → ends_within s a es n e ≡ true
+  pub start : (n : ℕ) (e : Entry) → starts s a e ≡ true → ends_within s a es n e ≡ true
   start zero e t = t
   start (suc n) e t = or_left (starts s a e) _ t
 
@@ -60,7 +60,7 @@ module _ (s : Bytes) (a : Agent) (es : List Entry) where
   down zero e w l t = let q : zero ≡ length es = omega arith in subst (λ k. ends_within s a es k e ≡ true) q t
   down (suc n) e w l t = ⊎_elim (λ q. subst (λ k. ends_within s a es k e ≡ true) (sym q) t) (λ r. ⊎_elim (λ b. down n e w (omega arith) (still_from n (omega arith) e w t)) (λ b. absurd (omega arith)) r) (cases_order (length es) (suc n))
 
-  bounded : (e : Entry) (n : ℕ) → Within es e → ends_within s a es n e ≡ true → ends_within s a es (length es) e ≡ true
+  pub bounded : (e : Entry) (n : ℕ) → Within es e → ends_within s a es n e ≡ true → ends_within s a es (length es) e ≡ true
   bounded e n w t = ⊎_elim (λ q. subst (λ k. ends_within s a es k e ≡ true) q t) (λ r. ⊎_elim (λ b. up n (length es) e (omega arith) t) (λ b. down n e w (omega arith) t) r) (cases_order n (length es))
 
 -- ---- selectors
@@ -110,10 +110,6 @@ linked_more : (front : List Entry) (c e : Entry) → Linked (front ++ c ∷ []) 
 linked_more [] c e h q = (q, tt)
 linked_more (x ∷ xs) c e h q = follows_more x xs c e h q
 
-all_more : {X : Type 0} (P : X → Type 0) (xs : List X) (x : X) → AllByRecursion P xs → P x → AllByRecursion P (xs ++ x ∷ [])
-all_more P [] x h p = (p, tt)
-all_more P (y ∷ ys) x h p = (h.0, all_more P ys x h.1 p)
-
 chain_of : (s : Bytes) (a : Agent) (b : Book) (n : ℕ) (e : Entry) → Within b.entries e → ends_within s a b.entries n e ≡ true → EndsChain s a b e
 chain_of s a b zero e w t = ([], record { of_book = (w, tt); start = begins_is s a e t; linked = tt })
 chain_of s a b (suc n) e w t = ⊎_elim
@@ -121,7 +117,7 @@ chain_of s a b (suc n) e w t = ⊎_elim
     (λ r.
     let k = chain_of s a b n r.0 r.1 r.3 in
     let chain : IsChain s a b (k.0 ++ r.0 ∷ []) = k.1 in
-    (k.0 ++ r.0 ∷ [], record { of_book = all_more (Within b.entries) (k.0 ++ r.0 ∷ []) e chain.of_book w; start = starts_more s a (k.0 ++ r.0 ∷ []) e chain.start; linked = linked_more k.0 r.0 e chain.linked r.2 }))
+    (k.0 ++ r.0 ∷ [], record { of_book = All-more (Within b.entries) (k.0 ++ r.0 ∷ []) e chain.of_book w; start = starts_more s a (k.0 ++ r.0 ∷ []) e chain.start; linked = linked_more k.0 r.0 e chain.linked r.2 }))
     (less s a b.entries n e t)
 
 -- ---- from a chain to the computation: along the chain
@@ -152,3 +148,30 @@ ends_of_chains s a b e = (
 pub authorised_in_order : (s : Bytes) (a : Agent) (b : Book) → Ascending entry_key b.entries → Ascending entry_key (authorised s a b)
 unfolding authorised
 authorised_in_order s a b h = ascending_filter entry_key (ends_within s a b.entries (length b.entries)) b.entries h
+
+-- ---- entries that a chain reaches at once, or with one step more
+
+pub begun_is_authorised : (s : Bytes) (a : Agent) (b : Book) (e : Entry) → Within b.entries e → Holds s a e ⊎ (e.parent ≡ a.id) → Within (authorised s a b) e
+begun_is_authorised s a b e w h = (ends_of_chains s a b e).1 ([], record { of_book = (w, tt); start = h; linked = tt })
+
+pub next_is_authorised : (s : Bytes) (a : Agent) (b : Book) (c e : Entry) → Within b.entries e → Within (authorised s a b) c → e.parent ≡ c.identity → Within (authorised s a b) e
+next_is_authorised s a b c e w v q =
+    let k = (ends_of_chains s a b c).0 v in
+    let chain : IsChain s a b (k.0 ++ c ∷ []) = k.1 in
+    (ends_of_chains s a b e).1 (k.0 ++ c ∷ [], record { of_book = All-more (Within b.entries) (k.0 ++ c ∷ []) e chain.of_book w; start = starts_more s a (k.0 ++ c ∷ []) e chain.start; linked = linked_more k.0 c e chain.linked q })
+
+pub child_is_authorised : (s : Bytes) (a : Agent) (b : Book) (e : Entry) → Within b.entries e → (e.parent ≡ a.id) ⊎ ((c : Entry) × Within (authorised s a b) c × (e.parent ≡ c.identity)) → Within (authorised s a b) e
+child_is_authorised s a b e w h = ⊎_elim (λ p. begun_is_authorised s a b e w (inr p)) (λ r. next_is_authorised s a b r.0 e w r.1 r.2) h
+
+-- by what an entry is one of them
+last_step : (s : Bytes) (a : Agent) (b : Book) (n : ℕ) (e : Entry) → ends_within s a b.entries n e ≡ true → (Holds s a e ⊎ (e.parent ≡ a.id)) ⊎ ((c : Entry) × Within b.entries c × (e.parent ≡ c.identity))
+last_step s a b zero e h = inl (begins_is s a e h)
+last_step s a b (suc n) e h = ⊎_elim (λ u. inl (begins_is s a e u)) (λ r. inr (r.0, r.1, r.2)) (less s a b.entries n e h)
+
+pub reached_by : (s : Bytes) (a : Agent) (b : Book) (e : Entry) → Within (authorised s a b) e → (Holds s a e ⊎ (e.parent ≡ a.id)) ⊎ ((c : Entry) × Within b.entries c × (e.parent ≡ c.identity))
+unfolding authorised
+reached_by s a b e w = last_step s a b (length b.entries) e (from_within_filter (ends_within s a b.entries (length b.entries)) b.entries e w).1
+
+pub others_dont_matter : (s : Bytes) (a : Agent) (b : Book) (others : List Agent) → authorised s a (record b { agents = others }) ≡ authorised s a b
+unfolding authorised
+others_dont_matter s a b others = refl

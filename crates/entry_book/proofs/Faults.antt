@@ -1,5 +1,5 @@
 -- Which lists of operations are refused as a batch.
-use Rattle.std.proofs.Common.{◌≡◌, ℕ, ◌+◌, ◌<◌, ◌≤◌, Bool, true, false, cond, ◌==◌, List, [], ◌∷◌, ◌++◌, length, Option, Some, None, refl, sym, ap, ◌∙◌, arith}
+use Rattle.std.proofs.Common.{◌≡◌, ℕ, ◌+◌, ◌<◌, ◌≤◌, Bool, true, false, cond, ◌==◌, List, [], ◌∷◌, ◌++◌, length, Option, Some, None, refl, sym, ap, ◌∙◌, ◌↔◌, arith, length-append}
 use Rattle.std.specs.Prelude.{nat_lt}
 use Rattle.std.specs.List.{AllByRecursion}
 use Rattle.std.proofs.lemmas.Bool.Decides.{nat_tests}
@@ -66,8 +66,88 @@ fault_from domain m (op ∷ ops) n f h = elim (op_fault domain op) as (λ o. op_
       record { front = []; op = op; rest = ops; split = refl; index = omega arith; none_before = tt; fault = e ∙ ap Some p }
 ] refl h
 
-pub first_fault_at : (domain : Bytes) (ops : List Op) (n : ℕ) (f : OpFault) → batch_refusal domain ops ≡ Some (OfOp n f) → FaultAt domain ops n f
+none_before : (a b : Bool) (o : Option BatchRefusal) (n : ℕ) (f : OpFault) → cond a (Some NoOps) (cond b (Some TooManyOps) o) ≡ Some (OfOp n f) → b ≡ false
+none_before true b o n f h = cc
+none_before false true o n f h = cc
+none_before false false o n f h = refl
+
+first_fault_at : (domain : Bytes) (ops : List Op) (n : ℕ) (f : OpFault) → batch_refusal domain ops ≡ Some (OfOp n f) → (length ops ≤ 64) × FaultAt domain ops n f
 first_fault_at domain ops n f h =
-    let r : FaultFrom domain 0 ops n f = fault_from domain 0 ops n f (late (length ops == 0) (nat_lt 64 (length ops)) (ops_refusal domain 0 ops) n f (sym (refused_of domain ops) ∙ h)) in
+    let q = sym (refused_of domain ops) ∙ h in
+    let r : FaultFrom domain 0 ops n f = fault_from domain 0 ops n f (late (length ops == 0) (nat_lt 64 (length ops)) (ops_refusal domain 0 ops) n f q) in
+    let few = none_before (length ops == 0) (nat_lt 64 (length ops)) (ops_refusal domain 0 ops) n f q in
     let i = r.index in
-    record { front = r.front; op = r.op; rest = r.rest; split = r.split; index = omega arith; none_before = r.none_before; fault = r.fault }
+    (grind (arith, nat_tests, few), record { front = r.front; op = r.op; rest = r.rest; split = r.split; index = omega arith; none_before = r.none_before; fault = r.fault })
+
+-- ---- and back: a list of 1 to 64 operations is refused for its first fault, or not at all
+
+by_ops : (domain : Bytes) (ops : List Op) → 0 < length ops → length ops ≤ 64 → batch_refusal domain ops ≡ ops_refusal domain 0 ops
+by_ops domain ops some few =
+    let a : (length ops == 0) ≡ false = grind (arith, nat_tests) in
+    let b : nat_lt 64 (length ops) ≡ false = grind (arith, nat_tests) in
+    refused_of domain ops ∙ (ap (λ t. cond t (Some NoOps) (cond (nat_lt 64 (length ops)) (Some TooManyOps) (ops_refusal domain 0 ops))) a ∙ ap (λ t. cond t (Some TooManyOps) (ops_refusal domain 0 ops)) b)
+
+refused_for : (domain : Bytes) (m : ℕ) (front : List Op) (op : Op) (rest : List Op) (f : OpFault) → AllByRecursion (λ other. op_fault domain other ≡ None) front → op_fault domain op ≡ Some f → ops_refusal domain m (front ++ op ∷ rest) ≡ Some (OfOp (m + length front) f)
+refused_for domain m [] op rest f h e = let q : m ≡ m + 0 = omega arith in ap (λ o. or_later o m (ops_refusal domain (m + 1) rest)) e ∙ ap (λ k. Some (OfOp k f)) q
+refused_for domain m (x ∷ xs) op rest f h e =
+    let q : m + 1 + length xs ≡ m + length (x ∷ xs) = omega arith in
+    ap (λ o. or_later o m (ops_refusal domain (m + 1) (xs ++ op ∷ rest))) h.0 ∙ (refused_for domain (m + 1) xs op rest f h.1 e ∙ ap (λ k. Some (OfOp k f)) q)
+
+some_of : (ops front : List Op) (op : Op) (rest : List Op) → ops ≡ front ++ op ∷ rest → 0 < length ops
+some_of ops front op rest e = let q = ap length e ∙ length-append front (op ∷ rest) in omega arith
+
+pub first_fault : (domain : Bytes) (ops : List Op) (n : ℕ) (f : OpFault) → (batch_refusal domain ops ≡ Some (OfOp n f)) ↔ ((length ops ≤ 64) × FaultAt domain ops n f)
+first_fault domain ops n f = (
+  first_fault_at domain ops n f,
+  λ h.
+      let r : FaultAt domain ops n f = h.1 in
+      let i : 0 + length r.front ≡ n = let q = r.index in omega arith in
+      by_ops domain ops (some_of ops r.front r.op r.rest r.split) h.0
+      ∙ (ap (ops_refusal domain 0) r.split ∙ (refused_for domain 0 r.front r.op r.rest f r.none_before r.fault ∙ ap (λ k. Some (OfOp k f)) i)),
+)
+
+none_of : (domain : Bytes) (n : ℕ) (ops : List Op) → AllByRecursion (λ op. op_fault domain op ≡ None) ops → ops_refusal domain n ops ≡ None
+none_of domain n [] h = refl
+none_of domain n (op ∷ ops) h = ap (λ o. or_later o n (ops_refusal domain (n + 1) ops)) h.0 ∙ none_of domain (n + 1) ops h.1
+
+pub not_refused : (domain : Bytes) (ops : List Op) → (batch_refusal domain ops ≡ None) ↔ ((0 < length ops) × (length ops ≤ 64) × AllByRecursion (λ op. op_fault domain op ≡ None) ops)
+not_refused domain ops = (no_fault domain ops, λ h. by_ops domain ops h.0 h.1 ∙ none_of domain 0 ops h.2)
+
+-- ---- too few, and too many
+
+-- operations that are refused are refused for one of them
+of_one : (domain : Bytes) (n : ℕ) (ops : List Op) (r : BatchRefusal) → ops_refusal domain n ops ≡ Some r → (k : ℕ) × (f : OpFault) × (r ≡ OfOp k f)
+of_one domain n [] r h = cc
+of_one domain n (op ∷ ops) r h = elim (op_fault domain op) as (λ o. or_later o n (ops_refusal domain (n + 1) ops) ≡ Some r → (k : ℕ) × (f : OpFault) × (r ≡ OfOp k f)) [
+  | None ↦ λ k. of_one domain (n + 1) ops r k
+  | Some g ↦ λ k. let q : r ≡ OfOp n g = cc in (n, g, q)
+] h
+
+empty_by : (domain : Bytes) (ops : List Op) (a b : Bool) → cond a (Some NoOps) (cond b (Some TooManyOps) (ops_refusal domain 0 ops)) ≡ Some NoOps → a ≡ true
+empty_by domain ops true b h = refl
+empty_by domain ops false true h = cc
+empty_by domain ops false false h = let r = of_one domain 0 ops NoOps h in let q : NoOps ≡ OfOp r.0 r.1 = r.2 in cc
+
+none_there : (ops : List Op) → length ops ≤ 0 → ops ≡ []
+none_there [] h = refl
+none_there (op ∷ ops) h = absurd (omega arith)
+
+pub no_ops_refused : (domain : Bytes) (ops : List Op) → (batch_refusal domain ops ≡ Some NoOps) ↔ (ops ≡ [])
+no_ops_refused domain ops = (
+  λ h. let q = empty_by domain ops (length ops == 0) (nat_lt 64 (length ops)) (sym (refused_of domain ops) ∙ h) in none_there ops (grind (arith, nat_tests, q)),
+  λ h. ap (batch_refusal domain) h ∙ refused_of domain [],
+)
+
+many_by : (domain : Bytes) (ops : List Op) (a b : Bool) → cond a (Some NoOps) (cond b (Some TooManyOps) (ops_refusal domain 0 ops)) ≡ Some TooManyOps → b ≡ true
+many_by domain ops true b h = cc
+many_by domain ops false true h = refl
+many_by domain ops false false h = let r = of_one domain 0 ops TooManyOps h in let q : TooManyOps ≡ OfOp r.0 r.1 = r.2 in cc
+
+pub too_many_refused : (domain : Bytes) (ops : List Op) → (batch_refusal domain ops ≡ Some TooManyOps) ↔ (64 < length ops)
+too_many_refused domain ops = (
+  λ h. let q = many_by domain ops (length ops == 0) (nat_lt 64 (length ops)) (sym (refused_of domain ops) ∙ h) in grind (arith, nat_tests, q),
+  λ h.
+      let a : (length ops == 0) ≡ false = grind (arith, nat_tests) in
+      let b : nat_lt 64 (length ops) ≡ true = grind (arith, nat_tests) in
+      refused_of domain ops ∙ (ap (λ t. cond t (Some NoOps) (cond (nat_lt 64 (length ops)) (Some TooManyOps) (ops_refusal domain 0 ops))) a ∙ ap (λ t. cond t (Some TooManyOps) (ops_refusal domain 0 ops)) b),
+)

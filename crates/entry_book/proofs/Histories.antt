@@ -1,17 +1,24 @@
 -- How the list of all books grows, and that each of them is lawful.
-use Rattle.std.proofs.Common.{◌≡◌, ℕ, zero, suc, ◌+◌, ◌-◌, ◌*◌, ◌<◌, ◌≤◌, Bool, true, false, List, [], ◌∷◌, ◌++◌, length, Some, Ok, Err, refl, sym, ap, subst, ◌∙◌, ⊎_elim, IfOk, arith, length-append}
-use Rattle.std.specs.Prelude.{slice_get, ◌↔◌, is_ok}
+use Rattle.std.proofs.Common.{◌≡◌, ℕ, zero, suc, ◌+◌, ◌-◌, ◌*◌, ◌<◌, ◌≤◌, Bool, true, false, cond, List, [], ◌∷◌, ◌++◌, length, Option, Some, None, Ok, Err, refl, sym, ap, subst, ◌∙◌, ⊎_elim, IfOk, arith, length-append}
+use Rattle.std.specs.Prelude.{slice_get, ◌↔◌, nat_lt}
 use Rattle.std.specs.List.{AllByRecursion}
 use Rattle.std.proofs.lemmas.Bool.{cases_Bool}
+use Rattle.std.proofs.lemmas.Bool.Decides.{nat_tests}
+use Rattle.entry_book.specs.declared.limit.Limit.{Limit}
+use Rattle.entry_book.specs.declared.limit.Limit.TheVariants.{History}
+use Rattle.entry_book.specs.declared.reply.OpReply.{OpReply}
 use Rattle.entry_book.specs.Rows.{Bytes}
 use Rattle.entry_book.specs.Book.{Book, empty_book}
 use Rattle.entry_book.specs.Writes.{after}
-use Rattle.entry_book.specs.Runs.{RunResult, run}
-use Rattle.entry_book.specs.Batches.{Batch, IsMadeFor, is_query}
-use Rattle.entry_book.specs.History.{last_book, last_or, place_of, Verdict, refuses, answers, adds, verdict_when, verdict, reply_with, books_with, reply_to, books_after, books_from, books_of, first_books, is_committed, commits, CommitAll, Leads, IsHistory, PlainState, Stands}
+use Rattle.entry_book.specs.Runs.{Ran, RunResult, run}
+use Rattle.entry_book.specs.Limits.{limit_passed}
+use Rattle.entry_book.specs.Batches.{Batch, IsMadeFor, is_query, op_fault}
+use Rattle.entry_book.specs.History.{last_book, last_or, place_of, Verdict, refuses, answers, adds, adds_within, verdict_when, verdict, reply_with, books_with, reply_to, books_after, books_from, books_of, first_books, is_committed, commits, CommitAll, Leads, IsHistory, PlainState, Stands}
 use Rattle.entry_book.specs.Lawful.{Lawful}
-use Rattle.entry_book.proofs.Keeps.{run_keeps, wider}
-use Rattle.entry_book.proofs.Faults.{few_ops}
+use Rattle.entry_book.proofs.Keeps.{run_keeps}
+use Rattle.entry_book.proofs.LawfulRows.{wider}
+use Rattle.entry_book.proofs.Faults.{few_ops, no_fault}
+use Rattle.entry_book.proofs.Sets.{All-more}
 
 -- ---- one batch
 
@@ -25,7 +32,7 @@ adds_with books (answers replies) l h = cc
 adds_with books (adds replies b) l h = ((b, refl, last-snoc empty_book books b), omega arith)
 
 pub commit_adds : (batch : Batch) (books : List Book) → 0 < length books → commits batch books ≡ true → ((b : Book) × (books_after batch books ≡ books ++ b ∷ []) × (last_book (books_after batch books) ≡ b)) × ((reply_to batch books).place ≡ length books)
-commit_adds batch books l h = adds_with books (verdict batch (last_book books)) l h
+commit_adds batch books l h = adds_with books (verdict batch (place_of books) (last_book books)) l h
 
 leaves_with : (books : List Book) (v : Verdict) → is_committed (reply_with (place_of books) v).outcome ≡ false → (books_with books v ≡ books) × ((reply_with (place_of books) v).place ≡ place_of books)
 leaves_with books (refuses r) h = (refl, refl)
@@ -33,9 +40,9 @@ leaves_with books (answers replies) h = (refl, refl)
 leaves_with books (adds replies b) h = cc
 
 pub others_leave : (batch : Batch) (books : List Book) → commits batch books ≡ false → (books_after batch books ≡ books) × ((reply_to batch books).place ≡ place_of books)
-others_leave batch books h = leaves_with books (verdict batch (last_book books)) h
+others_leave batch books h = leaves_with books (verdict batch (place_of books) (last_book books)) h
 
-only_ask : (n : ℕ) (query : Bool) (b : Book) (r : RunResult) → query ≡ true → is_committed (reply_with n (verdict_when query b r)).outcome ≡ false
+only_ask : (n : ℕ) (query : Bool) (b : Book) (r : RunResult) → query ≡ true → is_committed (reply_with n (verdict_when query n b r)).outcome ≡ false
 only_ask n query b (Err s) h = refl
 only_ask n true b (Ok t) h = refl
 only_ask n false b (Ok t) h = cc
@@ -43,13 +50,12 @@ only_ask n false b (Ok t) h = cc
 pub queries_only_ask : (batch : Batch) (books : List Book) → is_query batch.ops ≡ true → commits batch books ≡ false
 queries_only_ask batch books h = only_ask (place_of books) (is_query batch.ops) (last_book books) (run batch.domain batch.ops (last_book books)) h
 
-do_commit : (n : ℕ) (query : Bool) (b : Book) (r : RunResult) → query ≡ false → is_ok r ≡ true → is_committed (reply_with n (verdict_when query b r)).outcome ≡ true
-do_commit n query b (Err s) h k = cc
-do_commit n true b (Ok t) h k = cc
-do_commit n false b (Ok t) h k = refl
+-- what a batch comes to that no operation refuses
+pub verdict_answers : (query : Bool) (n : ℕ) (b : Book) (r : RunResult) (t : Ran) → query ≡ true → r ≡ Ok t → verdict_when query n b r ≡ answers t.replies
+verdict_answers query n b r t q e = ap (λ x. verdict_when x n b r) q ∙ ap (verdict_when true n b) e
 
-pub changes_commit : (batch : Batch) (books : List Book) → is_query batch.ops ≡ false → is_ok (run batch.domain batch.ops (last_book books)) ≡ true → commits batch books ≡ true
-changes_commit batch books h k = do_commit (place_of books) (is_query batch.ops) (last_book books) (run batch.domain batch.ops (last_book books)) h k
+pub verdict_changes : (query : Bool) (n : ℕ) (b : Book) (r : RunResult) (t : Ran) (o : Option Limit) → query ≡ false → r ≡ Ok t → limit_passed n (after t.writes b) ≡ o → verdict_when query n b r ≡ adds_within o t.replies (after t.writes b)
+verdict_changes query n b r t o q e l = ap (λ x. verdict_when x n b r) q ∙ (ap (verdict_when false n b) e ∙ ap (λ x. adds_within x t.replies (after t.writes b)) l)
 
 -- ---- one batch more
 
@@ -84,10 +90,6 @@ count_of_books batches h = let k = count_from first_books batches (omega arith) 
 
 -- ---- histories
 
-all_more : {X : Type 0} (P : X → Type 0) (xs : List X) (x : X) → AllByRecursion P xs → P x → AllByRecursion P (xs ++ x ∷ [])
-all_more P [] x h p = (p, tt)
-all_more P (y ∷ ys) x h p = (h.0, all_more P ys x h.1 p)
-
 pub history_goes_on : (own : Bytes) (batch : Batch) (books : List Book) → IsHistory own books → IsMadeFor own batch → IsHistory own (books_after batch books)
 history_goes_on own batch books h m =
     let leads : Leads own h.0 books = h.1 in
@@ -95,13 +97,43 @@ history_goes_on own batch books h m =
     (λ t. (
       h.0 ++ batch ∷ [],
       record {
-        made = all_more (IsMadeFor own) h.0 batch leads.made m;
+        made = All-more (IsMadeFor own) h.0 batch leads.made m;
         committed = commit_snoc first_books h.0 batch leads.committed (subst (λ l. commits batch l ≡ true) leads.books_are t);
         books_are = ap (books_after batch) leads.books_are ∙ sym (one_more h.0 batch);
       },
     ))
     (λ t. subst (IsHistory own) (sym (others_leave batch books t).0) h)
     (cases_Bool (commits batch books))
+
+-- ---- a history ends
+
+none_when : (t : Bool) (limit : Limit) (later : Option Limit) → cond t (Some limit) later ≡ None → t ≡ false
+none_when true limit later h = cc
+none_when false limit later h = refl
+
+-- within the limits, the place is at most 65,535
+pub place_within : (n : ℕ) (b : Book) → limit_passed n b ≡ None → n ≤ 65535
+place_within n b h = let q = none_when (nat_lt 65535 n) History _ h in grind (arith, nat_tests, q)
+
+few_with : (books : List Book) (c : Book) (replies : List OpReply) (o : Option Limit) → limit_passed (place_of books) c ≡ o → length books ≤ 65537 → length (books_with books (adds_within o replies c)) ≤ 65537
+few_with books c replies (Some limit) h l = l
+few_with books c replies None h l = let k = place_within (place_of books) c h in let n = length-append books (c ∷ []) in omega arith
+
+few_when : (query : Bool) (books : List Book) (b : Book) (r : RunResult) → length books ≤ 65537 → length (books_with books (verdict_when query (place_of books) b r)) ≤ 65537
+few_when query books b (Err s) l = l
+few_when true books b (Ok t) l = l
+few_when false books b (Ok t) l = few_with books (after t.writes b) t.replies (limit_passed (place_of books) (after t.writes b)) refl l
+
+few_from : (books : List Book) (batches : List Batch) → length books ≤ 65537 → length (books_from books batches) ≤ 65537
+few_from books [] l = l
+few_from books (x ∷ xs) l = few_from (books_after x books) xs (few_when (is_query x.ops) books (last_book books) (run x.domain x.ops (last_book books)) l)
+
+pub history_bounded : (own : Bytes) (books : List Book) → IsHistory own books → length books ≤ 65537
+history_bounded own books h =
+    let leads : Leads own h.0 books = h.1 in
+    let few = few_from first_books h.0 (omega arith) in
+    let same = ap length leads.books_are in
+    omega arith
 
 -- ---- every book is lawful
 
@@ -131,6 +163,10 @@ empty_lawful own = record {
   not_own = λ h. h.1;
   proper = λ e w. absurd w;
   proper_agents = λ a w. absurd w;
+  proper_bundles = λ d w. absurd w;
+  no_fault = λ e w. absurd w;
+  no_agent_fault = λ a w. absurd w;
+  no_bundle_fault = λ d w. absurd w;
   revisions = λ e w. absurd w;
   sequences = λ d w. absurd w;
 }
@@ -148,18 +184,23 @@ widened own m n b (Err r) l h = tt
 pub batch_keeps : (own : Bytes) (batch : Batch) (n : ℕ) (b : Book) → IsMadeFor own batch → Lawful own (64 * n) b → IfOk (run batch.domain batch.ops b) (λ t. Lawful own (64 * (n + 1)) (after t.writes b))
 batch_keeps own batch n b m l =
     let few = few_ops batch.domain batch.ops m.no_fault in
-    let k = run_keeps own (64 * n) batch.ops b m.proper l in
     let d : own ≡ batch.domain = sym m.domain_is in
+    let faultless : AllByRecursion (λ op. op_fault own op ≡ None) batch.ops = subst (λ t. AllByRecursion (λ op. op_fault t op ≡ None) batch.ops) m.domain_is (no_fault batch.domain batch.ops m.no_fault).2 in
+    let k = run_keeps own (64 * n) batch.ops b m.proper faultless l in
     widened own (64 * n + length batch.ops) (64 * (n + 1)) b (run batch.domain batch.ops b) (omega arith)
     (subst (λ t. IfOk (run t batch.ops b) (λ r. Lawful own (64 * n + length batch.ops) (after r.writes b))) d k)
 
-good_when : (own : Bytes) (query : Bool) (books : List Book) (b : Book) (r : RunResult) → Good own books → IfOk r (λ t. Lawful own (64 * length books) (after t.writes b)) → Good own (books_with books (verdict_when query b r))
-good_when own query books b (Err r) g h = g
-good_when own true books b (Ok t) g h = g
-good_when own false books b (Ok t) g h = record {
-  some = let n = length-append books (after t.writes b ∷ []) in omega arith;
-  lawful = lawful_more own 0 (length books) books (after t.writes b) (omega arith) g.lawful h;
+good_with : (own : Bytes) (books : List Book) (c : Book) (replies : List OpReply) (o : Option Limit) → Good own books → Lawful own (64 * length books) c → Good own (books_with books (adds_within o replies c))
+good_with own books c replies (Some limit) g h = g
+good_with own books c replies None g h = record {
+  some = let n = length-append books (c ∷ []) in omega arith;
+  lawful = lawful_more own 0 (length books) books c (omega arith) g.lawful h;
 }
+
+good_when : (own : Bytes) (query : Bool) (n : ℕ) (books : List Book) (b : Book) (r : RunResult) → Good own books → IfOk r (λ t. Lawful own (64 * length books) (after t.writes b)) → Good own (books_with books (verdict_when query n b r))
+good_when own query n books b (Err r) g h = g
+good_when own true n books b (Ok t) g h = g
+good_when own false n books b (Ok t) g h = good_with own books (after t.writes b) t.replies (limit_passed n (after t.writes b)) g h
 
 last_lawful : (own : Bytes) (books : List Book) → Good own books → Lawful own (64 * (length books - 1)) (last_book books)
 last_lawful own [] g = absurd (let k = g.some in omega arith)
@@ -169,7 +210,7 @@ good_after : (own : Bytes) (batch : Batch) (books : List Book) → IsMadeFor own
 good_after own batch books m g =
     let s = g.some in
     let q : length books - 1 + 1 ≡ length books = omega arith in
-    good_when own (is_query batch.ops) books (last_book books) (run batch.domain batch.ops (last_book books)) g
+    good_when own (is_query batch.ops) (place_of books) books (last_book books) (run batch.domain batch.ops (last_book books)) g
     (subst (λ n. IfOk (run batch.domain batch.ops (last_book books)) (λ t. Lawful own (64 * n) (after t.writes (last_book books)))) q (batch_keeps own batch (length books - 1) (last_book books) m (last_lawful own books g)))
 
 good_from : (own : Bytes) (books : List Book) (batches : List Batch) → AllByRecursion (IsMadeFor own) batches → Good own books → Good own (books_from books batches)

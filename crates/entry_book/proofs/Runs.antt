@@ -1,21 +1,18 @@
 -- What the run of a batch's operations comes to.
-use Rattle.std.proofs.Common.{◌≡◌, ℕ, suc, ◌+◌, List, [], ◌∷◌, ◌++◌, length, Option, Some, None, Result, Ok, Err, IfOk, refl, sym, ap, ◌∙◌, append_assoc, arith}
-use Rattle.std.specs.Prelude.{MatchResult, filter, bytes_eq}
+use Rattle.std.proofs.Common.{◌≡◌, ℕ, suc, ◌+◌, List, [], ◌∷◌, ◌++◌, length, Result, Ok, Err, IfOk, refl, sym, ap, ◌∙◌, append_assoc, arith}
+use Rattle.std.specs.Prelude.{MatchResult}
 use Rattle.std.proofs.lemmas.List.{append-nil}
-use Rattle.entry_book.specs.declared.agent.Agent.{Agent}
 use Rattle.entry_book.specs.declared.op.Op.{Op}
-use Rattle.entry_book.specs.declared.op.Op.TheVariants.{Create, Authorised, SetAgent}
 use Rattle.entry_book.specs.declared.reply.OpReply.{OpReply}
 use Rattle.entry_book.specs.declared.reply.OpRefusal.{OpRefusal}
-use Rattle.entry_book.specs.Rows.{Bytes, Entry, at_revision, entry_key, agent_key}
-use Rattle.entry_book.specs.Book.{Book, AscendingBook, entry_at, agent_at}
-use Rattle.entry_book.specs.Writes.{Write, FitAll, after, after_write}
-use Rattle.entry_book.specs.Ops.{Done, Answer, similar, lacking, create_named, create_beside, create_over, for_agent, op_of}
+use Rattle.entry_book.specs.Rows.{Bytes}
+use Rattle.entry_book.specs.Book.{Book, AscendingBook}
+use Rattle.entry_book.specs.Writes.{Write, FitAll, after}
+use Rattle.entry_book.specs.Ops.{Done, Answer, op_of}
 use Rattle.entry_book.specs.Runs.{Ran, Stop, RunResult, onto, then_run, run}
 use Rattle.entry_book.specs.Laws.{StopsAt}
-use Rattle.entry_book.proofs.InOrder.{ascending-with_row}
-use Rattle.entry_book.proofs.Keys.{first_none, rows_at}
-use Rattle.entry_book.proofs.Keeps.{after-append}
+use Rattle.entry_book.proofs.Changed.{after-append, fit-append}
+use Rattle.entry_book.proofs.Fits.{in_order, op_fits}
 
 -- ---- two lists of operations, one after the other
 
@@ -127,51 +124,24 @@ to_stop domain (op ∷ ops) b n r h =
 
 -- ---- writes find the rows that they name
 
-abbrev FitsAnswer : Answer → Book → Type 0
-FitsAnswer o b = IfOk o (λ d. FitAll d.writes b × AscendingBook (after d.writes b))
+abbrev FitsRun : RunResult → Book → Type 0
+FitsRun r b = IfOk r (λ t. FitAll t.writes b)
 
-none_there : (e : Entry) (b : Book) → entry_at e.id b ≡ None → filter (λ x. bytes_eq x.id e.id) b.entries ≡ []
-none_there e b h = first_none entry_key (filter (λ x. bytes_eq x.id e.id) b.entries) h
-
-named_fits : (e : Entry) (b : Book) → AscendingBook b → entry_at e.id b ≡ None → (q : Option Bytes) → FitsAnswer (create_named q e) b
-named_fits e b a h (Some d) = tt
-named_fits e b a h None = (
-  (record { found = none_there e b h; keyed = refl }, tt),
-  record { entries = ascending-with_row entry_key e.id (Some e) b.entries a.entries refl; agents = a.agents; bundles = a.bundles },
-)
-
-beside_fits : (e : Entry) (b : Book) → AscendingBook b → entry_at e.id b ≡ None → (p : Option Entry) → FitsAnswer (create_beside p e b) b
-beside_fits e b a h (Some o) = tt
-beside_fits e b a h None = named_fits e b a h (lacking e.domains b)
-
-over_fits : (e : Entry) (b : Book) → AscendingBook b → (o : Option Entry) → entry_at e.id b ≡ o → FitsAnswer (create_over o e b) b
-over_fits e b a (Some o) h = tt
-over_fits e b a None h = beside_fits e b a h (similar e b)
-
-read_fits : (o : Option Agent) (f : Agent → Answer) (b : Book) → ((a : Agent) → FitsAnswer (f a) b) → FitsAnswer (for_agent o f) b
-read_fits None f b h = tt
-read_fits (Some a) f b h = h a
-
-op_fits : (domain : Bytes) (op : Op) (b : Book) → AscendingBook b → FitsAnswer (op_of domain op b) b
-op_fits domain (Create e) b a = over_fits (at_revision 0 e) b a (entry_at e.id b) refl
-op_fits domain (Authorised k) b a = read_fits (agent_at k b) _ b (λ x. (tt, a))
-op_fits domain (SetAgent x) b a = (
-  (record { found = rows_at agent_key x.id b.agents a.agents; keyed = refl }, tt),
-  record { entries = a.entries; agents = ascending-with_row agent_key x.id (Some x) b.agents a.agents refl; bundles = a.bundles },
-)
-
-fit_append : (vs ws : List Write) (b : Book) → FitAll vs b → FitAll ws (after vs b) → FitAll (vs ++ ws) b
-fit_append [] ws b f g = g
-fit_append (v ∷ vs) ws b f g = (f.0, fit_append vs ws (after_write v b) f.1 g)
-
-onto_fits : (d : Done) (r : RunResult) (b : Book) → FitAll d.writes b → IfOk r (λ t. FitAll t.writes (after d.writes b)) → IfOk (onto d r) (λ t. FitAll t.writes b)
-onto_fits d (Ok t) b f g = fit_append d.writes t.writes b f g
+onto_fits : (d : Done) (r : RunResult) (b : Book) → FitAll d.writes b → FitsRun r (after d.writes b) → FitsRun (onto d r) b
+onto_fits d (Ok t) b f g = fit-append d.writes t.writes b f g
 onto_fits d (Err s) b f g = tt
 
-then_fits : (o : Answer) (f : Done → RunResult) (b : Book) → FitsAnswer o b → ((d : Done) → AscendingBook (after d.writes b) → IfOk (f d) (λ t. FitAll t.writes (after d.writes b))) → IfOk (then_run o f) (λ t. FitAll t.writes b)
-then_fits (Ok d) f b h k = onto_fits d (f d) b h.0 (k d h.1)
-then_fits (Err r) f b h k = tt
+then_fits : (o : Answer) (f : Done → RunResult) (b : Book) → AscendingBook b → IfOk o (λ d. FitAll d.writes b) → ((d : Done) → AscendingBook (after d.writes b) → FitsRun (f d) (after d.writes b)) → FitsRun (then_run o f) b
+then_fits (Ok d) f b a h k = onto_fits d (f d) b h (k d (in_order d.writes b a h))
+then_fits (Err r) f b a h k = tt
 
-pub run_fits : (domain : Bytes) (ops : List Op) (b : Book) → AscendingBook b → IfOk (run domain ops b) (λ t. FitAll t.writes b)
-run_fits domain [] b a = tt
-run_fits domain (op ∷ ops) b a = then_fits (op_of domain op b) (λ d. run domain ops (after d.writes b)) b (op_fits domain op b a) (λ d k. run_fits domain ops (after d.writes b) k)
+run_finds : (domain : Bytes) (ops : List Op) (b : Book) → AscendingBook b → FitsRun (run domain ops b) b
+run_finds domain [] b a = tt
+run_finds domain (op ∷ ops) b a = then_fits (op_of domain op b) (λ d. run domain ops (after d.writes b)) b a (op_fits domain op b a) (λ d k. run_finds domain ops (after d.writes b) k)
+
+and_in_order : (r : RunResult) (b : Book) → AscendingBook b → FitsRun r b → IfOk r (λ t. FitAll t.writes b × AscendingBook (after t.writes b))
+and_in_order (Ok t) b a f = (f, in_order t.writes b a f)
+and_in_order (Err s) b a f = tt
+
+pub run_fits : (domain : Bytes) (ops : List Op) (b : Book) → AscendingBook b → IfOk (run domain ops b) (λ t. FitAll t.writes b × AscendingBook (after t.writes b))
+run_fits domain ops b a = and_in_order (run domain ops b) b a (run_finds domain ops b a)

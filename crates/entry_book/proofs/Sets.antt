@@ -133,3 +133,7 @@ module _ {X : Type 0} where
           | false ↦ λ k. ⊎_elim (λ l. inl l) (λ r. inr (r.0, λ x w t. ⊎_elim (λ i. absurd (both_ways (q y) k (ap q i ∙ t))) (λ v. r.1 x v t) w)) rest
         ] refl
       ] refl
+
+  pub All-more : (P : X → Type 0) (xs : List X) (x : X) → AllByRecursion P xs → P x → AllByRecursion P (xs ++ x ∷ [])
+  All-more P [] x h p = (p, tt)
+  All-more P (y ∷ ys) x h p = (h.0, All-more P ys x h.1 p)

@@ -1,15 +1,16 @@
 -- Which lists of operations are a batch, and which batches only ask.
-use Rattle.std.specs.Prelude.{◌≡◌, ℕ, ◌+◌, Bool, true, false, not, ◌||◌, ◌==◌, List, [], ◌∷◌, length, codes, nat_lt, nat_eq, Option, Some, None, bytes_eq}
+use Rattle.std.specs.Prelude.{◌≡◌, ⊤, ℕ, ◌+◌, Bool, true, false, not, ◌||◌, ◌==◌, List, [], ◌∷◌, length, codes, nat_lt, nat_eq, Option, Some, None, bytes_eq}
 use Rattle.std.specs.List.{AllByRecursion, list_all, starts_with}
 use Rattle.spiffe_name.specs.Failures.{refuse_if}
+use Rattle.spiffe_name.specs.Domain.{IsDomain}
 use Rattle.spiffe_name.specs.Id.{domain_of, path_of, server_text}
 use Rattle.spiffe_name.specs.Selector.{SelectorPair}
 use Rattle.entry_book.specs.declared.agent.Agent.{Agent}
 use Rattle.entry_book.specs.declared.entry.NewEntry.{NewEntry}
 use Rattle.entry_book.specs.declared.op.Op.{Op}
-use Rattle.entry_book.specs.declared.op.Op.TheVariants.{Create, Authorised, SetAgent}
+use Rattle.entry_book.specs.declared.op.Op.TheVariants.{Create, Update, Delete, Show, ShowAgent, ShowBundle, Children, Authorised, Trust, Prune, SetAgent, DropAgent, SetBundle, DropBundle}
 use Rattle.entry_book.specs.declared.fault.OpFault.{OpFault}
-use Rattle.entry_book.specs.declared.fault.OpFault.TheVariants.{ForeignId, EmptyPath, ServerIdentity, Selectors, TooManyDomains, HintTooLong, AgentPath}
+use Rattle.entry_book.specs.declared.fault.OpFault.TheVariants.{ForeignId, EmptyPath, ServerIdentity, Selectors, TooManyDomains, HintTooLong, AgentPath, OwnDomainBundle, BundleTooLong}
 use Rattle.entry_book.specs.declared.fault.BatchRefusal.{BatchRefusal}
 use Rattle.entry_book.specs.declared.fault.BatchRefusal.TheVariants.{NoOps, TooManyOps, OfOp}
 use Rattle.entry_book.specs.Rows.{Bytes, IsId, IsProperEntry, IsProperAgent}
@@ -23,8 +24,19 @@ pub record Batch : Type 0 where
 
 abbrev pub is_question : Op → Bool
 is_question (Create e) = false
+is_question (Update e expected) = false
+is_question (Delete k expected) = false
+is_question (Show k) = true
+is_question (ShowAgent k) = true
+is_question (ShowBundle d) = true
+is_question (Children p) = true
 is_question (Authorised k) = true
+is_question (Trust k) = true
+is_question (Prune moment) = false
 is_question (SetAgent a) = false
+is_question (DropAgent k) = false
+is_question (SetBundle d text) = false
+is_question (DropBundle d mode) = false
 
 abbrev pub is_query : List Op → Bool
 is_query ops = list_all is_question ops
@@ -55,7 +67,14 @@ entry_fault domain e =
     refuse_if (nat_lt 1024 (length e.hint)) HintTooLong
     None)))))
 
--- an agent that is asked for
+-- a parent that is asked for
+unfoldable pub parent_fault : Bytes → Bytes → Option OpFault
+parent_fault domain parent =
+    refuse_if (is_foreign domain parent) ForeignId (
+    refuse_if (has_no_path parent) EmptyPath
+    None)
+
+-- an agent that is asked for, or dropped
 unfoldable pub asked_fault : Bytes → Bytes → Option OpFault
 asked_fault domain id =
     refuse_if (is_foreign domain id) ForeignId (
@@ -70,10 +89,34 @@ agent_fault domain a =
     refuse_if (not (is_agent_path (path_of a.id))) AgentPath
     None))
 
+-- a bundle that is dropped
+unfoldable pub own_fault : Bytes → Bytes → Option OpFault
+own_fault domain d =
+    refuse_if (bytes_eq d domain) OwnDomainBundle
+    None
+
+-- a bundle that is set
+unfoldable pub bundle_fault : Bytes → Bytes → Bytes → Option OpFault
+bundle_fault domain d text =
+    refuse_if (bytes_eq d domain) OwnDomainBundle (
+    refuse_if (nat_lt 65536 (length text)) BundleTooLong
+    None)
+
 abbrev pub op_fault : Bytes → Op → Option OpFault
 op_fault domain (Create e) = entry_fault domain e
+op_fault domain (Update e expected) = entry_fault domain e
+op_fault domain (Delete k expected) = None
+op_fault domain (Show k) = None
+op_fault domain (ShowAgent k) = asked_fault domain k
+op_fault domain (ShowBundle d) = None
+op_fault domain (Children p) = parent_fault domain p
 op_fault domain (Authorised k) = asked_fault domain k
+op_fault domain (Trust k) = asked_fault domain k
+op_fault domain (Prune moment) = None
 op_fault domain (SetAgent a) = agent_fault domain a
+op_fault domain (DropAgent k) = asked_fault domain k
+op_fault domain (SetBundle d text) = bundle_fault domain d text
+op_fault domain (DropBundle d mode) = own_fault domain d
 
 abbrev pub or_later : Option OpFault → ℕ → Option BatchRefusal → Option BatchRefusal
 or_later (Some fault) n later = Some (OfOp n fault)
@@ -94,8 +137,19 @@ batch_refusal domain ops =
 
 abbrev pub IsProperOp : Op → Type 0
 IsProperOp (Create e) = IsProperEntry e
+IsProperOp (Update e expected) = IsProperEntry e
+IsProperOp (Delete k expected) = length k ≡ 16
+IsProperOp (Show k) = length k ≡ 16
+IsProperOp (ShowAgent k) = IsId k
+IsProperOp (ShowBundle d) = IsDomain d
+IsProperOp (Children p) = IsId p
 IsProperOp (Authorised k) = IsId k
+IsProperOp (Trust k) = IsId k
+IsProperOp (Prune moment) = ⊤
 IsProperOp (SetAgent a) = IsProperAgent a
+IsProperOp (DropAgent k) = IsId k
+IsProperOp (SetBundle d text) = IsDomain d
+IsProperOp (DropBundle d mode) = IsDomain d
 
 -- A batch that was made for this trust domain: none of the faults holds of it.
 pub record IsMadeFor (own : Bytes) (batch : Batch) : Type 0 where

@@ -1,5 +1,6 @@
 -- The book of a server: three sets of rows.
-use Rattle.std.specs.Prelude.{◌≡◌, Bool, List, [], filter, Option, bytes_eq, ◌&&◌}
+use Rattle.std.specs.Prelude.{◌≡◌, ℕ, Bool, List, [], filter, Option, bytes_eq, nat_lt, ◌&&◌}
+use Rattle.std.specs.List.{list_any}
 use Rattle.entry_book.specs.declared.agent.Agent.{Agent}
 use Rattle.entry_book.specs.declared.bundle.Bundle.{Bundle}
 use Rattle.entry_book.specs.Rows.{Bytes, Entry, entry_key, agent_key, bundle_key}
@@ -50,3 +51,17 @@ group_of p i b = filter (in_group p i) b.entries
 -- the entries of a parent, in the order of ids
 abbrev pub children_of : Bytes → Book → List Entry
 children_of p b = filter (λ e. bytes_eq e.parent p) b.entries
+
+-- the entries that name a trust domain, in the order of ids
+abbrev pub names : Bytes → Entry → Bool
+names domain e = list_any (λ d. bytes_eq d domain) e.domains
+
+abbrev pub users_of : Bytes → Book → List Entry
+users_of domain b = filter (names domain) b.entries
+
+-- the entries that expire before a moment, in the order of ids; an expiry of 0 is none
+abbrev pub expires_before : ℕ → Entry → Bool
+expires_before moment e = nat_lt 0 e.expiry && nat_lt e.expiry moment
+
+abbrev pub expired_before : ℕ → Book → List Entry
+expired_before moment b = filter (expires_before moment) b.entries

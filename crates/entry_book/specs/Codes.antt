@@ -4,6 +4,8 @@ use Rattle.entry_book.specs.declared.fault.OpFault.{OpFault}
 use Rattle.entry_book.specs.declared.fault.OpFault.TheVariants as fault
 use Rattle.entry_book.specs.declared.fault.BatchRefusal.{BatchRefusal}
 use Rattle.entry_book.specs.declared.fault.BatchRefusal.TheVariants as batch
+use Rattle.entry_book.specs.declared.limit.Limit.{Limit}
+use Rattle.entry_book.specs.declared.limit.Limit.TheVariants as limit
 use Rattle.entry_book.specs.declared.reply.OpRefusal.{OpRefusal}
 use Rattle.entry_book.specs.declared.reply.OpRefusal.TheVariants as refused
 use Rattle.entry_book.specs.declared.reply.Refusal.{Refusal}
@@ -17,6 +19,8 @@ fault_code fault.Selectors = codes "B6"
 fault_code fault.TooManyDomains = codes "B7"
 fault_code fault.HintTooLong = codes "B8"
 fault_code fault.AgentPath = codes "B10"
+fault_code fault.OwnDomainBundle = codes "B11"
+fault_code fault.BundleTooLong = codes "B12"
 
 abbrev pub batch_code : BatchRefusal → List ℕ
 batch_code batch.NoOps = codes "B1"
@@ -26,11 +30,21 @@ batch_code (batch.OfOp n f) = fault_code f
 abbrev pub op_code : OpRefusal → List ℕ
 op_code refused.IdTaken = codes "O1"
 op_code (refused.Similar id) = codes "O2"
+op_code refused.NoEntry = codes "O3"
+op_code refused.StaleRevision = codes "O4"
 op_code (refused.NoBundle domain) = codes "O5"
+op_code refused.BundleInUse = codes "O6"
 op_code refused.NoAgent = codes "O7"
+
+abbrev pub limit_code : Limit → List ℕ
+limit_code limit.History = codes "W2"
+limit_code limit.Entries = codes "W3"
+limit_code limit.Agents = codes "W4"
+limit_code limit.Bundles = codes "W5"
 
 abbrev pub refusal_code : Refusal → List ℕ
 refusal_code (reply.OfOp n r) = op_code r
+refusal_code (reply.Full l) = limit_code l
 
 -- the operation at fault, where it is a single one
 abbrev pub batch_op : BatchRefusal → Option ℕ
@@ -40,3 +54,4 @@ batch_op (batch.OfOp n f) = Some n
 
 abbrev pub refusal_op : Refusal → Option ℕ
 refusal_op (reply.OfOp n r) = Some n
+refusal_op (reply.Full l) = None

@@ -1,16 +1,18 @@
 -- The plain book: the list of all books so far, and what a batch does to it.
-use Rattle.std.specs.Prelude.{◌≡◌, ℕ, ◌+◌, ◌-◌, Bool, true, false, ⊤, List, [], ◌∷◌, ◌++◌, length, Ok, Err}
+use Rattle.std.specs.Prelude.{◌≡◌, ℕ, ◌+◌, ◌-◌, Bool, true, false, ⊤, List, [], ◌∷◌, ◌++◌, length, Option, Some, None, Ok, Err}
 use Rattle.std.specs.List.{AllByRecursion}
+use Rattle.entry_book.specs.declared.limit.Limit.{Limit}
 use Rattle.entry_book.specs.declared.reply.OpReply.{OpReply}
 use Rattle.entry_book.specs.declared.reply.Outcome.{Outcome}
 use Rattle.entry_book.specs.declared.reply.Outcome.TheVariants.{Committed, Answered, Refused}
 use Rattle.entry_book.specs.declared.reply.Refusal.{Refusal}
-use Rattle.entry_book.specs.declared.reply.Refusal.TheVariants.{OfOp}
+use Rattle.entry_book.specs.declared.reply.Refusal.TheVariants.{OfOp, Full}
 use Rattle.entry_book.specs.declared.reply.Reply.{Reply}
 use Rattle.entry_book.specs.Rows.{Bytes}
 use Rattle.entry_book.specs.Book.{Book, empty_book}
 use Rattle.entry_book.specs.Writes.{after}
 use Rattle.entry_book.specs.Runs.{RunResult, run}
+use Rattle.entry_book.specs.Limits.{limit_passed}
 use Rattle.entry_book.specs.Batches.{Batch, IsMadeFor, is_query}
 
 -- ---- the list of all books, the first one empty; numbers count from 0
@@ -35,14 +37,18 @@ pub data Verdict : Type 0 where
   answers : List OpReply → Verdict
   adds : List OpReply → Book → Verdict
 
-abbrev pub verdict_when : Bool → Book → RunResult → Verdict
-verdict_when query b (Err s) = refuses (OfOp s.op s.reason)
-verdict_when true b (Ok t) = answers t.replies
-verdict_when false b (Ok t) = adds t.replies (after t.writes b)
+abbrev pub adds_within : Option Limit → List OpReply → Book → Verdict
+adds_within (Some limit) replies c = refuses (Full limit)
+adds_within None replies c = adds replies c
 
--- a batch that doesn't only ask adds its book, also where that book is equal to the one before
-abbrev pub verdict : Batch → Book → Verdict
-verdict batch b = verdict_when (is_query batch.ops) b (run batch.domain batch.ops b)
+abbrev pub verdict_when : Bool → ℕ → Book → RunResult → Verdict
+verdict_when query place b (Err s) = refuses (OfOp s.op s.reason)
+verdict_when true place b (Ok t) = answers t.replies
+verdict_when false place b (Ok t) = adds_within (limit_passed place (after t.writes b)) t.replies (after t.writes b)
+
+-- on the book of this number; a batch that doesn't only ask adds its book, where it passes no limit, also where that book is equal to the one before
+abbrev pub verdict : Batch → ℕ → Book → Verdict
+verdict batch place b = verdict_when (is_query batch.ops) place b (run batch.domain batch.ops b)
 
 -- the place of a reply is the new book's number where a book is added, and else the number of the book found
 abbrev pub reply_with : ℕ → Verdict → Reply
@@ -56,10 +62,10 @@ books_with books (answers replies) = books
 books_with books (adds replies b) = books ++ b ∷ []
 
 abbrev pub reply_to : Batch → List Book → Reply
-reply_to batch books = reply_with (place_of books) (verdict batch (last_book books))
+reply_to batch books = reply_with (place_of books) (verdict batch (place_of books) (last_book books))
 
 abbrev pub books_after : Batch → List Book → List Book
-books_after batch books = books_with books (verdict batch (last_book books))
+books_after batch books = books_with books (verdict batch (place_of books) (last_book books))
 
 abbrev pub is_committed : Outcome → Bool
 is_committed (Committed replies) = true

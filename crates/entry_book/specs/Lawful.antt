@@ -1,10 +1,12 @@
 -- The lawful books of a trust domain.
-use Rattle.std.specs.Prelude.{◌≡◌, ℕ, ◌≤◌}
+use Rattle.std.specs.Prelude.{◌≡◌, ℕ, ◌≤◌, None}
+use Rattle.spiffe_name.specs.Domain.{IsDomain}
 use Rattle.entry_book.specs.declared.agent.Agent.{Agent}
 use Rattle.entry_book.specs.declared.bundle.Bundle.{Bundle}
 use Rattle.entry_book.specs.Rows.{Bytes, Entry, given_of, IsProperEntry, IsProperAgent}
 use Rattle.entry_book.specs.Order.{Within}
 use Rattle.entry_book.specs.Book.{Book, AscendingBook, HasBundle}
+use Rattle.entry_book.specs.Batches.{entry_fault, agent_fault, bundle_fault}
 
 -- `own` is the server's trust domain, and `most` bounds revisions and sequences.
 pub record Lawful (own : Bytes) (most : ℕ) (b : Book) : Type 0 where
@@ -16,8 +18,13 @@ pub record Lawful (own : Bytes) (most : ℕ) (b : Book) : Type 0 where
   pub bundled : (e : Entry) → Within b.entries e → (d : Bytes) → Within e.domains d → HasBundle b d
   -- the server's own domain has none
   pub not_own : HasBundle b own → ⊥
-  -- the sets of each row are in their order, and its ids are ids
+  -- the sets of each row are in their order, and its names are names
   pub proper : (e : Entry) → Within b.entries e → IsProperEntry (given_of e)
   pub proper_agents : (a : Agent) → Within b.agents a → IsProperAgent a
+  pub proper_bundles : (d : Bundle) → Within b.bundles d → IsDomain d.domain
+  -- no row has a fault for which a batch is refused: its IDs are of the server's trust domain, no identity is the server's, an agent's path is an agent's, and no part is too long
+  pub no_fault : (e : Entry) → Within b.entries e → entry_fault own (given_of e) ≡ None
+  pub no_agent_fault : (a : Agent) → Within b.agents a → agent_fault own a ≡ None
+  pub no_bundle_fault : (d : Bundle) → Within b.bundles d → bundle_fault own d.domain d.text ≡ None
   pub revisions : (e : Entry) → Within b.entries e → e.revision ≤ most
   pub sequences : (d : Bundle) → Within b.bundles d → d.sequence ≤ most

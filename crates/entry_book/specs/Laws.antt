@@ -1,21 +1,29 @@
 -- The laws of the book. Each is a clause of a function of the module `laws`.
-use Rattle.std.specs.Prelude.{◌≡◌, ◌↔◌, ℕ, ◌+◌, ◌*◌, ◌<◌, ◌≤◌, true, false, List, [], ◌∷◌, ◌++◌, length, Some, None, Ok, Err, IfOk, is_ok, MatchResult, slice_get, Contains}
+use Rattle.std.specs.Prelude.{◌≡◌, ◌↔◌, ◌⊎◌, ℕ, ◌+◌, ◌*◌, ◌<◌, ◌≤◌, true, false, List, [], ◌∷◌, ◌++◌, length, Option, Some, None, Ok, Err, IfOk, MatchResult, slice_get, Contains, ⊤}
 use Rattle.std.specs.List.{AllByRecursion}
+use Rattle.spiffe_name.specs.Id.{server_text}
 use Rattle.entry_book.specs.declared.agent.Agent.{Agent}
 use Rattle.entry_book.specs.declared.entry.NewEntry.{NewEntry}
 use Rattle.entry_book.specs.declared.fault.OpFault.{OpFault}
 use Rattle.entry_book.specs.declared.fault.BatchRefusal.TheVariants as batch
 use Rattle.entry_book.specs.declared.op.Op.{Op}
-use Rattle.entry_book.specs.declared.op.Op.TheVariants.{Create, Authorised, SetAgent}
+use Rattle.entry_book.specs.declared.mode.DropMode.{DropMode}
+use Rattle.entry_book.specs.declared.op.Op.TheVariants.{Create, Update, Delete, Show, ShowAgent, ShowBundle, Children, Authorised, Trust, Prune, SetAgent, DropAgent, SetBundle, DropBundle}
+use Rattle.entry_book.specs.declared.reply.OpReply.TheVariants as replied
+use Rattle.entry_book.specs.declared.limit.Limit.{Limit}
 use Rattle.entry_book.specs.declared.reply.OpRefusal.{OpRefusal}
-use Rattle.entry_book.specs.Rows.{Bytes, Entry, entry_key}
+use Rattle.entry_book.specs.declared.reply.Outcome.TheVariants.{Committed, Answered, Refused}
+use Rattle.entry_book.specs.declared.reply.Refusal.TheVariants.{OfOp, Full}
+use Rattle.entry_book.specs.declared.reply.Reply.{Reply}
+use Rattle.entry_book.specs.Rows.{Bytes, Entry, entry_key, agent_key, bundle_key}
 use Rattle.entry_book.specs.Order.{Within, Ascending}
 use Rattle.entry_book.specs.Book.{Book, AscendingBook}
-use Rattle.entry_book.specs.Writes.{after, FitAll}
-use Rattle.entry_book.specs.Authorised.{authorised, EndsChain}
+use Rattle.entry_book.specs.Writes.{Write, wrote_entry, wrote_agent, wrote_bundle, after, FitsBook, FitAll}
+use Rattle.entry_book.specs.Authorised.{authorised, EndsChain, Holds}
 use Rattle.entry_book.specs.Ops.{op_of}
-use Rattle.entry_book.specs.Runs.{Ran, run}
-use Rattle.entry_book.specs.Effects.{Creates, CreateRefused, SetsAgent, ListsChildren, ListRefused}
+use Rattle.entry_book.specs.Runs.{Ran, Stop, run}
+use Rattle.entry_book.specs.Effects.{Creates, CreateRefused, Updates, UpdateRefused, Deletes, DeleteRefused, Shows, ListsChildren, ListsAuthorised, ListsTrust, LacksAgent, Prunes, SetsAgent, DropsAgent, SetsBundle, DropsBundle, DropBundleRefused}
+use Rattle.entry_book.specs.Limits.{limit_passed}
 use Rattle.entry_book.specs.Batches.{Batch, IsMadeFor, IsProperOp, is_query, op_fault, batch_refusal}
 use Rattle.entry_book.specs.History.{PlainState, Stands, IsHistory, CommitAll, first_books, last_book, place_of, books_after, books_of, commits, reply_to}
 use Rattle.entry_book.specs.Lawful.{Lawful}
@@ -36,17 +44,85 @@ EndsOfChains = (server : Bytes) (a : Agent) (b : Book) (e : Entry) → Within (a
 abbrev pub AuthorisedInOrder : Type 0
 AuthorisedInOrder = (server : Bytes) (a : Agent) (b : Book) → Ascending entry_key b.entries → Ascending entry_key (authorised server a b)
 
--- ---- operations
+-- a held alias is one of them, and so is each entry of the agent, and of an identity of one of them
+abbrev pub HeldIsAuthorised : Type 0
+HeldIsAuthorised = (server : Bytes) (a : Agent) (b : Book) (e : Entry) → Within b.entries e → Holds server a e → Within (authorised server a b) e
+
+abbrev pub ChildIsAuthorised : Type 0
+ChildIsAuthorised = (server : Bytes) (a : Agent) (b : Book) (e : Entry) → Within b.entries e → (e.parent ≡ a.id) ⊎ ((c : Entry) × Within (authorised server a b) c × (e.parent ≡ c.identity)) → Within (authorised server a b) e
+
+-- in a lawful book an alias that is one of them is held by the agent itself
+abbrev pub AliasIsHeld : Type 0
+AliasIsHeld = (own : Bytes) (most : ℕ) (a : Agent) (b : Book) (e : Entry) → Lawful own most b → Within b.agents a → Within (authorised (server_text own) a b) e → e.parent ≡ server_text own → Holds (server_text own) a e
+
+-- other agents don't matter
+abbrev pub OthersDontMatter : Type 0
+OthersDontMatter = (server : Bytes) (a : Agent) (b : Book) (others : List Agent) → authorised server a (record b { agents = others }) ≡ authorised server a b
+
+-- ---- operations, in the book of a trust domain whose rows are in order
 
 abbrev pub CreateEffect : Type 0
-CreateEffect = (domain : Bytes) (e : NewEntry) (b : Book) → MatchResult (op_of domain (Create e) b) (Creates e b) (CreateRefused e b)
+CreateEffect = (own : Bytes) (e : NewEntry) (b : Book) → AscendingBook b → MatchResult (op_of own (Create e) b) (Creates e b) (CreateRefused e b)
+
+abbrev pub UpdateEffect : Type 0
+UpdateEffect = (own : Bytes) (e : NewEntry) (expected : Option ℕ) (b : Book) → AscendingBook b → MatchResult (op_of own (Update e expected) b) (Updates e expected b) (UpdateRefused e expected b)
+
+abbrev pub DeleteEffect : Type 0
+DeleteEffect = (own : Bytes) (k : Bytes) (expected : Option ℕ) (b : Book) → AscendingBook b → MatchResult (op_of own (Delete k expected) b) (Deletes k expected b) (DeleteRefused k expected b)
+
+abbrev pub ShowEffect : Type 0
+ShowEffect = (own : Bytes) (k : Bytes) (b : Book) → AscendingBook b → MatchResult (op_of own (Show k) b) (Shows entry_key b.entries replied.EntryShown k) (λ refusal. ⊥)
+
+abbrev pub ShowAgentEffect : Type 0
+ShowAgentEffect = (own : Bytes) (k : Bytes) (b : Book) → AscendingBook b → MatchResult (op_of own (ShowAgent k) b) (Shows agent_key b.agents replied.AgentShown k) (λ refusal. ⊥)
+
+abbrev pub ShowBundleEffect : Type 0
+ShowBundleEffect = (own : Bytes) (k : Bytes) (b : Book) → AscendingBook b → MatchResult (op_of own (ShowBundle k) b) (Shows bundle_key b.bundles replied.BundleShown k) (λ refusal. ⊥)
+
+abbrev pub ChildrenEffect : Type 0
+ChildrenEffect = (own : Bytes) (p : Bytes) (b : Book) → AscendingBook b → MatchResult (op_of own (Children p) b) (ListsChildren p b) (λ refusal. ⊥)
+
+abbrev pub AuthorisedEffect : Type 0
+AuthorisedEffect = (own : Bytes) (k : Bytes) (b : Book) → AscendingBook b → MatchResult (op_of own (Authorised k) b) (ListsAuthorised (server_text own) k b) (LacksAgent k b)
+
+abbrev pub TrustEffect : Type 0
+TrustEffect = (own : Bytes) (k : Bytes) (b : Book) → AscendingBook b → MatchResult (op_of own (Trust k) b) (ListsTrust (server_text own) k b) (LacksAgent k b)
+
+abbrev pub PruneEffect : Type 0
+PruneEffect = (own : Bytes) (moment : ℕ) (b : Book) → AscendingBook b → MatchResult (op_of own (Prune moment) b) (Prunes moment b) (λ refusal. ⊥)
 
 abbrev pub SetAgentEffect : Type 0
-SetAgentEffect = (domain : Bytes) (a : Agent) (b : Book) → MatchResult (op_of domain (SetAgent a) b) (SetsAgent a b) (λ refusal. ⊥)
+SetAgentEffect = (own : Bytes) (a : Agent) (b : Book) → AscendingBook b → MatchResult (op_of own (SetAgent a) b) (SetsAgent a b) (λ refusal. ⊥)
 
--- of this stage
-abbrev pub ChildrenEffect : Type 0
-ChildrenEffect = (domain : Bytes) (k : Bytes) (b : Book) → MatchResult (op_of domain (Authorised k) b) (ListsChildren k b) (ListRefused k b)
+abbrev pub DropAgentEffect : Type 0
+DropAgentEffect = (own : Bytes) (k : Bytes) (b : Book) → AscendingBook b → MatchResult (op_of own (DropAgent k) b) (DropsAgent k b) (LacksAgent k b)
+
+abbrev pub SetBundleEffect : Type 0
+SetBundleEffect = (own : Bytes) (domain text : Bytes) (b : Book) → AscendingBook b → MatchResult (op_of own (SetBundle domain text) b) (SetsBundle domain text b) (λ refusal. ⊥)
+
+abbrev pub DropBundleEffect : Type 0
+DropBundleEffect = (own : Bytes) (domain : Bytes) (mode : DropMode) (b : Book) → AscendingBook b → MatchResult (op_of own (DropBundle domain mode) b) (DropsBundle domain mode b) (DropBundleRefused domain mode b)
+
+-- two writes of one row
+abbrev pub SameRow : Write → Write → Type 0
+SameRow (wrote_entry c) (wrote_entry d) = c.key ≡ d.key
+SameRow (wrote_entry c) (wrote_agent d) = ⊥
+SameRow (wrote_entry c) (wrote_bundle d) = ⊥
+SameRow (wrote_agent c) (wrote_entry d) = ⊥
+SameRow (wrote_agent c) (wrote_agent d) = c.key ≡ d.key
+SameRow (wrote_agent c) (wrote_bundle d) = ⊥
+SameRow (wrote_bundle c) (wrote_entry d) = ⊥
+SameRow (wrote_bundle c) (wrote_agent d) = ⊥
+SameRow (wrote_bundle c) (wrote_bundle d) = c.key ≡ d.key
+
+-- no two of these writes are of one row
+abbrev pub DifferentRows : List Write → Type 0
+DifferentRows [] = ⊤
+DifferentRows (w ∷ ws) = AllByRecursion (λ v. SameRow w v → ⊥) ws × DifferentRows ws
+
+-- an operation writes each row once, so that each write finds its row as the operation found it
+abbrev pub WritesOnce : Type 0
+WritesOnce = (own : Bytes) (op : Op) (b : Book) → AscendingBook b → IfOk (op_of own op b) (λ d. DifferentRows d.writes × AllByRecursion (λ w. FitsBook w b) d.writes)
 
 -- ---- the run of a batch
 
@@ -68,17 +144,29 @@ RunStops = (domain : Bytes) (ops : List Op) (b : Book) (n : ℕ) (r : OpRefusal)
 abbrev pub RunGoesOn : Type 0
 RunGoesOn = (domain : Bytes) (ops : List Op) (op : Op) (b : Book) (t : Ran) → run domain ops b ≡ Ok t → MatchResult (op_of domain op (after t.writes b)) (λ d. run domain (ops ++ op ∷ []) b ≡ Ok (record { replies = t.replies ++ d.reply ∷ []; writes = t.writes ++ d.writes })) (λ r. run domain (ops ++ op ∷ []) b ≡ Err (record { op = length ops; reason = r }))
 
--- each write of a run finds the row that it names, on the book that the earlier ones left
-abbrev pub RunFits : Type 0
-RunFits = (domain : Bytes) (ops : List Op) (b : Book) → AscendingBook b → IfOk (run domain ops b) (λ t. FitAll t.writes b)
+-- no operation leaves the book
+abbrev pub RunOfNone : Type 0
+RunOfNone = (domain : Bytes) (b : Book) → run domain [] b ≡ Ok (record { replies = []; writes = [] })
 
--- a run leaves a lawful book, and raises no revision or sequence by more than it has operations
+-- each operation has its reply
+abbrev pub RunReplies : Type 0
+RunReplies = (domain : Bytes) (ops : List Op) (b : Book) → IfOk (run domain ops b) (λ t. length t.replies ≡ length ops)
+
+-- a batch that only asks writes nothing
+abbrev pub QueryWrites : Type 0
+QueryWrites = (domain : Bytes) (ops : List Op) (b : Book) → is_query ops ≡ true → IfOk (run domain ops b) (λ t. t.writes ≡ [])
+
+-- each write of a run finds the row that it names, on the book that the earlier ones left, and the rows stay in order
+abbrev pub RunFits : Type 0
+RunFits = (domain : Bytes) (ops : List Op) (b : Book) → AscendingBook b → IfOk (run domain ops b) (λ t. FitAll t.writes b × AscendingBook (after t.writes b))
+
+-- a run leaves a lawful book, the bound on revisions and sequences being 1 more with each operation
 abbrev pub RunKeeps : Type 0
-RunKeeps = (own : Bytes) (m : ℕ) (ops : List Op) (b : Book) → AllByRecursion IsProperOp ops → Lawful own m b → IfOk (run own ops b) (λ t. Lawful own (m + length ops) (after t.writes b))
+RunKeeps = (own : Bytes) (m : ℕ) (ops : List Op) (b : Book) → AllByRecursion IsProperOp ops → AllByRecursion (λ op. op_fault own op ≡ None) ops → Lawful own m b → IfOk (run own ops b) (λ t. Lawful own (m + length ops) (after t.writes b))
 
 -- ---- the table of faults
 
--- a batch that is refused for an operation: it is the first with a fault, and the fault is its own
+-- an operation and its fault: those before it have none
 pub record FaultAt (domain : Bytes) (ops : List Op) (n : ℕ) (f : OpFault) : Type 0 where
   pub front : List Op
   pub op : Op
@@ -88,12 +176,19 @@ pub record FaultAt (domain : Bytes) (ops : List Op) (n : ℕ) (f : OpFault) : Ty
   pub none_before : AllByRecursion (λ other. op_fault domain other ≡ None) front
   pub fault : op_fault domain op ≡ Some f
 
-abbrev pub FirstFault : Type 0
-FirstFault = (domain : Bytes) (ops : List Op) (n : ℕ) (f : OpFault) → batch_refusal domain ops ≡ Some (batch.OfOp n f) → FaultAt domain ops n f
+abbrev pub NoOpsRefused : Type 0
+NoOpsRefused = (domain : Bytes) (ops : List Op) → (batch_refusal domain ops ≡ Some batch.NoOps) ↔ (ops ≡ [])
 
--- what is no refused batch has 1 to 64 operations, none of which has a fault
+abbrev pub TooManyRefused : Type 0
+TooManyRefused = (domain : Bytes) (ops : List Op) → (batch_refusal domain ops ≡ Some batch.TooManyOps) ↔ (64 < length ops)
+
+-- a batch is refused for the first operation with a fault, where it has at most 64
+abbrev pub FirstFault : Type 0
+FirstFault = (domain : Bytes) (ops : List Op) (n : ℕ) (f : OpFault) → (batch_refusal domain ops ≡ Some (batch.OfOp n f)) ↔ ((length ops ≤ 64) × FaultAt domain ops n f)
+
+-- a list that isn't refused has 1 to 64 operations, none of which has a fault
 abbrev pub NoFault : Type 0
-NoFault = (domain : Bytes) (ops : List Op) → batch_refusal domain ops ≡ None → (0 < length ops) × (length ops ≤ 64) × AllByRecursion (λ op. op_fault domain op ≡ None) ops
+NoFault = (domain : Bytes) (ops : List Op) → (batch_refusal domain ops ≡ None) ↔ ((0 < length ops) × (length ops ≤ 64) × AllByRecursion (λ op. op_fault domain op ≡ None) ops)
 
 -- ---- histories
 
@@ -105,12 +200,46 @@ CommitAdds = (batch : Batch) (books : List Book) → 0 < length books → commit
 abbrev pub OthersLeave : Type 0
 OthersLeave = (batch : Batch) (books : List Book) → commits batch books ≡ false → (books_after batch books ≡ books) × ((reply_to batch books).place ≡ place_of books)
 
--- a query is never committed; any other batch that no operation refuses is
+-- a query is never committed
 abbrev pub QueriesOnlyAsk : Type 0
 QueriesOnlyAsk = (batch : Batch) (books : List Book) → is_query batch.ops ≡ true → commits batch books ≡ false
 
+-- what a batch comes to on some books: the reply, and the books then
+abbrev pub Comes : Batch → List Book → Reply → List Book → Type 0
+Comes batch books reply later = (reply_to batch books ≡ reply) × (books_after batch books ≡ later)
+
+-- a batch with an operation that is refused is refused for it, and the books stay
+abbrev pub OpRefuses : Type 0
+OpRefuses = (batch : Batch) (books : List Book) (s : Stop) → run batch.domain batch.ops (last_book books) ≡ Err s → Comes batch books (record { place = place_of books; outcome = Refused (OfOp s.op s.reason) }) books
+
+-- any other query is answered, whatever the limits, and the books stay
+abbrev pub QueriesAnswered : Type 0
+QueriesAnswered = (batch : Batch) (books : List Book) (t : Ran) → is_query batch.ops ≡ true → run batch.domain batch.ops (last_book books) ≡ Ok t → Comes batch books (record { place = place_of books; outcome = Answered t.replies }) books
+
+-- any other batch of changes adds the book after its writes, also where this is equal to the last one, and is answered at the new place
 abbrev pub ChangesCommit : Type 0
-ChangesCommit = (batch : Batch) (books : List Book) → is_query batch.ops ≡ false → is_ok (run batch.domain batch.ops (last_book books)) ≡ true → commits batch books ≡ true
+ChangesCommit = (batch : Batch) (books : List Book) (t : Ran) → is_query batch.ops ≡ false → run batch.domain batch.ops (last_book books) ≡ Ok t → limit_passed (place_of books) (after t.writes (last_book books)) ≡ None → Comes batch books (record { place = place_of books + 1; outcome = Committed t.replies }) (books ++ after t.writes (last_book books) ∷ [])
+
+-- but where a limit is passed it is refused for the first such one, and the books stay
+abbrev pub FullRefused : Type 0
+FullRefused = (batch : Batch) (books : List Book) (t : Ran) (limit : Limit) → is_query batch.ops ≡ false → run batch.domain batch.ops (last_book books) ≡ Ok t → limit_passed (place_of books) (after t.writes (last_book books)) ≡ Some limit → Comes batch books (record { place = place_of books; outcome = Refused (Full limit) }) books
+
+-- the limits in words
+pub record IsWithinLimits (b : Book) : Type 0 where
+  pub entries : length b.entries ≤ 16384
+  pub agents : length b.agents ≤ 4096
+  pub bundles : length b.bundles ≤ 1024
+
+abbrev pub NoneIsPassed : Type 0
+NoneIsPassed = (place : ℕ) (b : Book) → (limit_passed place b ≡ None) ↔ ((place < 65536) × IsWithinLimits b)
+
+-- each book of a history is within the limits
+abbrev pub AllWithinLimits : Type 0
+AllWithinLimits = (own : Bytes) (books : List Book) → IsHistory own books → (n : ℕ) (b : Book) → slice_get books n ≡ Some b → IsWithinLimits b
+
+-- a history has at most 65,536 books after the first
+abbrev pub HistoryBounded : Type 0
+HistoryBounded = (own : Bytes) (books : List Book) → IsHistory own books → length books ≤ 65537
 
 -- the books after one batch more
 abbrev pub OneMore : Type 0

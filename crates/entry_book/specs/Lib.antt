@@ -6,6 +6,7 @@ pub mod Effects
 pub mod History
 pub mod Lawful
 pub mod Laws
+pub mod Limits
 pub mod Ops
 pub mod Order
 pub mod Performed

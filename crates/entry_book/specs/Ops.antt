@@ -1,17 +1,24 @@
--- What one operation does to the book that it finds: the first refusal of its table that holds, or its reply and its writes. The book after is the book after these writes: they are how a book's change is said row by row, so that it can be told which rows of another book it would touch. `Effects` says the same of the rows as a whole.
-use Rattle.std.specs.Prelude.{not, List, [], ◌∷◌, filter, Option, Some, None, Result, Ok, Err, is_some, bytes_eq, ◌&&◌, if◌then◌else◌}
+-- What one operation does to the book that it finds: the first of its refusals that is due, in their order, or its reply and its writes. The book after is the book after these writes, which say row by row what is changed. `Effects` says the same of the rows as a whole.
+use Rattle.std.specs.Prelude.{ℕ, ◌+◌, Bool, true, false, not, List, [], ◌∷◌, ◌++◌, filter, map, Option, Some, None, Result, Ok, Err, is_some, bytes_eq, nat_eq, ◌&&◌, if◌then◌else◌}
+use Rattle.std.specs.List.{list_any}
+use Rattle.spiffe_name.specs.Id.{server_text}
 use Rattle.spiffe_name.specs.SelectorSet.{set_eq}
 use Rattle.entry_book.specs.declared.agent.Agent.{Agent}
+use Rattle.entry_book.specs.declared.bundle.Bundle.{Bundle}
+use Rattle.entry_book.specs.declared.entry.NewEntry.{NewEntry}
+use Rattle.entry_book.specs.declared.mode.DropMode.{DropMode}
+use Rattle.entry_book.specs.declared.mode.DropMode.TheVariants as mode
 use Rattle.entry_book.specs.declared.op.Op.{Op}
-use Rattle.entry_book.specs.declared.op.Op.TheVariants.{Create, Authorised, SetAgent}
+use Rattle.entry_book.specs.declared.op.Op.TheVariants.{Create, Update, Delete, Show, ShowAgent, ShowBundle, Children, Authorised, Trust, Prune, SetAgent, DropAgent, SetBundle, DropBundle}
 use Rattle.entry_book.specs.declared.reply.OpReply.{OpReply}
 use Rattle.entry_book.specs.declared.reply.OpReply.TheVariants as replied
 use Rattle.entry_book.specs.declared.reply.OpRefusal.{OpRefusal}
-use Rattle.entry_book.specs.declared.reply.OpRefusal.TheVariants.{IdTaken, Similar, NoBundle, NoAgent}
-use Rattle.entry_book.specs.Rows.{Bytes, Entry, at_revision}
+use Rattle.entry_book.specs.declared.reply.OpRefusal.TheVariants.{IdTaken, Similar, NoEntry, StaleRevision, NoBundle, BundleInUse, NoAgent}
+use Rattle.entry_book.specs.Rows.{Bytes, Entry, at_revision, entry_key}
 use Rattle.entry_book.specs.Order.{first}
-use Rattle.entry_book.specs.Book.{Book, entry_at, agent_at, bundle_at, group_of, children_of}
-use Rattle.entry_book.specs.Writes.{Write, wrote_entry, wrote_agent}
+use Rattle.entry_book.specs.Book.{Book, entry_at, agent_at, bundle_at, group_of, children_of, names, users_of, expired_before}
+use Rattle.entry_book.specs.Writes.{Write, wrote_entry, wrote_agent, wrote_bundle}
+use Rattle.entry_book.specs.Authorised.{authorised}
 
 pub record Done : Type 0 where
   pub reply : OpReply
@@ -23,7 +30,7 @@ Answer = Result Done OpRefusal
 abbrev pub done : OpReply → List Write → Answer
 done r ws = Ok (record { reply = r; writes = ws })
 
--- ---- create: taken id, then similar entry, then missing bundle; it adds the entry at revision 0 and replies with it
+-- ---- an entry that is put into the book: similar entry, then missing bundle; it replies with the entry
 
 -- another entry with the same parent, identity and set of selectors: the first one in the order of ids
 abbrev pub similar : Entry → Book → Option Entry
@@ -34,34 +41,122 @@ abbrev pub lacking : List Bytes → Book → Option Bytes
 lacking [] b = None
 lacking (d ∷ ds) b = if is_some (bundle_at d b) then lacking ds b else Some d
 
-abbrev pub added : Entry → Write
-added e = wrote_entry (record { key = e.id; old = None; new = Some e })
+-- the entry in the place of the old one of its id, where there is one
+abbrev pub put : Option Entry → Entry → Write
+put old e = wrote_entry (record { key = e.id; old = old; new = Some e })
 
-abbrev pub create_named : Option Bytes → Entry → Answer
-create_named (Some d) e = Err (NoBundle d)
-create_named None e = done (replied.Entry e) (added e ∷ [])
+abbrev pub put_named : Option Bytes → Option Entry → Entry → Answer
+put_named (Some d) old e = Err (NoBundle d)
+put_named None old e = done (replied.Entry e) (put old e ∷ [])
 
-abbrev pub create_beside : Option Entry → Entry → Book → Answer
-create_beside (Some o) e b = Err (Similar o.id)
-create_beside None e b = create_named (lacking e.domains b) e
+abbrev pub put_beside : Option Entry → Option Entry → Entry → Book → Answer
+put_beside (Some o) old e b = Err (Similar o.id)
+put_beside None old e b = put_named (lacking e.domains b) old e
+
+-- ---- create: taken id, and then as above; the entry is at revision 0
 
 abbrev pub create_over : Option Entry → Entry → Book → Answer
 create_over (Some o) e b = Err IdTaken
-create_over None e b = create_beside (similar e b) e b
+create_over None e b = put_beside (similar e b) None e b
 
--- ---- authorised: missing agent; in this stage it replies with the entries whose parent is the agent, in the order of ids
+-- ---- update: missing entry, stale revision, and then as above; all but the id is replaced, at the next revision
+
+-- a revision is expected, and it isn't the entry's
+abbrev pub is_stale : Option ℕ → Entry → Bool
+is_stale None e = false
+is_stale (Some expected) e = not (nat_eq expected e.revision)
+
+abbrev pub update_when : Bool → Entry → NewEntry → Book → Answer
+update_when true old e b = Err StaleRevision
+update_when false old e b = put_beside (similar (at_revision (old.revision + 1) e) b) (Some old) (at_revision (old.revision + 1) e) b
+
+abbrev pub update_over : Option Entry → NewEntry → Option ℕ → Book → Answer
+update_over None e expected b = Err NoEntry
+update_over (Some old) e expected b = update_when (is_stale expected old) old e b
+
+-- ---- delete: missing entry, stale revision; it replies with the entry that is gone
+
+abbrev pub removed : Entry → Write
+removed e = wrote_entry (record { key = e.id; old = Some e; new = None })
+
+abbrev pub delete_when : Bool → Entry → Answer
+delete_when true e = Err StaleRevision
+delete_when false e = done (replied.Entry e) (removed e ∷ [])
+
+abbrev pub delete_over : Option Entry → Option ℕ → Answer
+delete_over None expected = Err NoEntry
+delete_over (Some e) expected = delete_when (is_stale expected e) e
+
+-- ---- questions of an agent: missing agent
 
 abbrev pub for_agent : Option Agent → (Agent → Answer) → Answer
 for_agent None f = Err NoAgent
 for_agent (Some a) f = f a
 
--- ---- set_agent: never refused; it adds the agent, or puts it in the place of the one of its id, and replies with it
+-- the bundles that these entries name, by their domains
+abbrev pub is_named : List Entry → Bundle → Bool
+is_named es d = list_any (names d.domain) es
+
+abbrev pub bundles_of : List Entry → Book → List Bundle
+bundles_of es b = filter (is_named es) b.bundles
+
+-- ---- set_agent and drop_agent; a missing agent can't be dropped
 
 abbrev pub agent_set : Agent → Book → Answer
 agent_set a b = done (replied.Agent a) (wrote_agent (record { key = a.id; old = agent_at a.id b; new = Some a }) ∷ [])
 
--- the plain op, in the book of a trust domain
+abbrev pub agent_dropped : Agent → Answer
+agent_dropped a = done (replied.Agent a) (wrote_agent (record { key = a.id; old = Some a; new = None }) ∷ [])
+
+-- ---- set_bundle: never refused; a new bundle has sequence 0, and each further set adds 1
+
+abbrev pub next_sequence : Option Bundle → ℕ
+next_sequence None = 0
+next_sequence (Some old) = old.sequence + 1
+
+abbrev pub bundle_put : Option Bundle → Bundle → Answer
+bundle_put old d = done (replied.Bundle d) (wrote_bundle (record { key = d.domain; old = old; new = Some d }) ∷ [])
+
+abbrev pub bundle_set : Bytes → Bytes → Option Bundle → Answer
+bundle_set domain text old = bundle_put old (record { domain = domain; text = text; sequence = next_sequence old })
+
+-- ---- drop_bundle: missing bundle, then bundle in use; it replies with the ids deleted and the ids dissociated
+
+abbrev pub bundle_removed : Bundle → Write
+bundle_removed d = wrote_bundle (record { key = d.domain; old = Some d; new = None })
+
+-- the entry without the domain, at its next revision
+abbrev pub dissociated : Bytes → Entry → Entry
+dissociated domain e = record e { domains = filter (λ d. not (bytes_eq d domain)) e.domains; revision = e.revision + 1 }
+
+abbrev pub freed : Bytes → Entry → Write
+freed domain e = put (Some e) (dissociated domain e)
+
+-- the entries are those that name the bundle's domain
+abbrev pub drop_in : DropMode → List Entry → Bundle → Answer
+drop_in mode.Restrict [] d = done (replied.Dropped [] []) (bundle_removed d ∷ [])
+drop_in mode.Restrict (e ∷ es) d = Err BundleInUse
+drop_in mode.Delete es d = done (replied.Dropped (map entry_key es) []) (map removed es ++ bundle_removed d ∷ [])
+drop_in mode.Dissociate es d = done (replied.Dropped [] (map entry_key es)) (map (freed d.domain) es ++ bundle_removed d ∷ [])
+
+abbrev pub drop_over : Option Bundle → Bytes → DropMode → Book → Answer
+drop_over None domain mode b = Err (NoBundle domain)
+drop_over (Some d) domain mode b = drop_in mode (users_of d.domain b) d
+
+-- ---- the plain op, in the book of a trust domain
+
 abbrev pub op_of : Bytes → Op → Book → Answer
-op_of domain (Create e) b = create_over (entry_at e.id b) (at_revision 0 e) b
-op_of domain (Authorised k) b = for_agent (agent_at k b) (λ a. done (replied.Entries (children_of a.id b)) [])
-op_of domain (SetAgent a) b = agent_set a b
+op_of own (Create e) b = create_over (entry_at e.id b) (at_revision 0 e) b
+op_of own (Update e expected) b = update_over (entry_at e.id b) e expected b
+op_of own (Delete k expected) b = delete_over (entry_at k b) expected
+op_of own (Show k) b = done (replied.EntryShown (entry_at k b)) []
+op_of own (ShowAgent k) b = done (replied.AgentShown (agent_at k b)) []
+op_of own (ShowBundle k) b = done (replied.BundleShown (bundle_at k b)) []
+op_of own (Children p) b = done (replied.Entries (children_of p b)) []
+op_of own (Authorised k) b = for_agent (agent_at k b) (λ a. done (replied.Entries (authorised (server_text own) a b)) [])
+op_of own (Trust k) b = for_agent (agent_at k b) (λ a. done (replied.Bundles (bundles_of (authorised (server_text own) a b) b)) [])
+op_of own (Prune moment) b = done (replied.Pruned (map entry_key (expired_before moment b))) (map removed (expired_before moment b))
+op_of own (SetAgent a) b = agent_set a b
+op_of own (DropAgent k) b = for_agent (agent_at k b) agent_dropped
+op_of own (SetBundle domain text) b = bundle_set domain text (bundle_at domain b)
+op_of own (DropBundle domain mode) b = drop_over (bundle_at domain b) domain mode b

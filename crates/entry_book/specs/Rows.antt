@@ -1,5 +1,7 @@
 -- The rows of a book. An agent, a bundle and a new entry are the records of the crate's own types of these names.
 use Rattle.std.specs.Prelude.{◌≡◌, ℕ, List, length}
+use Rattle.std.specs.List.{AllByRecursion}
+use Rattle.spiffe_name.specs.Domain.{IsDomain}
 use Rattle.spiffe_name.specs.Id.{Spells}
 use Rattle.spiffe_name.specs.Selector.{SelectorPair}
 use Rattle.spiffe_name.specs.SelectorSet.{IsSelectorSet}
@@ -56,6 +58,7 @@ pub record IsProperEntry (e : NewEntry) : Type 0 where
   pub identity : IsId e.identity
   pub selectors : IsSelectorSet e.selectors
   pub domains : IsDomainSet e.domains
+  pub are_domains : AllByRecursion IsDomain e.domains
 
 pub record IsProperAgent (a : Agent) : Type 0 where
   pub id : IsId a.id

@@ -1,14 +1,16 @@
--- Worked books, computed: a cycle of parents, and an alias. The domain is `ex.org`.
-use Rattle.std.specs.Prelude.{◌≡◌, ℕ, List, [], ◌∷◌, ◌++◌, codes}
+-- Worked books, computed: a cycle of parents, and an alias; and worked batches. The domain is `ex.org`.
+use Rattle.std.specs.Prelude.{◌≡◌, ℕ, List, [], ◌∷◌, ◌++◌, Some, None, codes}
 use Rattle.spiffe_name.specs.Id.{server_text}
 use Rattle.spiffe_name.specs.Selector.{SelectorPair}
 use Rattle.entry_book.specs.declared.agent.Agent.{Agent}
+use Rattle.entry_book.specs.declared.bundle.Bundle.{Bundle}
+use Rattle.entry_book.specs.declared.mode.DropMode.TheVariants as mode
 use Rattle.entry_book.specs.declared.op.Op.{Op}
-use Rattle.entry_book.specs.declared.op.Op.TheVariants.{Create, Authorised, SetAgent}
+use Rattle.entry_book.specs.declared.op.Op.TheVariants.{Create, Update, Delete, Show, Children, Authorised, Prune, SetAgent, SetBundle, DropBundle}
 use Rattle.entry_book.specs.declared.reply.OpReply.{OpReply}
 use Rattle.entry_book.specs.declared.reply.OpReply.TheVariants as replied
 use Rattle.entry_book.specs.declared.reply.OpRefusal.{OpRefusal}
-use Rattle.entry_book.specs.declared.reply.OpRefusal.TheVariants.{IdTaken, Similar, NoBundle, NoAgent}
+use Rattle.entry_book.specs.declared.reply.OpRefusal.TheVariants.{IdTaken, Similar, StaleRevision, NoBundle, NoAgent}
 use Rattle.entry_book.specs.declared.reply.Outcome.TheVariants.{Committed, Answered, Refused}
 use Rattle.entry_book.specs.declared.reply.Refusal.TheVariants.{OfOp}
 use Rattle.entry_book.specs.declared.reply.Reply.{Reply}
@@ -135,3 +137,39 @@ EmptyRefuses = replies_from first_books (batch_of (Authorised agent_id ∷ []) �
 -- a batch that is refused at its third operation keeps nothing of the first two: both can be added after it
 abbrev pub NothingKept : Type 0
 NothingKept = replies_from first_books (batch_of (create (web 1) ∷ []) ∷ batch_of (create (api 2) ∷ create (entry 3 agent_id (id_of (codes "/side")) u1) ∷ create (api 1) ∷ []) ∷ batch_of (create (api 3) ∷ []) ∷ batch_of (create (web 2) ∷ []) ∷ []) ≡ committed 1 (replied.Entry (web 1)) ∷ refused 1 2 IdTaken ∷ committed 2 (replied.Entry (api 3)) ∷ refused 2 0 (Similar (uuid_of 1)) ∷ []
+
+-- ---- bundles, revisions and expiries
+
+abbrev pub all_committed : ℕ → List OpReply → Reply
+all_committed n rs = record { place = n; outcome = Committed rs }
+
+abbrev pub other_domain : Bytes
+other_domain = codes "b.org"
+
+abbrev pub set : Bytes → Op
+set text = SetBundle other_domain text
+
+abbrev pub bundle : Bytes → ℕ → Bundle
+bundle text n = record { domain = other_domain; text = text; sequence = n }
+
+-- a bundle that is set again has the next sequence, and one that was dropped before begins anew
+abbrev pub SequencesCount : Type 0
+SequencesCount = replies_from first_books (batch_of (set (codes "t1") ∷ []) ∷ batch_of (set (codes "t2") ∷ []) ∷ batch_of (DropBundle other_domain mode.Restrict ∷ []) ∷ batch_of (set (codes "t1") ∷ []) ∷ []) ≡ committed 1 (replied.Bundle (bundle (codes "t1") 0)) ∷ committed 2 (replied.Bundle (bundle (codes "t2") 1)) ∷ committed 3 (replied.Dropped [] []) ∷ committed 4 (replied.Bundle (bundle (codes "t1") 0)) ∷ []
+
+abbrev pub user : Entry
+user = record (web 1) { domains = other_domain ∷ [] }
+
+-- an entry that is created, and freed of the domain by the same batch: it is at revision 0 before, and at 1 with no domain after
+abbrev pub FreedInOneBatch : Type 0
+FreedInOneBatch = replies_from first_books (batch_of (set (codes "t1") ∷ []) ∷ batch_of (create user ∷ Show (uuid_of 1) ∷ DropBundle other_domain mode.Dissociate ∷ Show (uuid_of 1) ∷ []) ∷ []) ≡ committed 1 (replied.Bundle (bundle (codes "t1") 0)) ∷ all_committed 2 (replied.Entry user ∷ replied.EntryShown (Some user) ∷ replied.Dropped [] (uuid_of 1 ∷ []) ∷ replied.EntryShown (Some (record (web 1) { revision = 1 })) ∷ []) ∷ []
+
+abbrev pub expiring : ℕ → Bytes → ℕ → Entry
+expiring n path moment = record (entry n agent_id (id_of path) u1) { expiry = moment }
+
+-- prune before 100: an expiry of 0 is none, that of 99 is before, and that of 100 isn't
+abbrev pub PrunesBefore : Type 0
+PrunesBefore = replies_from first_books (batch_of (create (expiring 1 (codes "/a") 0) ∷ create (expiring 2 (codes "/b") 99) ∷ create (expiring 3 (codes "/c") 100) ∷ []) ∷ batch_of (Prune 100 ∷ []) ∷ batch_of (Children agent_id ∷ []) ∷ []) ≡ all_committed 1 (replied.Entry (expiring 1 (codes "/a") 0) ∷ replied.Entry (expiring 2 (codes "/b") 99) ∷ replied.Entry (expiring 3 (codes "/c") 100) ∷ []) ∷ committed 2 (replied.Pruned (uuid_of 2 ∷ [])) ∷ answered 2 (replied.Entries (expiring 1 (codes "/a") 0 ∷ expiring 3 (codes "/c") 100 ∷ [])) ∷ []
+
+-- an entry that is created and updated is at revision 1: the delete that expects 0 is refused, and nothing is kept
+abbrev pub StaleDelete : Type 0
+StaleDelete = replies_from first_books (batch_of (create (web 1) ∷ Update (given_of (api 1)) (Some 0) ∷ Delete (uuid_of 1) (Some 0) ∷ []) ∷ batch_of (Show (uuid_of 1) ∷ []) ∷ []) ≡ refused 0 2 StaleRevision ∷ answered 0 (replied.EntryShown None) ∷ []

@@ -5,6 +5,7 @@ ghost use Rattle.std.specs.Prelude.{◌≡◌};
 use crate::shared::Shared;
 use crate::text::Text;
 use spiffe_name::TrustDomain;
+use std::alloc::AllocError;
 
 /// The bundle of another trust domain. Its inside isn't read. A copy of it copies no text.
 #[derive(Drop)]
@@ -15,4 +16,16 @@ pub struct Bundle {
     pub text: Shared<Text>,
     /// 0 for a new bundle, and one more with each further set.
     pub sequence: u64,
+}
+
+impl Clone for Bundle {
+    ghost is_clone = { λ original copy. copy ≡ original };
+
+    fn clone(&self) -> Result<Bundle, AllocError> {
+        Ok(Bundle {
+            domain: self.domain.clone()?,
+            text: self.text.clone()?,
+            sequence: self.sequence,
+        })
+    }
 }

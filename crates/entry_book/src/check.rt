@@ -3,13 +3,16 @@
 ghost use Rattle.std.specs.Prelude.{◌≡◌, bytes_eq, length};
 ghost use Rattle.std.specs.List.{AllByRecursion};
 ghost use Rattle.entry_book.specs.Rows.{IsProperAgent, IsProperEntry};
-ghost use Rattle.entry_book.specs.Batches.{IsProperOp, agent_fault, asked_fault, batch_refusal, entry_fault, has_no_path, is_agent_path, is_foreign, is_outside, op_fault, ops_refusal};
+ghost use Rattle.entry_book.specs.Batches.{IsProperOp, agent_fault, asked_fault, batch_refusal, bundle_fault, entry_fault, has_no_path, is_agent_path, is_foreign, is_outside, op_fault, ops_refusal, own_fault, parent_fault};
+ghost use Rattle.spiffe_name.specs.Domain.{IsDomain};
 ghost use Rattle.spiffe_name.specs.Id.{path_of, server_text};
 
 use crate::agent::Agent;
 use crate::entry::NewEntry;
 use crate::fault::{BatchRefusal, OpFault};
 use crate::op::Op;
+use crate::shared::Shared;
+use crate::text::Text;
 use spiffe_name::{SelectorSet, SpiffeId, TrustDomain};
 
 /// The first fault of a list of operations.
@@ -43,9 +46,15 @@ fn op_fault(domain: &TrustDomain, op: &Op) -> Option<OpFault>
     ensures { result ≡ op_fault domain.now op.now }
 {
     match op {
-        Op::Create(new) => entry_fault(domain, new.get()),
-        Op::Authorised(agent) => asked_fault(domain, agent.get()),
+        Op::Create(new) | Op::Update(new, _) => entry_fault(domain, new.get()),
+        Op::Delete(_, _) | Op::Show(_) | Op::ShowBundle(_) | Op::Prune(_) => None,
+        Op::ShowAgent(agent) | Op::Authorised(agent) | Op::Trust(agent) | Op::DropAgent(agent) => {
+            asked_fault(domain, agent.get())
+        }
+        Op::Children(parent) => parent_fault(domain, parent.get()),
         Op::SetAgent(agent) => agent_fault(domain, agent),
+        Op::SetBundle(of, text) => bundle_fault(domain, of.get(), text.get()),
+        Op::DropBundle(of, _) => own_fault(domain, of.get()),
     }
 }
 
@@ -77,7 +86,21 @@ fn entry_fault(domain: &TrustDomain, new: &NewEntry) -> Option<OpFault>
     None
 }
 
-/// The fault of an agent that is asked for.
+/// The fault of a parent that is asked for.
+#[tactic(auto, unfolding(crate::specs::Batches::parent_fault))]
+fn parent_fault(domain: &TrustDomain, parent: &SpiffeId) -> Option<OpFault>
+    ensures { result ≡ parent_fault domain.now parent.now }
+{
+    if is_foreign(domain, parent) {
+        return Some(OpFault::ForeignId);
+    }
+    if has_no_path(parent) {
+        return Some(OpFault::EmptyPath);
+    }
+    None
+}
+
+/// The fault of an agent that is asked for, or dropped.
 #[tactic(auto, unfolding(crate::specs::Batches::asked_fault))]
 fn asked_fault(domain: &TrustDomain, agent: &SpiffeId) -> Option<OpFault>
     ensures { result ≡ asked_fault domain.now agent.now }
@@ -109,6 +132,31 @@ fn agent_fault(domain: &TrustDomain, agent: &Agent) -> Option<OpFault>
     None
 }
 
+/// The fault of a bundle that is set.
+#[tactic(auto, unfolding(crate::specs::Batches::bundle_fault))]
+fn bundle_fault(domain: &TrustDomain, of: &TrustDomain, text: &Text) -> Option<OpFault>
+    ensures { result ≡ bundle_fault domain.now of.now text.now }
+{
+    if of == domain {
+        return Some(OpFault::OwnDomainBundle);
+    }
+    if text.as_str().len() > 65536 {
+        return Some(OpFault::BundleTooLong);
+    }
+    None
+}
+
+/// The fault of a bundle that is dropped.
+#[tactic(auto, unfolding(crate::specs::Batches::own_fault))]
+fn own_fault(domain: &TrustDomain, of: &TrustDomain) -> Option<OpFault>
+    ensures { result ≡ own_fault domain.now of.now }
+{
+    if of == domain {
+        return Some(OpFault::OwnDomainBundle);
+    }
+    None
+}
+
 fn is_foreign(domain: &TrustDomain, id: &SpiffeId) -> bool
     ensures { result ≡ is_foreign domain.now id.now }
 {
@@ -128,7 +176,7 @@ fn is_agent_path(id: &SpiffeId) -> bool
 }
 
 /// Is this the ID of the trust domain's server?
-fn is_server(domain: &TrustDomain, id: &SpiffeId) -> bool
+pub(crate) fn is_server(domain: &TrustDomain, id: &SpiffeId) -> bool
     ensures { result ≡ bytes_eq id.now (server_text domain.now) }
 {
     let Some(rest) = id.as_str().as_bytes().strip_prefix(b"spiffe://") else {
@@ -160,11 +208,22 @@ fn know_op(op: &Op)
     ensures { IsProperOp op.now }
 {
     match op {
-        Op::Create(new) => know_entry(new.get()),
-        Op::Authorised(agent) => {
-            let _ = agent.get().as_str();
+        Op::Create(new) | Op::Update(new, _) => know_entry(new.get()),
+        Op::Delete(id, _) | Op::Show(id) => {
+            let _ = byte_count(id.as_bytes());
+        }
+        Op::Prune(_) => {}
+        Op::ShowAgent(id)
+        | Op::Children(id)
+        | Op::Authorised(id)
+        | Op::Trust(id)
+        | Op::DropAgent(id) => {
+            let _ = id.get().as_str();
         }
         Op::SetAgent(agent) => know_agent(agent),
+        Op::ShowBundle(domain) | Op::SetBundle(domain, _) | Op::DropBundle(domain, _) => {
+            let _ = domain.get().as_str();
+        }
     }
 }
 
@@ -175,7 +234,15 @@ fn know_entry(new: &NewEntry)
     let _ = new.parent.get().as_str();
     let _ = new.identity.get().as_str();
     let _ = new.selectors.get().as_slice();
-    let _ = new.domains.as_slice();
+    know_domains(new.domains.as_slice());
+}
+
+fn know_domains(domains: &[Shared<TrustDomain>])
+    ensures { AllByRecursion IsDomain domains.now }
+{
+    for domain in domains {
+        let _ = domain.get().as_str();
+    }
 }
 
 fn know_agent(agent: &Agent)

@@ -1,6 +1,7 @@
 //! What is a set of trust domains?
 
-ghost use Rattle.std.specs.Prelude.{◌≡◌, IfOk};
+ghost use Rattle.std.specs.Prelude.{◌≡◌, bytes_eq, filter, not, IfOk};
+ghost use Rattle.std.specs.List.{list_any};
 
 use crate::shared::Shared;
 use spiffe_name::TrustDomain;
@@ -26,7 +27,8 @@ impl Model for DomainSet {
 }
 
 impl DomainSet {
-    ghost use Rattle.std.specs.Prelude.{Contains, IfOk, List, [], length, ◌↔◌, ◌≡◌, ◌==◌, ℕ};
+    ghost use Rattle.std.specs.Prelude.{Contains, IfOk, List, [], bytes_eq, filter, length, not, ◌↔◌, ◌≡◌, ◌==◌, ℕ};
+    ghost use Rattle.std.specs.List.{list_any};
     ghost use Rattle.entry_book.specs.Rows.{IsDomainSet};
 
     /// The set of these domains: repeats collapse. The error is want of memory.
@@ -71,6 +73,55 @@ impl DomainSet {
     {
         self.domains.as_slice()
     }
+
+    /// Is the domain one of them?
+    pub(crate) fn contains(&self, domain: &TrustDomain) -> bool
+        ensures { result ≡ list_any (λ other. bytes_eq other domain.now) self.now }
+    {
+        is_among(domain, self.as_slice())
+    }
+
+    /// The set of the other domains. The error is want of memory.
+    pub(crate) fn without(
+        &self,
+        alloc: Global,
+        domain: &TrustDomain,
+    ) -> Result<DomainSet, AllocError>
+        ensures { IfOk result (λ set. set ≡ filter (λ other. not (bytes_eq other domain.now)) self.now) }
+    {
+        Ok(DomainSet {
+            domains: others(alloc, self.as_slice(), domain)?,
+        })
+    }
+}
+
+fn is_among(domain: &TrustDomain, domains: &[Shared<TrustDomain>]) -> bool
+    ensures { result ≡ list_any (λ other. bytes_eq other domain.now) domains.now }
+{
+    for other in domains {
+        if other.get() == domain {
+            return true;
+        }
+    }
+    false
+}
+
+/// The domains that aren't this one.
+fn others(
+    alloc: Global,
+    domains: &[Shared<TrustDomain>],
+    domain: &TrustDomain,
+) -> Result<Vec<Shared<TrustDomain>>, AllocError>
+    ensures { IfOk result
+        (λ kept. kept.items ≡ filter (λ other. not (bytes_eq other domain.now)) domains.now) }
+{
+    let mut kept = Vec::new(alloc);
+    for other in domains {
+        if other.get() != domain {
+            kept.push(other.clone()?)?;
+        }
+    }
+    Ok(kept)
 }
 
 /// The domains, each with its first owner.

@@ -5,8 +5,8 @@ ghost use Rattle.std.specs.Prelude.{◌≡◌};
 use crate::domains::DomainSet;
 use crate::shared::Shared;
 use crate::text::Text;
-use spiffe_name::{SelectorSet, SpiffeId};
-use std::alloc::AllocError;
+use spiffe_name::{SelectorSet, SpiffeId, TrustDomain};
+use std::alloc::{AllocError, Global};
 use std::marker::Model;
 use uuid::Uuid;
 
@@ -29,6 +29,28 @@ pub struct NewEntry {
     pub expiry: u64,
 }
 
+impl NewEntry {
+    ghost use Rattle.std.specs.Prelude.{◌≡◌, IfOk, bytes_eq, filter, not};
+
+    /// What was given, without a trust domain. The error is want of memory.
+    fn without(&self, alloc: Global, domain: &TrustDomain) -> Result<NewEntry, AllocError>
+        ensures { IfOk result (λ rest. rest ≡ record self.now {
+          domains = filter (λ other. not (bytes_eq other domain.now)) self.now.domains;
+        }) }
+    {
+        let domains = self.domains.without(alloc, domain)?;
+        Ok(NewEntry {
+            id: self.id,
+            parent: self.parent.clone()?,
+            identity: self.identity.clone()?,
+            selectors: self.selectors.clone()?,
+            hint: self.hint.clone()?,
+            domains,
+            expiry: self.expiry,
+        })
+    }
+}
+
 /// An entry of the book: what was given, and how often it was changed since. A copy of it copies no text. A contract
 /// sees it as a record of its eight fields.
 #[derive(Drop)]
@@ -46,8 +68,10 @@ impl Model for Entry {
 }
 
 impl Entry {
-    ghost use Rattle.std.specs.Prelude.{◌≡◌, IfOk};
+    ghost use Rattle.std.specs.Prelude.{◌≡◌, ◌≤◌, ◌^◌, IfOk};
     ghost use Rattle.entry_book.specs.Rows.{at_revision};
+    ghost use Rattle.entry_book.specs.Book.{expires_before, names};
+    ghost use Rattle.entry_book.specs.Ops.{dissociated, is_stale};
 
     /// The entry that was given, at this revision. The error is want of memory.
     pub(crate) fn at_revision(given: &Shared<NewEntry>, revision: u64) -> Result<Entry, AllocError>
@@ -113,6 +137,47 @@ impl Entry {
         ensures { result ≡ self.now.revision }
     {
         self.revision
+    }
+
+    /// Is a revision expected that isn't the entry's?
+    pub(crate) fn is_stale(&self, expected: Option<u64>) -> bool
+        ensures { result ≡ is_stale expected self.now }
+    {
+        match expected {
+            None => false,
+            Some(revision) => revision != self.revision,
+        }
+    }
+
+    /// Does the entry expire before a moment, in seconds since the epoch?
+    pub(crate) fn expires_before(&self, moment: u64) -> bool
+        ensures { result ≡ expires_before moment self.now }
+    {
+        let expiry = self.expiry();
+        0 < expiry && expiry < moment
+    }
+
+    /// Does the entry name the trust domain?
+    pub(crate) fn names(&self, domain: &TrustDomain) -> bool
+        ensures { result ≡ names domain.now self.now }
+    {
+        self.domains().contains(domain)
+    }
+
+    /// The entry without a trust domain, at its next revision. The error is want of memory.
+    pub(crate) fn dissociated(
+        &self,
+        alloc: Global,
+        domain: &TrustDomain,
+    ) -> Result<Entry, AllocError>
+        requires room { self.now.revision ≤ 2 ^ 63 }
+        ensures { IfOk result (λ entry. entry ≡ dissociated domain.now self.now) }
+    {
+        let given = self.given.get().without(alloc, domain)?;
+        Ok(Entry {
+            given: Shared::of(alloc, given)?,
+            revision: self.revision + 1,
+        })
     }
 }
 

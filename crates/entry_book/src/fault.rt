@@ -20,6 +20,10 @@ pub enum OpFault {
     HintTooLong,
     /// An agent's path doesn't begin with `/spire/agent/`.
     AgentPath,
+    /// The bundle of the server's own trust domain is set or dropped.
+    OwnDomainBundle,
+    /// A bundle's text has over 65,536 bytes.
+    BundleTooLong,
 }
 
 impl OpFault {
@@ -35,6 +39,8 @@ impl OpFault {
             OpFault::TooManyDomains => "B7",
             OpFault::HintTooLong => "B8",
             OpFault::AgentPath => "B10",
+            OpFault::OwnDomainBundle => "B11",
+            OpFault::BundleTooLong => "B12",
         }
     }
 }

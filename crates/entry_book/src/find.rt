@@ -1,6 +1,6 @@
 //! Which rows of a book does an operation look at?
 
-ghost use Rattle.std.specs.Prelude.{◌≡◌, ◌&&◌, not, bytes_eq, filter, is_some, IfOk};
+ghost use Rattle.std.specs.Prelude.{◌≡◌, ◌&&◌, not, bytes_eq, filter, IfOk};
 ghost use Rattle.std.specs.Option.{option_copied};
 ghost use Rattle.spiffe_name.specs.SelectorSet.{set_eq};
 ghost use Rattle.entry_book.specs.Order.{first};
@@ -37,17 +37,17 @@ pub(crate) fn agent_of<'a>(agents: &'a [Agent], id: &SpiffeId) -> Option<&'a Age
     None
 }
 
-/// Is there a bundle of this domain?
-pub(crate) fn has_bundle(bundles: &[Bundle], domain: &TrustDomain) -> bool
-    ensures { result
-        ≡ is_some (first (filter (λ bundle. bytes_eq bundle.domain domain.now) bundles.now)) }
+/// The bundle of a domain.
+pub(crate) fn bundle_of<'a>(bundles: &'a [Bundle], domain: &TrustDomain) -> Option<&'a Bundle>
+    ensures { option_copied result
+        ≡ first (filter (λ bundle. bytes_eq bundle.domain domain.now) bundles.now) }
 {
     for bundle in bundles {
         if bundle.domain.get() == domain {
-            return true;
+            return Some(bundle);
         }
     }
-    false
+    None
 }
 
 fn is_in_group(entry: &Entry, new: &NewEntry) -> bool

@@ -3,8 +3,8 @@
 //! Each function does nothing. What it ensures is a law of the definitions, stated in `specs/Laws.antt`; a caller
 //! that calls it may rest on the law.
 
-ghost use Rattle.entry_book.specs.Laws.{AllLawful, AuthorisedInOrder, ChangesCommit, ChildrenEffect, CommitAdds, CountOfBooks, CreateEffect, EndsOfChains, FirstFault, HistoryGoesOn, LawfulHistory, NoFault, OneMore, OneMoreCommits, OthersLeave, QueriesOnlyAsk, RunFits, RunGoesOn, RunKeeps, RunStops, SetAgentEffect, WithinIsContains};
-ghost use Rattle.entry_book.specs.Worked.{AliasHeld, AliasHeldWithMore, AliasNotHeld, AliasNotHeldWithNone, AliasOfAnother, CycleIsAuthorised, EmptyRefuses, FirstBatches, NothingKept};
+ghost use Rattle.entry_book.specs.Laws.{AliasIsHeld, AllLawful, AllWithinLimits, AuthorisedEffect, AuthorisedInOrder, ChangesCommit, ChildIsAuthorised, ChildrenEffect, CommitAdds, CountOfBooks, CreateEffect, DeleteEffect, DropAgentEffect, DropBundleEffect, EndsOfChains, FirstFault, FullRefused, HeldIsAuthorised, HistoryBounded, HistoryGoesOn, LawfulHistory, NoFault, NoOpsRefused, NoneIsPassed, OneMore, OneMoreCommits, OpRefuses, OthersDontMatter, OthersLeave, PruneEffect, QueriesAnswered, QueriesOnlyAsk, QueryWrites, RunFits, RunGoesOn, RunKeeps, RunOfNone, RunReplies, RunStops, SetAgentEffect, SetBundleEffect, ShowAgentEffect, ShowBundleEffect, ShowEffect, TooManyRefused, TrustEffect, UpdateEffect, WithinIsContains, WritesOnce};
+ghost use Rattle.entry_book.specs.Worked.{AliasHeld, AliasHeldWithMore, AliasNotHeld, AliasNotHeldWithNone, AliasOfAnother, CycleIsAuthorised, EmptyRefuses, FirstBatches, FreedInOneBatch, NothingKept, PrunesBefore, SequencesCount, StaleDelete};
 
 /// To be within a list is to stand at some place of it.
 pub fn membership()
@@ -16,25 +16,46 @@ pub fn membership()
 pub fn authorised_entries()
     ensures ends { EndsOfChains }
     ensures order { AuthorisedInOrder }
+    ensures held { HeldIsAuthorised }
+    ensures child { ChildIsAuthorised }
+    ensures alias { AliasIsHeld }
+    ensures others { OthersDontMatter }
 {}
 
-/// When each operation is refused, and which rows stand in the book after it.
+/// When each operation is refused, and which rows stand in the book after it. It writes each row once.
 pub fn effects()
     ensures create { CreateEffect }
+    ensures update { UpdateEffect }
+    ensures delete { DeleteEffect }
+    ensures show { ShowEffect }
+    ensures show_agent { ShowAgentEffect }
+    ensures show_bundle { ShowBundleEffect }
+    ensures children { ChildrenEffect }
+    ensures authorised { AuthorisedEffect }
+    ensures trust { TrustEffect }
+    ensures prune { PruneEffect }
     ensures set_agent { SetAgentEffect }
-    ensures authorised { ChildrenEffect }
+    ensures drop_agent { DropAgentEffect }
+    ensures set_bundle { SetBundleEffect }
+    ensures drop_bundle { DropBundleEffect }
+    ensures once { WritesOnce }
 {}
 
 /// What the run of a batch's operations comes to.
 pub fn runs()
     ensures stops { RunStops }
     ensures goes_on { RunGoesOn }
+    ensures none { RunOfNone }
+    ensures replies { RunReplies }
+    ensures queries { QueryWrites }
     ensures fits { RunFits }
     ensures keeps { RunKeeps }
 {}
 
 /// Which lists of operations are refused as a batch.
 pub fn faults()
+    ensures no_ops { NoOpsRefused }
+    ensures too_many { TooManyRefused }
     ensures first { FirstFault }
     ensures none { NoFault }
 {}
@@ -44,7 +65,13 @@ pub fn histories()
     ensures adds { CommitAdds }
     ensures leaves { OthersLeave }
     ensures queries { QueriesOnlyAsk }
+    ensures refused { OpRefuses }
+    ensures answered { QueriesAnswered }
     ensures changes { ChangesCommit }
+    ensures full { FullRefused }
+    ensures limits { NoneIsPassed }
+    ensures within { AllWithinLimits }
+    ensures bounded { HistoryBounded }
     ensures one_more { OneMore }
     ensures one_more_commits { OneMoreCommits }
     ensures count { CountOfBooks }
@@ -73,4 +100,8 @@ pub fn worked_batches()
     ensures first { FirstBatches }
     ensures empty { EmptyRefuses }
     ensures nothing_kept { NothingKept }
+    ensures sequences { SequencesCount }
+    ensures freed { FreedInOneBatch }
+    ensures prunes { PrunesBefore }
+    ensures stale { StaleDelete }
 {}

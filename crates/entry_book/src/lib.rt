@@ -7,9 +7,10 @@
 //! - [`PlainBook`]: a registration book for one thread. It stands for the list of all its books so far.
 //! - [`Batch`]: 1 to 64 operations for the book of one trust domain, none with a fault. [`BatchRefusal`] and
 //!   [`OpFault`] tell why a list of operations is none.
-//! - [`Op`]: one operation, and [`NewEntry`], what a caller gives of an entry.
-//! - [`Reply`]: what became of a batch ([`Outcome`]): the [`OpReply`] of each operation, or the [`Refusal`] of the
-//!   first that the book refuses ([`OpRefusal`]).
+//! - [`Op`]: one operation; [`NewEntry`], what a caller gives of an entry, and [`DropMode`], what becomes of the entries
+//!   that name a bundle when it is dropped.
+//! - [`Reply`]: what became of a batch ([`Outcome`]): the [`OpReply`] of each operation, or the [`Refusal`], of the
+//!   first operation that the book refuses ([`OpRefusal`]) or for a [`Limit`] of the book.
 //! - [`Entry`], [`Agent`], [`Bundle`]: the rows. A copy of a row copies no text.
 //! - [`Shared`], [`Sequence`], [`Text`], [`DomainSet`]: what rows are made of, seen by contracts as a value, a list,
 //!   bytes and a set.
@@ -25,9 +26,12 @@ mod bundle;
 mod check;
 mod domains;
 mod entry;
+mod expired;
 mod fault;
 mod find;
 pub mod laws;
+mod limit;
+mod mode;
 mod op;
 mod ops;
 mod plain_book;
@@ -39,6 +43,8 @@ mod shared;
 #[cfg(test)]
 mod tests;
 mod text;
+mod users;
+mod worklist;
 
 pub use agent::Agent;
 pub use batch::Batch;
@@ -46,6 +52,8 @@ pub use bundle::Bundle;
 pub use domains::DomainSet;
 pub use entry::{Entry, NewEntry};
 pub use fault::{BatchRefusal, OpFault};
+pub use limit::Limit;
+pub use mode::DropMode;
 pub use op::Op;
 pub use plain_book::PlainBook;
 pub use reply::{OpRefusal, OpReply, Outcome, Refusal, Reply};

@@ -4,19 +4,47 @@ ghost use Rattle.std.specs.Prelude.{◌≡◌};
 
 use crate::agent::Agent;
 use crate::entry::NewEntry;
+use crate::mode::DropMode;
 use crate::shared::Shared;
-use spiffe_name::SpiffeId;
+use crate::text::Text;
+use spiffe_name::{SpiffeId, TrustDomain};
 use std::alloc::AllocError;
+use uuid::Uuid;
 
 /// One operation of a batch. A copy of it copies no text.
 #[derive(Drop)]
 pub enum Op {
     /// Adds an entry, at revision 0. Refused `IdTaken`, `Similar` or `NoBundle`.
     Create(Shared<NewEntry>),
-    /// Asks for the entries that an agent may hand out. Refused `NoAgent`.
+    /// Replaces all of an entry but its id, at its next revision; the number is the revision that is expected, if one
+    /// is. Refused `NoEntry`, `StaleRevision`, `Similar` or `NoBundle`.
+    Update(Shared<NewEntry>, Option<u64>),
+    /// Removes an entry; the number is the revision that is expected, if one is. Refused `NoEntry` or
+    /// `StaleRevision`.
+    Delete(Uuid, Option<u64>),
+    /// Asks for an entry, which may be missing. Never refused.
+    Show(Uuid),
+    /// Asks for an agent, which may be missing. Never refused.
+    ShowAgent(Shared<SpiffeId>),
+    /// Asks for a bundle, which may be missing, as that of the own domain always is. Never refused.
+    ShowBundle(Shared<TrustDomain>),
+    /// Asks for the entries of a parent. Never refused.
+    Children(Shared<SpiffeId>),
+    /// Asks for the authorised entries of an agent. Refused `NoAgent`.
     Authorised(Shared<SpiffeId>),
+    /// Asks for the bundles of the domains that the authorised entries of an agent name. Refused `NoAgent`.
+    Trust(Shared<SpiffeId>),
+    /// Removes the entries that expire before a moment, in seconds since the epoch; an expiry of 0 is none. Never
+    /// refused.
+    Prune(u64),
     /// Adds an agent, or replaces the one of its id. Never refused.
     SetAgent(Agent),
+    /// Removes an agent. Refused `NoAgent`.
+    DropAgent(Shared<SpiffeId>),
+    /// Adds the bundle of a trust domain at sequence 0, or replaces its text and adds 1 to its sequence. Never refused.
+    SetBundle(Shared<TrustDomain>, Shared<Text>),
+    /// Removes the bundle of a trust domain. Refused `NoBundle` or `BundleInUse`.
+    DropBundle(Shared<TrustDomain>, DropMode),
 }
 
 impl Op {
@@ -28,8 +56,20 @@ impl Op {
         ensures { result ≡ is_question self.now }
     {
         match self {
-            Op::Create(_) | Op::SetAgent(_) => false,
-            Op::Authorised(_) => true,
+            Op::Show(_)
+            | Op::ShowAgent(_)
+            | Op::ShowBundle(_)
+            | Op::Children(_)
+            | Op::Authorised(_)
+            | Op::Trust(_) => true,
+            Op::Create(_)
+            | Op::Update(_, _)
+            | Op::Delete(_, _)
+            | Op::Prune(_)
+            | Op::SetAgent(_)
+            | Op::DropAgent(_)
+            | Op::SetBundle(_, _)
+            | Op::DropBundle(_, _) => false,
         }
     }
 }
@@ -40,8 +80,19 @@ impl Clone for Op {
     fn clone(&self) -> Result<Op, AllocError> {
         match self {
             Op::Create(new) => Ok(Op::Create(new.clone()?)),
+            Op::Update(new, expected) => Ok(Op::Update(new.clone()?, *expected)),
+            Op::Delete(id, expected) => Ok(Op::Delete(*id, *expected)),
+            Op::Show(id) => Ok(Op::Show(*id)),
+            Op::ShowAgent(agent) => Ok(Op::ShowAgent(agent.clone()?)),
+            Op::ShowBundle(domain) => Ok(Op::ShowBundle(domain.clone()?)),
+            Op::Children(parent) => Ok(Op::Children(parent.clone()?)),
             Op::Authorised(agent) => Ok(Op::Authorised(agent.clone()?)),
+            Op::Trust(agent) => Ok(Op::Trust(agent.clone()?)),
+            Op::Prune(moment) => Ok(Op::Prune(*moment)),
             Op::SetAgent(agent) => Ok(Op::SetAgent(agent.clone()?)),
+            Op::DropAgent(agent) => Ok(Op::DropAgent(agent.clone()?)),
+            Op::SetBundle(domain, text) => Ok(Op::SetBundle(domain.clone()?, text.clone()?)),
+            Op::DropBundle(domain, mode) => Ok(Op::DropBundle(domain.clone()?, *mode)),
         }
     }
 }

@@ -4,6 +4,7 @@ ghost use Rattle.std.specs.Prelude.{◌≡◌};
 
 use crate::batch::Batch;
 use crate::book::Book;
+use crate::limit::limit_passed;
 use crate::reply::{Outcome, Refusal, Reply};
 use crate::run::{BatchRun, run_ops};
 use spiffe_name::TrustDomain;
@@ -22,7 +23,7 @@ pub struct PlainBook {
 }
 
 impl Model for PlainBook {
-    ghost use Rattle.std.specs.Prelude.{◌*◌};
+    ghost use Rattle.std.specs.Prelude.{◌*◌, ◌≤◌};
     ghost use Rattle.entry_book.specs.History.{PlainState};
     ghost use Rattle.entry_book.specs.Lawful.{Lawful};
 
@@ -30,11 +31,11 @@ impl Model for PlainBook {
 
     ghost view = { λ book. record { domain = book.domain; newest = book.newest; place = book.place } };
 
-    ghost invariant = { λ book. Lawful book.domain (64 * book.place) book.newest };
+    ghost invariant = { λ book. Lawful book.domain (64 * book.place) book.newest × (book.place ≤ 65536) };
 }
 
 impl PlainBook {
-    ghost use Rattle.std.specs.Prelude.{◌≡◌, ◌<◌, ◌^◌, ◌*◌, IfOk, OnErr, OnOk, List};
+    ghost use Rattle.std.specs.Prelude.{◌≡◌, ◌≤◌, ◌*◌, IfOk, OnErr, OnOk, List};
     ghost use Rattle.entry_book.specs.Book.{Book as BookRows};
     ghost use Rattle.entry_book.specs.History.{Stands, books_after, first_books, reply_to};
     ghost use Rattle.entry_book.specs.Lawful.{Lawful};
@@ -56,7 +57,6 @@ impl PlainBook {
     /// then.
     pub fn run(&mut self, batch: &Batch) -> Result<Reply, AllocError>
         requires made_for { batch.now.domain ≡ self.old.domain }
-        requires room { self.old.place < 2 ^ 63 }
         ensures reply { (books : List BookRows) → Stands self.old books
             → IfOk result (λ reply. reply ≡ reply_to batch.now books) }
         ensures books { (books : List BookRows) → Stands self.old books
@@ -64,7 +64,7 @@ impl PlainBook {
         ensures domain { self.new.domain ≡ self.old.domain }
         ensures err { OnErr result (self.new ≡ self.old) }
     {
-        match run_ops(self.alloc, batch.ops(), &self.newest)? {
+        match run_ops(self.alloc, &self.domain, batch.ops(), &self.newest)? {
             BatchRun::RefusedAt(index, reason) => Ok(Reply {
                 place: self.place,
                 outcome: Outcome::Refused(Refusal::OfOp(index, reason)),
@@ -74,6 +74,12 @@ impl PlainBook {
                     return Ok(Reply {
                         place: self.place,
                         outcome: Outcome::Answered(replies),
+                    });
+                }
+                if let Some(limit) = limit_passed(self.place, &after) {
+                    return Ok(Reply {
+                        place: self.place,
+                        outcome: Outcome::Refused(Refusal::Full(limit)),
                     });
                 }
                 self.newest = after;
@@ -89,6 +95,7 @@ impl PlainBook {
     /// The number of the last book, which is the count of committed batches.
     pub fn place(&self) -> u64
         ensures place { result ≡ self.now.place }
+        ensures most { self.now.place ≤ 65536 }
         ensures lawful { Lawful self.now.domain (64 * self.now.place) self.now.newest }
     {
         let PlainBook { place, .. } = self;

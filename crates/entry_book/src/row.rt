@@ -1,11 +1,12 @@
-//! How is a row put into a set of rows?
+//! How is a row put into a set of rows, or taken out?
 
-ghost use Rattle.std.specs.Prelude.{◌≡◌, ◌++◌, ◌∷◌, [], Some, OnOk, IfOk, List, ℕ, filter};
+ghost use Rattle.std.specs.Prelude.{◌≡◌, ◌++◌, ◌∷◌, [], None, Some, OnOk, IfOk, List, ℕ, filter};
 ghost use Rattle.std.specs.Cmp.Lexicographic.{slice_cmp};
 ghost use Rattle.std.specs.Ordering.{nat_cmp};
 ghost use Rattle.entry_book.specs.Order.{is_before, with_row};
 
 use crate::agent::Agent;
+use crate::bundle::Bundle;
 use crate::entry::Entry;
 use std::alloc::{AllocError, Global};
 
@@ -48,6 +49,19 @@ impl Row for Agent {
     }
 }
 
+#[tactic(auto, unfolding(crate::specs::Order::is_before))]
+impl Row for Bundle {
+    ghost key = { λ bundle. bundle.domain };
+
+    fn is_before(&self, other: &Self) -> bool {
+        self.domain.get().cmp(other.domain.get()).is_lt()
+    }
+
+    fn again(&self) -> Result<Self, AllocError> {
+        self.clone()
+    }
+}
+
 /// Copies the rows that stand before this one.
 fn push_before<T: Row>(rows: &[T], row: &T, out: &mut Vec<T>) -> Result<(), AllocError>
     ensures { OnOk result (out.new.items ≡ out.old.items
@@ -83,5 +97,16 @@ pub(crate) fn with_row<T: Row>(alloc: Global, rows: &[T], row: T) -> Result<Vec<
     let last = row.again()?;
     out.push(row)?;
     push_behind(rows, &last, &mut out)?;
+    Ok(out)
+}
+
+/// The rows without the one of this row's key. The error is want of memory.
+#[tactic(auto, unfolding(crate::specs::Order::with_row))]
+pub(crate) fn without_row<T: Row>(alloc: Global, rows: &[T], row: &T) -> Result<Vec<T>, AllocError>
+    ensures { IfOk result (λ new. new.items ≡ with_row T.key (T.key row.now) None rows.now) }
+{
+    let mut out = Vec::new(alloc);
+    push_before(rows, row, &mut out)?;
+    push_behind(rows, row, &mut out)?;
     Ok(out)
 }

@@ -7,18 +7,20 @@ use Rattle.serde_json.specs.Data.{Data, string}
 use Rattle.serde_json.specs.View.{items_of}
 use Rattle.serde_json.specs.Written.{compact_text, has_float, items_text}
 use Rattle.serde_json.proofs.OnLiterals.{serde_json_on_literals}
-use Rattle.reg_lines.specs.Json.{escaped, text_json, list_json}
+use Rattle.reg_lines.specs.Json.{escaped, text_json, list_json, option_json}
 use Rattle.spiffe_name.specs.Selector.{SelectorPair, selector_text}
 use Rattle.entry_book.specs.Codes.{refusal_code, refusal_op}
 use Rattle.entry_book.specs.Rows.{Entry}
 use Rattle.entry_book.specs.declared.agent.Agent.{Agent}
+use Rattle.entry_book.specs.declared.bundle.Bundle.{Bundle}
+use Rattle.entry_book.specs.declared.limit.Limit.TheVariants as limit
 use Rattle.spiffe_name.specs.declared.refusals.Failure.{Failure}
 use Rattle.spiffe_name.specs.declared.refusals.Failure.TheVariants.{NoMemory, Refused}
 use Rattle.entry_book.specs.declared.reply.OpRefusal.TheVariants as refused
 use Rattle.entry_book.specs.declared.reply.Outcome.{Outcome}
 use Rattle.entry_book.specs.declared.reply.Outcome.TheVariants as outcome
 use Rattle.entry_book.specs.declared.reply.Refusal.{Refusal}
-use Rattle.entry_book.specs.declared.reply.Refusal.TheVariants.{OfOp}
+use Rattle.entry_book.specs.declared.reply.Refusal.TheVariants.{Full, OfOp}
 use Rattle.entry_book.specs.declared.reply.Reply.{Reply}
 use Rattle.entry_book.specs.declared.reply.OpReply.{OpReply}
 use Rattle.entry_book.specs.declared.reply.OpReply.TheVariants as replied
@@ -27,8 +29,8 @@ use Rattle.reg_lines.specs.declared.fault.Fault.{Fault}
 use Rattle.reg_lines.specs.declared.fault.Field.{Field}
 use Rattle.reg_lines.specs.declared.refusal.LineRefusal.{LineRefusal}
 use Rattle.reg_lines.specs.Refusals.{fault_json, failure_json, no_memory_json, op_member, refusal_json}
-use Rattle.reg_lines.specs.Replies.{agent_json, detail_member, entry_json, op_reply_json, selector_json, uuid_text, under, done_json, refused_json, outcome_json, reply_json}
-use Rattle.reg_lines.specs.Values.{list_data, selector_data, agent_data, entry_data, op_reply_data, done_data, refused_data, outcome_data, reply_data, fault_data, failure_data, refusal_data}
+use Rattle.reg_lines.specs.Replies.{agent_json, bundle_json, detail_member, dropped_json, entry_json, op_reply_json, selector_json, uuid_json, uuid_text, under, done_json, refused_json, outcome_json, reply_json}
+use Rattle.reg_lines.specs.Values.{list_data, option_data, uuid_data, selector_data, agent_data, bundle_data, dropped_data, entry_data, op_reply_data, done_data, refused_data, outcome_data, reply_data, fault_data, failure_data, refusal_data}
 
 same_for_all : (f g : ℕ → List ℕ) → ((b : ℕ) → f b ≡ g b) → (s : List ℕ) → flat_map f s ≡ flat_map g s
 same_for_all f g h [] = refl
@@ -90,14 +92,54 @@ entry_json-is e =
     ∷ codes "}" ∷ [])
     ∙ simp (text_json-is, texts-are, selectors-are) refl
 
+bundle_json-is : (b : Bundle) → bundle_json b ≡ compact_text (bundle_data b)
+unfolding bundle_json serde_json_on_literals
+bundle_json-is b = simp (append_assoc, text_json-is) refl
+
+ids-are : (ids : List (List ℕ)) → list_json uuid_json ids ≡ compact_text (list_data uuid_data ids)
+ids-are ids = list_json-is uuid_json uuid_data (λ id. text_json-is (uuid_text id)) ids
+
+dropped_json-is : (deleted dissociated : List (List ℕ)) → dropped_json deleted dissociated ≡ compact_text (dropped_data deleted dissociated)
+unfolding dropped_json serde_json_on_literals
+dropped_json-is deleted dissociated =
+    left-right (codes "{\"deleted\":") (
+    list_json uuid_json deleted
+    ∷ codes ",\"dissociated\":" ∷ list_json uuid_json dissociated
+    ∷ codes "}" ∷ [])
+    ∙ simp ids-are refl
+
+option_json-is : {A : Type 0} (f : A → List ℕ) (g : A → Data) → ((x : A) → f x ≡ compact_text (g x)) → (o : Option A) → option_json f o ≡ compact_text (option_data g o)
+unfolding serde_json_on_literals
+option_json-is f g h None = refl
+option_json-is f g h (Some x) = h x
+
 entries-are : (es : List Entry) → list_json entry_json es ≡ compact_text (list_data entry_data es)
 entries-are es = list_json-is entry_json entry_data entry_json-is es
+
+entry_shown-is : (e : Option Entry) → option_json entry_json e ≡ compact_text (option_data entry_data e)
+entry_shown-is e = option_json-is entry_json entry_data entry_json-is e
+
+agent_shown-is : (a : Option Agent) → option_json agent_json a ≡ compact_text (option_data agent_data a)
+agent_shown-is a = option_json-is agent_json agent_data agent_json-is a
+
+bundle_shown-is : (b : Option Bundle) → option_json bundle_json b ≡ compact_text (option_data bundle_data b)
+bundle_shown-is b = option_json-is bundle_json bundle_data bundle_json-is b
+
+bundles-are : (bs : List Bundle) → list_json bundle_json bs ≡ compact_text (list_data bundle_data bs)
+bundles-are bs = list_json-is bundle_json bundle_data bundle_json-is bs
 
 pub op_reply_json-is : (r : OpReply) → op_reply_json r ≡ compact_text (op_reply_data r)
 unfolding under serde_json_on_literals
 op_reply_json-is (replied.Entry e) = simp (append_assoc, text_json-is, entry_json-is) refl
+op_reply_json-is (replied.EntryShown e) = simp (append_assoc, text_json-is, entry_shown-is) refl
 op_reply_json-is (replied.Entries es) = simp (append_assoc, text_json-is, entries-are) refl
 op_reply_json-is (replied.Agent a) = simp (append_assoc, text_json-is, agent_json-is) refl
+op_reply_json-is (replied.AgentShown a) = simp (append_assoc, text_json-is, agent_shown-is) refl
+op_reply_json-is (replied.Bundle b) = simp (append_assoc, text_json-is, bundle_json-is) refl
+op_reply_json-is (replied.BundleShown b) = simp (append_assoc, text_json-is, bundle_shown-is) refl
+op_reply_json-is (replied.Bundles bs) = simp (append_assoc, text_json-is, bundles-are) refl
+op_reply_json-is (replied.Pruned ids) = simp (append_assoc, text_json-is, ids-are) refl
+op_reply_json-is (replied.Dropped deleted dissociated) = dropped_json-is deleted dissociated
 
 replies-are : (rs : List OpReply) → list_json op_reply_json rs ≡ compact_text (list_data op_reply_data rs)
 replies-are rs = list_json-is op_reply_json op_reply_data op_reply_json-is rs
@@ -130,8 +172,15 @@ refused_json-is : (call place : ℕ) (r : Refusal) → refused_json call place r
 unfolding serde_json_on_literals
 refused_json-is call place (OfOp n refused.IdTaken) = refused_json-pieces call place (OfOp n refused.IdTaken) ∙ simp (append_assoc, text_json-is) refl
 refused_json-is call place (OfOp n (refused.Similar id)) = refused_json-pieces call place (OfOp n (refused.Similar id)) ∙ simp (append_assoc, text_json-is) refl
+refused_json-is call place (OfOp n refused.NoEntry) = refused_json-pieces call place (OfOp n refused.NoEntry) ∙ simp (append_assoc, text_json-is) refl
+refused_json-is call place (OfOp n refused.StaleRevision) = refused_json-pieces call place (OfOp n refused.StaleRevision) ∙ simp (append_assoc, text_json-is) refl
 refused_json-is call place (OfOp n (refused.NoBundle domain)) = refused_json-pieces call place (OfOp n (refused.NoBundle domain)) ∙ simp (append_assoc, text_json-is) refl
+refused_json-is call place (OfOp n refused.BundleInUse) = refused_json-pieces call place (OfOp n refused.BundleInUse) ∙ simp (append_assoc, text_json-is) refl
 refused_json-is call place (OfOp n refused.NoAgent) = refused_json-pieces call place (OfOp n refused.NoAgent) ∙ simp (append_assoc, text_json-is) refl
+refused_json-is call place (Full limit.History) = refused_json-pieces call place (Full limit.History) ∙ simp (append_assoc, text_json-is) refl
+refused_json-is call place (Full limit.Entries) = refused_json-pieces call place (Full limit.Entries) ∙ simp (append_assoc, text_json-is) refl
+refused_json-is call place (Full limit.Agents) = refused_json-pieces call place (Full limit.Agents) ∙ simp (append_assoc, text_json-is) refl
+refused_json-is call place (Full limit.Bundles) = refused_json-pieces call place (Full limit.Bundles) ∙ simp (append_assoc, text_json-is) refl
 
 outcome_json-is : (call place : ℕ) (o : Outcome) → outcome_json call place o ≡ compact_text (outcome_data call place o)
 outcome_json-is call place (outcome.Committed rs) = done_json-is call place rs (codes "committed")
@@ -180,10 +229,30 @@ agent-no_float a = simp selectors-no_float refl
 entries-no_float : (es : List Entry) → has_float (list_data entry_data es) ≡ false
 entries-no_float es = list-no_float entry_data entry-no_float es
 
+bundle-no_float : (b : Bundle) → has_float (bundle_data b) ≡ false
+bundle-no_float b = refl
+
+bundles-no_float : (bs : List Bundle) → has_float (list_data bundle_data bs) ≡ false
+bundles-no_float bs = list-no_float bundle_data bundle-no_float bs
+
+ids-no_float : (ids : List (List ℕ)) → has_float (list_data uuid_data ids) ≡ false
+ids-no_float ids = list-no_float uuid_data (λ id. refl) ids
+
+option-no_float : {A : Type 0} (g : A → Data) → ((x : A) → has_float (g x) ≡ false) → (o : Option A) → has_float (option_data g o) ≡ false
+option-no_float g h None = refl
+option-no_float g h (Some x) = h x
+
 op_reply-no_float : (r : OpReply) → has_float (op_reply_data r) ≡ false
 op_reply-no_float (replied.Entry e) = simp entry-no_float refl
+op_reply-no_float (replied.EntryShown e) = simp (option-no_float entry_data entry-no_float) refl
 op_reply-no_float (replied.Entries es) = simp entries-no_float refl
 op_reply-no_float (replied.Agent a) = simp agent-no_float refl
+op_reply-no_float (replied.AgentShown a) = simp (option-no_float agent_data agent-no_float) refl
+op_reply-no_float (replied.Bundle b) = simp bundle-no_float refl
+op_reply-no_float (replied.BundleShown b) = simp (option-no_float bundle_data bundle-no_float) refl
+op_reply-no_float (replied.Bundles bs) = simp bundles-no_float refl
+op_reply-no_float (replied.Pruned ids) = simp ids-no_float refl
+op_reply-no_float (replied.Dropped deleted dissociated) = simp ids-no_float refl
 
 replies-no_float : (rs : List OpReply) → has_float (list_data op_reply_data rs) ≡ false
 replies-no_float rs = list-no_float op_reply_data op_reply-no_float rs
@@ -193,8 +262,15 @@ outcome-no_float call place (outcome.Committed rs) = simp replies-no_float refl
 outcome-no_float call place (outcome.Answered rs) = simp replies-no_float refl
 outcome-no_float call place (outcome.Refused (OfOp n refused.IdTaken)) = refl
 outcome-no_float call place (outcome.Refused (OfOp n (refused.Similar id))) = refl
+outcome-no_float call place (outcome.Refused (OfOp n refused.NoEntry)) = refl
+outcome-no_float call place (outcome.Refused (OfOp n refused.StaleRevision)) = refl
 outcome-no_float call place (outcome.Refused (OfOp n (refused.NoBundle domain))) = refl
+outcome-no_float call place (outcome.Refused (OfOp n refused.BundleInUse)) = refl
 outcome-no_float call place (outcome.Refused (OfOp n refused.NoAgent)) = refl
+outcome-no_float call place (outcome.Refused (Full limit.History)) = refl
+outcome-no_float call place (outcome.Refused (Full limit.Entries)) = refl
+outcome-no_float call place (outcome.Refused (Full limit.Agents)) = refl
+outcome-no_float call place (outcome.Refused (Full limit.Bundles)) = refl
 
 pub reply-no_float : (call : ℕ) (reply : Reply) → has_float (reply_data call reply) ≡ false
 reply-no_float call reply = outcome-no_float call reply.place reply.outcome

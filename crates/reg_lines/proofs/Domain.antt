@@ -1,6 +1,7 @@
 -- The batch that a line spells in a trust domain was made for that domain.
 use Rattle.std.proofs.Common.{◌≡◌, ℕ, List, Option, None, Some, Result, Ok, Err, refl, subst}
 use Rattle.std.specs.Prelude.{⊤, IfOk, codes, option_and_then, [], ◌∷◌}
+use Rattle.rand_chacha.specs.ChaCha.{ChaCha}
 use Rattle.entry_book.specs.Batches.{Batch, batch_refusal}
 use Rattle.entry_book.specs.declared.fault.BatchRefusal.{BatchRefusal}
 use Rattle.entry_book.specs.declared.op.Op.{Op}
@@ -9,53 +10,52 @@ use Rattle.serde_json.specs.Find.{get, as_array, as_object}
 use Rattle.reg_lines.specs.declared.fault.Fault.{Fault}
 use Rattle.reg_lines.specs.declared.request.Request.{Request}
 use Rattle.reg_lines.specs.declared.fault.Key.TheVariants as key
-use Rattle.reg_lines.specs.Fields.{◌>>=◌, required, no_others}
-use Rattle.reg_lines.specs.Requests.{unless_refused, batch_of, batch_in, ops_in, framed, value_in, object_in, spelled}
+use Rattle.reg_lines.specs.Fields.{◌>>=◌, required, tries_at, no_others}
+use Rattle.reg_lines.specs.Operations.{ops_in}
+use Rattle.reg_lines.specs.Requests.{unless_refused, batch_of, request_in, framed, value_in, object_in, spelled}
 
 -- what holds of each value that the second reader gives holds of what both give
 then_ok : {A B : Type 0} (P : B → Type 0) (r : Result A Fault) (f : A → Result B Fault) → ((x : A) → IfOk (f x) P) → IfOk (r >>= f) P
 then_ok P (Ok x) f h = h x
 then_ok P (Err e) f h = tt
 
-abbrev made_for : List ℕ → Batch → Type 0
-made_for domain batch = batch.domain ≡ domain
+abbrev Read : Type 0
+Read = Result (Request × ChaCha) Fault
 
-unless_refused-domain : (domain : List ℕ) (o : Option BatchRefusal) (ops : List Op) → IfOk (unless_refused o (record { domain = domain; ops = ops })) (made_for domain)
-unless_refused-domain domain None ops = refl
-unless_refused-domain domain (Some r) ops = tt
+abbrev made : List ℕ → Request × ChaCha → Type 0
+made domain read = read.0.batch.domain ≡ domain
 
-batch_in-domain : (domain : List ℕ) (d : Data) (ms : Members) → IfOk (batch_in domain d ms) (made_for domain)
-unfolding batch_in
-batch_in-domain domain d ms =
-    let P : Batch → Type 0 = made_for domain in
-    let from_ops : List Op → Result Batch Fault = λ ops. batch_of domain ops in
-    let from_items : Items → ⊤ → Result Batch Fault = λ items none. ops_in 0 items >>= from_ops in
-    let from_value : Items → Result Batch Fault = λ items. no_others (key.Ops ∷ []) ms >>= from_items items in
-    then_ok P (required key.Ops (option_and_then as_array (get (codes "ops") d))) from_value (λ items.
-    then_ok P (no_others (key.Ops ∷ []) ms) (from_items items) (λ none.
-    then_ok P (ops_in 0 items) from_ops (λ ops. unless_refused-domain domain (batch_refusal domain ops) ops)))
+abbrev request_of : ℕ → ChaCha → Batch → Read
+request_of tries ids batch = Ok (record { batch = batch; tries = tries }, ids)
 
-abbrev request_of : Batch → Result Request Fault
-request_of batch = Ok (record { batch = batch })
+unless_refused-domain : (domain : List ℕ) (o : Option BatchRefusal) (ops : List Op) (tries : ℕ) (ids : ChaCha)
+    → IfOk (unless_refused o (record { domain = domain; ops = ops }) >>= request_of tries ids) (made domain)
+unless_refused-domain domain None ops tries ids = refl
+unless_refused-domain domain (Some r) ops tries ids = tt
 
-abbrev made : List ℕ → Request → Type 0
-made domain request = made_for domain request.batch
+request_in-domain : (domain : List ℕ) (ids : ChaCha) (d : Data) (ms : Members) → IfOk (request_in domain ids d ms) (made domain)
+unfolding request_in
+request_in-domain domain ids d ms =
+    let from_ops : ℕ → List Op × ChaCha → Read = λ tries ops. batch_of domain ops.0 >>= request_of tries ops.1 in
+    let from_keys : Items → ℕ → ⊤ → Read = λ items tries none. ops_in 0 ids items >>= from_ops tries in
+    let from_tries : Items → ℕ → Read = λ items tries. no_others (key.Ops ∷ key.Tries ∷ []) ms >>= from_keys items tries in
+    let from_items : Items → Read = λ items. tries_at key.Tries d >>= from_tries items in
+    then_ok (made domain) (required key.Ops (option_and_then as_array (get (codes "ops") d))) from_items (λ items.
+    then_ok (made domain) (tries_at key.Tries d) (from_tries items) (λ tries.
+    then_ok (made domain) (no_others (key.Ops ∷ key.Tries ∷ []) ms) (from_keys items tries) (λ none.
+    then_ok (made domain) (ops_in 0 ids items) (from_ops tries) (λ ops. unless_refused-domain domain (batch_refusal domain ops.0) ops.0 tries ops.1))))
 
-in_request : (domain : List ℕ) (r : Result Batch Fault) → IfOk r (made_for domain) → IfOk (r >>= request_of) (made domain)
-in_request domain (Ok batch) h = h
-in_request domain (Err e) h = tt
-
-spelled-made : (domain line : List ℕ) → IfOk (spelled domain line) (made domain)
+spelled-made : (domain : List ℕ) (ids : ChaCha) (line : List ℕ) → IfOk (spelled domain ids line) (made domain)
 unfolding spelled
-spelled-made domain line =
-    let from_object : Data → Members → Result Request Fault = λ d ms. batch_in domain d ms >>= request_of in
-    let from_value : Data → Result Request Fault = λ d. object_in (as_object d) >>= from_object d in
-    let from_line : ⊤ → Result Request Fault = λ none. value_in line >>= from_value in
+spelled-made domain ids line =
+    let from_object : Data → Members → Read = λ d ms. request_in domain ids d ms in
+    let from_value : Data → Read = λ d. object_in (as_object d) >>= from_object d in
+    let from_line : ⊤ → Read = λ none. value_in line >>= from_value in
     then_ok (made domain) (framed line) from_line (λ none.
     then_ok (made domain) (value_in line) from_value (λ d.
-    then_ok (made domain) (object_in (as_object d)) (from_object d) (λ ms. in_request domain (batch_in domain d ms) (batch_in-domain domain d ms))))
+    then_ok (made domain) (object_in (as_object d)) (from_object d) (λ ms. request_in-domain domain ids d ms)))
 
-pub spelled-domain : (domain line : List ℕ) (request : Request) → spelled domain line ≡ Ok request → request.batch.domain ≡ domain
-spelled-domain domain line request e =
-    let P : Result Request Fault → Type 0 = λ r. IfOk r (made domain) in
-    subst P e (spelled-made domain line)
+pub spelled-domain : (domain : List ℕ) (ids after : ChaCha) (line : List ℕ) (request : Request) → spelled domain ids line ≡ Ok (request, after) → request.batch.domain ≡ domain
+spelled-domain domain ids after line request e =
+    let P : Read → Type 0 = λ r. IfOk r (made domain) in
+    subst P e (spelled-made domain ids line)

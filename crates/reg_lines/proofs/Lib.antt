@@ -1,4 +1,6 @@
 pub mod Known
+pub mod Draws
+pub mod SeedIds
 pub mod LinesLemmas
 pub mod FirstLf
 pub mod HeldLemmas
@@ -9,6 +11,7 @@ pub mod Items
 pub mod RunLemmas
 pub mod LinesLaw
 pub mod Front
+pub mod DomainSets
 pub mod Utf8
 pub mod Rows
 pub mod Domain

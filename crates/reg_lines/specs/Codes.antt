@@ -11,12 +11,21 @@ use Rattle.reg_lines.specs.declared.fault.Code.TheVariants as code
 
 abbrev pub key_name : Key → List ℕ
 key_name key.Ops = codes "ops"
+key_name key.Tries = codes "tries"
 key_name key.Op = codes "op"
 key_name key.Id = codes "id"
 key_name key.Parent = codes "parent"
 key_name key.Identity = codes "identity"
 key_name key.Selectors = codes "selectors"
+key_name key.Hint = codes "hint"
+key_name key.Domains = codes "domains"
+key_name key.Expiry = codes "expiry"
+key_name key.Revision = codes "revision"
 key_name key.Agent = codes "agent"
+key_name key.Domain = codes "domain"
+key_name key.Before = codes "before"
+key_name key.Text = codes "text"
+key_name key.Mode = codes "mode"
 
 abbrev pub field_text : Field → List ℕ
 field_text (field.Known k) = key_name k

@@ -1,20 +1,26 @@
 -- What a value spells at its keys: a small reader for each kind of key, with the fault that it may find. A reader's lines stand in the order in which faults are looked for.
-use Rattle.std.specs.Prelude.{◌≡◌, ℕ, List, [], ◌∷◌, Option, Some, None, Result, Ok, Err, ⊤, Bool, option_and_then, bytes_eq, if◌then◌else◌}
+use Rattle.std.specs.Prelude.{◌≡◌, ℕ, List, [], ◌∷◌, Option, Some, None, Result, Ok, Err, ⊤, Bool, ◌&&◌, not, nat_lt, is_some, option_and_then, unwrap_or, bytes_eq, codes, if◌then◌else◌}
 use Rattle.std.specs.List.{list_any}
 use Rattle.serde_json.specs.Data.{Data, Items, no_items, item, Members, no_members, member}
-use Rattle.serde_json.specs.Find.{get, as_str, as_array}
+use Rattle.serde_json.specs.Find.{get, as_null, as_number, as_str, as_array, as_u64}
 use Rattle.uuid.specs.Text.{parsed}
 use Rattle.spiffe_name.specs.declared.refusals.Failure.{Failure}
 use Rattle.spiffe_name.specs.declared.refusals.Failure.TheVariants.{NoMemory, Refused}
+use Rattle.spiffe_name.specs.Domain.{domain_refusal}
 use Rattle.spiffe_name.specs.Id.{id_refusal}
 use Rattle.spiffe_name.specs.Selector.{SelectorPair, pair_of, selector_refusal}
 use Rattle.spiffe_name.specs.SelectorSet.{set_of}
+use Rattle.entry_book.specs.Order.{with_row}
+use Rattle.entry_book.specs.declared.mode.DropMode.{DropMode}
+use Rattle.entry_book.specs.declared.mode.DropMode.TheVariants.{Restrict, Delete, Dissociate}
+use Rattle.rand_chacha.specs.ChaCha.{ChaCha}
 use Rattle.reg_lines.specs.declared.fault.Code.{Code}
 use Rattle.reg_lines.specs.declared.fault.Code.TheVariants as code
 use Rattle.reg_lines.specs.declared.fault.Fault.{Fault}
 use Rattle.reg_lines.specs.declared.fault.Field.TheVariants.{Known, Unknown}
 use Rattle.reg_lines.specs.declared.fault.Key.{Key}
 use Rattle.reg_lines.specs.Codes.{key_name}
+use Rattle.reg_lines.specs.Ids.{given_or_drawn}
 
 -- What a call answered, seen by view, is what is spelled; where memory was wanting nothing is said of it.
 abbrev pub Fails : {Y : Type 0} → Failure Fault → Result Y Fault → Type 0
@@ -53,27 +59,102 @@ abbrev pub coded : {R : Type 0} → (R → Code) → Option R → Option Code
 coded f None = None
 coded f (Some r) = Some (f r)
 
+-- what stands at an optional key: null counts as absent
+abbrev pub unless_null : Data → Option Data
+unless_null d = if is_some (as_null d) then None else Some d
+
+abbrev pub given_at : Key → Data → Option Data
+given_at key d = option_and_then unless_null (get (key_name key) d)
+
+abbrev pub optional : {A : Type 0} → (Data → Result A Fault) → Option Data → Result (Option A) Fault
+optional read None = Ok None
+optional read (Some d) = read d >>= (λ x. Ok (Some x))
+
+-- ---- texts
+
+unfoldable pub text_in : Key → Data → Result (List ℕ) Fault
+text_in key d = required key (as_str d)
+
 unfoldable pub text_at : Key → Data → Result (List ℕ) Fault
 text_at key d = required key (option_and_then as_str (get (key_name key) d))
+
+unfoldable pub optional_text_at : Key → Data → Result (Option (List ℕ)) Fault
+optional_text_at key d = optional (text_in key) (given_at key d)
+
+-- what becomes of the entries that name a bundle
+abbrev pub mode_of : List ℕ → Option DropMode
+mode_of text =
+    if bytes_eq text (codes "restrict") then Some Restrict else (
+    if bytes_eq text (codes "delete") then Some Delete else (
+    if bytes_eq text (codes "dissociate") then Some Dissociate else
+    None))
+
+unfoldable pub mode_in : Key → Data → Result DropMode Fault
+mode_in key d = required key (option_and_then mode_of (as_str d))
+
+unfoldable pub optional_mode_at : Key → Data → Result (Option DropMode) Fault
+optional_mode_at key d = optional (mode_in key) (given_at key d)
+
+-- ---- whole numbers
+
+unfoldable pub number_in : Key → Data → Result ℕ Fault
+number_in key d = required key (option_and_then as_u64 (as_number d))
+
+unfoldable pub number_at : Key → Data → Result ℕ Fault
+number_at key d = required key (option_and_then as_u64 (option_and_then as_number (get (key_name key) d)))
+
+unfoldable pub optional_number_at : Key → Data → Result (Option ℕ) Fault
+optional_number_at key d = optional (number_in key) (given_at key d)
+
+-- how often a batch may be tried: 1 to 16, once by default
+abbrev pub tries_of : Key → ℕ → Result ℕ Fault
+tries_of key n = if nat_lt 0 n && not (nat_lt 16 n) then Ok n else at_key code.Field key
+
+unfoldable pub tries_at : Key → Data → Result ℕ Fault
+tries_at key d = do
+  number ← optional_number_at key d
+  tries_of key (unwrap_or number 1)
+
+-- ---- names
 
 unfoldable pub id_at : Key → Data → Result (List ℕ) Fault
 id_at key d = do
   text ← text_at key d
   unless (coded code.Id (id_refusal text)) key text
 
-abbrev pub uuid_in : Key → Option (List ℕ) → Result (List ℕ) Fault
-uuid_in key None = at_key code.NotUuid key
-uuid_in key (Some id) = Ok id
+abbrev pub domain_of : Key → List ℕ → Result (List ℕ) Fault
+domain_of key text = unless (coded code.Id (domain_refusal text)) key text
+
+unfoldable pub domain_at : Key → Data → Result (List ℕ) Fault
+domain_at key d = do
+  text ← text_at key d
+  domain_of key text
+
+abbrev pub uuid_of : Key → Option (List ℕ) → Result (List ℕ) Fault
+uuid_of key None = at_key code.NotUuid key
+uuid_of key (Some id) = Ok id
+
+unfoldable pub uuid_in : Key → Data → Result (List ℕ) Fault
+uuid_in key d = do
+  text ← text_in key d
+  uuid_of key (parsed text)
 
 unfoldable pub uuid_at : Key → Data → Result (List ℕ) Fault
 uuid_at key d = do
   text ← text_at key d
-  uuid_in key (parsed text)
+  uuid_of key (parsed text)
 
--- a list is looked at item by item
+-- the id at the key, or one that is drawn, and what is left of the ids
+unfoldable pub new_uuid_at : ChaCha → Key → Data → Result (List ℕ × ChaCha) Fault
+new_uuid_at ids key d = do
+  given ← optional (uuid_in key) (given_at key d)
+  Ok (given_or_drawn given ids)
+
+-- ---- lists are looked at item by item
+
 unfoldable pub selector_in : Key → Data → Result SelectorPair Fault
 selector_in key d = do
-  text ← required key (as_str d)
+  text ← text_in key d
   unless (coded code.Selector (selector_refusal text)) key (pair_of text)
 
 abbrev pub selectors_in : Key → Items → Result (List SelectorPair) Fault
@@ -89,6 +170,35 @@ selectors_at key d = do
   items ← required key (option_and_then as_array (get (key_name key) d))
   selectors ← selectors_in key items
   Ok (set_of selectors)
+
+unfoldable pub domain_in : Key → Data → Result (List ℕ) Fault
+domain_in key d = do
+  text ← text_in key d
+  domain_of key text
+
+abbrev pub domains_in : Key → Items → Result (List (List ℕ)) Fault
+domains_in key no_items = Ok []
+domains_in key (item d ds) = do
+  domain ← domain_in key d
+  domains ← domains_in key ds
+  Ok (domain ∷ domains)
+
+-- the set of the trust domains of a list: each once, in the order of their bytes
+abbrev pub domain_set : List (List ℕ) → List (List ℕ)
+domain_set [] = []
+domain_set (domain ∷ domains) = with_row (λ d. d) domain (Some domain) (domain_set domains)
+
+-- the set of the trust domains that are listed, none by default
+unfoldable pub domain_set_in : Key → Data → Result (List (List ℕ)) Fault
+domain_set_in key d = do
+  items ← required key (as_array d)
+  domains ← domains_in key items
+  Ok (domain_set domains)
+
+unfoldable pub optional_domains_at : Key → Data → Result (Option (List (List ℕ))) Fault
+optional_domains_at key d = optional (domain_set_in key) (given_at key d)
+
+-- ---- no other keys
 
 abbrev pub is_one_of : List Key → List ℕ → Bool
 is_one_of keys name = list_any (λ key. bytes_eq (key_name key) name) keys

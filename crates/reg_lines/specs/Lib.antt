@@ -5,7 +5,9 @@ pub mod Json
 pub mod Runs
 pub mod Numbered
 pub mod Codes
+pub mod Ids
 pub mod Fields
+pub mod Operations
 pub mod Requests
 pub mod Refusals
 pub mod Replies

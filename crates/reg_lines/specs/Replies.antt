@@ -5,6 +5,7 @@ use Rattle.spiffe_name.specs.Selector.{SelectorPair, selector_text}
 use Rattle.entry_book.specs.Codes.{refusal_code, refusal_op}
 use Rattle.entry_book.specs.Rows.{Entry}
 use Rattle.entry_book.specs.declared.agent.Agent.{Agent}
+use Rattle.entry_book.specs.declared.bundle.Bundle.{Bundle}
 use Rattle.entry_book.specs.declared.reply.OpRefusal.{OpRefusal}
 use Rattle.entry_book.specs.declared.reply.OpRefusal.TheVariants as refused
 use Rattle.entry_book.specs.declared.reply.OpReply.{OpReply}
@@ -12,9 +13,9 @@ use Rattle.entry_book.specs.declared.reply.OpReply.TheVariants as replied
 use Rattle.entry_book.specs.declared.reply.Outcome.{Outcome}
 use Rattle.entry_book.specs.declared.reply.Outcome.TheVariants as outcome
 use Rattle.entry_book.specs.declared.reply.Refusal.{Refusal}
-use Rattle.entry_book.specs.declared.reply.Refusal.TheVariants.{OfOp}
+use Rattle.entry_book.specs.declared.reply.Refusal.TheVariants.{Full, OfOp}
 use Rattle.entry_book.specs.declared.reply.Reply.{Reply}
-use Rattle.reg_lines.specs.Json.{list_json, text_json}
+use Rattle.reg_lines.specs.Json.{list_json, option_json, text_json}
 use Rattle.reg_lines.specs.Refusals.{op_member}
 
 -- ---- names and rows
@@ -47,16 +48,38 @@ agent_json a =
     ++ codes ",\"selectors\":" ++ list_json selector_json a.selectors
     ++ codes "}"
 
+unfoldable pub bundle_json : Bundle → List ℕ
+bundle_json b =
+    codes "{\"domain\":" ++ text_json b.domain
+    ++ codes ",\"sequence\":" ++ decimal b.sequence
+    ++ codes ",\"text\":" ++ text_json b.text
+    ++ codes "}"
+
 -- ---- the reply to an operation
 
 -- an object with one key
 unfoldable pub under : List ℕ → List ℕ → List ℕ
 under key text = codes "{" ++ text_json key ++ codes ":" ++ text ++ codes "}"
 
+-- what was dropped with a bundle: the ids that were deleted, and those that were dissociated
+unfoldable pub dropped_json : List (List ℕ) → List (List ℕ) → List ℕ
+dropped_json deleted dissociated =
+    codes "{\"deleted\":" ++ list_json uuid_json deleted
+    ++ codes ",\"dissociated\":" ++ list_json uuid_json dissociated
+    ++ codes "}"
+
+-- an object whose first key says of what kind the reply is; a row that isn't there is null
 abbrev pub op_reply_json : OpReply → List ℕ
 op_reply_json (replied.Entry e) = under (codes "entry") (entry_json e)
+op_reply_json (replied.EntryShown e) = under (codes "entry") (option_json entry_json e)
 op_reply_json (replied.Entries es) = under (codes "entries") (list_json entry_json es)
 op_reply_json (replied.Agent a) = under (codes "agent") (agent_json a)
+op_reply_json (replied.AgentShown a) = under (codes "agent") (option_json agent_json a)
+op_reply_json (replied.Bundle b) = under (codes "bundle") (bundle_json b)
+op_reply_json (replied.BundleShown b) = under (codes "bundle") (option_json bundle_json b)
+op_reply_json (replied.Bundles bs) = under (codes "bundles") (list_json bundle_json bs)
+op_reply_json (replied.Pruned ids) = under (codes "pruned") (list_json uuid_json ids)
+op_reply_json (replied.Dropped deleted dissociated) = dropped_json deleted dissociated
 
 -- ---- the reply to a batch, with its call number
 
@@ -72,12 +95,17 @@ done_json call place replies result =
 abbrev pub op_detail_member : OpRefusal → List ℕ
 op_detail_member refused.IdTaken = []
 op_detail_member (refused.Similar id) = codes ",\"detail\":" ++ uuid_json id
+op_detail_member refused.NoEntry = []
+op_detail_member refused.StaleRevision = []
 op_detail_member (refused.NoBundle domain) = codes ",\"detail\":" ++ text_json domain
+op_detail_member refused.BundleInUse = []
 op_detail_member refused.NoAgent = []
 
 abbrev pub detail_member : Refusal → List ℕ
 detail_member (OfOp n r) = op_detail_member r
+detail_member (Full limit) = []
 
+-- where a limit is passed it belongs to no single operation: neither `detail` nor `op`
 unfoldable pub refused_json : ℕ → ℕ → Refusal → List ℕ
 refused_json call place r =
     codes "{\"call\":" ++ decimal call

@@ -1,6 +1,6 @@
 -- The JSON value that each printed line is, and the law that it is printed as that value's compact text. `put` keeps the keys of an object in ascending order of their bytes.
 use Rattle.std.specs.Prelude.{◌≡◌, ℕ, false, List, map, codes, Option, None, Some}
-use Rattle.serde_json.specs.Data.{Data, object, array, string, number, unsigned, Members, put, no_members}
+use Rattle.serde_json.specs.Data.{Data, null, object, array, string, number, unsigned, Members, put, no_members}
 use Rattle.serde_json.specs.View.{items_of}
 use Rattle.serde_json.specs.Written.{compact_text, has_float}
 use Rattle.spiffe_name.specs.Selector.{SelectorPair, selector_text}
@@ -9,6 +9,7 @@ use Rattle.spiffe_name.specs.declared.refusals.Failure.TheVariants.{NoMemory, Re
 use Rattle.entry_book.specs.Codes.{refusal_code, refusal_op}
 use Rattle.entry_book.specs.Rows.{Entry}
 use Rattle.entry_book.specs.declared.agent.Agent.{Agent}
+use Rattle.entry_book.specs.declared.bundle.Bundle.{Bundle}
 use Rattle.entry_book.specs.declared.reply.OpRefusal.{OpRefusal}
 use Rattle.entry_book.specs.declared.reply.OpRefusal.TheVariants as refused
 use Rattle.entry_book.specs.declared.reply.OpReply.{OpReply}
@@ -16,7 +17,7 @@ use Rattle.entry_book.specs.declared.reply.OpReply.TheVariants as replied
 use Rattle.entry_book.specs.declared.reply.Outcome.{Outcome}
 use Rattle.entry_book.specs.declared.reply.Outcome.TheVariants as outcome
 use Rattle.entry_book.specs.declared.reply.Refusal.{Refusal}
-use Rattle.entry_book.specs.declared.reply.Refusal.TheVariants.{OfOp}
+use Rattle.entry_book.specs.declared.reply.Refusal.TheVariants.{Full, OfOp}
 use Rattle.entry_book.specs.declared.reply.Reply.{Reply}
 use Rattle.reg_lines.specs.declared.fault.Fault.{Fault}
 use Rattle.reg_lines.specs.declared.fault.Field.{Field}
@@ -31,6 +32,14 @@ whole n = number (unsigned n)
 abbrev pub list_data : {A : Type 0} → (A → Data) → List A → Data
 list_data f xs = array (items_of (map f xs))
 
+-- a value, or null
+abbrev pub option_data : {A : Type 0} → (A → Data) → Option A → Data
+option_data f None = null
+option_data f (Some x) = f x
+
+abbrev pub uuid_data : List ℕ → Data
+uuid_data id = string (uuid_text id)
+
 abbrev pub selector_data : SelectorPair → Data
 selector_data s = string (selector_text s)
 
@@ -39,7 +48,7 @@ entry_data e = object (
     put (codes "domains") (list_data string e.domains) (
     put (codes "expiry") (whole e.expiry) (
     put (codes "hint") (string e.hint) (
-    put (codes "id") (string (uuid_text e.id)) (
+    put (codes "id") (uuid_data e.id) (
     put (codes "identity") (string e.identity) (
     put (codes "parent") (string e.parent) (
     put (codes "revision") (whole e.revision) (
@@ -52,10 +61,30 @@ agent_data a = object (
     put (codes "selectors") (list_data selector_data a.selectors)
     no_members))
 
+abbrev pub bundle_data : Bundle → Data
+bundle_data b = object (
+    put (codes "domain") (string b.domain) (
+    put (codes "sequence") (whole b.sequence) (
+    put (codes "text") (string b.text)
+    no_members)))
+
+abbrev pub dropped_data : List (List ℕ) → List (List ℕ) → Data
+dropped_data deleted dissociated = object (
+    put (codes "deleted") (list_data uuid_data deleted) (
+    put (codes "dissociated") (list_data uuid_data dissociated)
+    no_members))
+
 abbrev pub op_reply_data : OpReply → Data
 op_reply_data (replied.Entry e) = object (put (codes "entry") (entry_data e) no_members)
+op_reply_data (replied.EntryShown e) = object (put (codes "entry") (option_data entry_data e) no_members)
 op_reply_data (replied.Entries es) = object (put (codes "entries") (list_data entry_data es) no_members)
 op_reply_data (replied.Agent a) = object (put (codes "agent") (agent_data a) no_members)
+op_reply_data (replied.AgentShown a) = object (put (codes "agent") (option_data agent_data a) no_members)
+op_reply_data (replied.Bundle b) = object (put (codes "bundle") (bundle_data b) no_members)
+op_reply_data (replied.BundleShown b) = object (put (codes "bundle") (option_data bundle_data b) no_members)
+op_reply_data (replied.Bundles bs) = object (put (codes "bundles") (list_data bundle_data bs) no_members)
+op_reply_data (replied.Pruned ids) = object (put (codes "pruned") (list_data uuid_data ids) no_members)
+op_reply_data (replied.Dropped deleted dissociated) = dropped_data deleted dissociated
 
 abbrev pub done_data : ℕ → ℕ → List OpReply → List ℕ → Data
 done_data call place replies result = object (
@@ -73,11 +102,15 @@ if_due key f (Some x) ms = put key (f x) ms
 abbrev pub op_detail : OpRefusal → Option (List ℕ)
 op_detail refused.IdTaken = None
 op_detail (refused.Similar id) = Some (uuid_text id)
+op_detail refused.NoEntry = None
+op_detail refused.StaleRevision = None
 op_detail (refused.NoBundle domain) = Some domain
+op_detail refused.BundleInUse = None
 op_detail refused.NoAgent = None
 
 abbrev pub detail : Refusal → Option (List ℕ)
 detail (OfOp n r) = op_detail r
+detail (Full limit) = None
 
 abbrev pub refused_data : ℕ → ℕ → Refusal → Data
 refused_data call place r = object (

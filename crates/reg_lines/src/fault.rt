@@ -11,6 +11,8 @@ use spiffe_name::{IdRefusal, SelectorRefusal};
 pub enum Key {
     /// The operations of a batch.
     Ops,
+    /// How often a batch may be tried.
+    Tries,
     /// Which operation an object is.
     Op,
     /// An entry's key.
@@ -21,8 +23,24 @@ pub enum Key {
     Identity,
     /// The selectors of an entry or an agent.
     Selectors,
+    /// A text for the workload's own use.
+    Hint,
+    /// The trust domains whose bundles a workload is given.
+    Domains,
+    /// When an entry expires.
+    Expiry,
+    /// The revision that an entry is expected to have.
+    Revision,
     /// An agent's ID.
     Agent,
+    /// A trust domain.
+    Domain,
+    /// The moment before which entries are expired.
+    Before,
+    /// A bundle's text.
+    Text,
+    /// What becomes of the entries that name a dropped bundle.
+    Mode,
 }
 
 impl Key {
@@ -32,12 +50,21 @@ impl Key {
     {
         match self {
             Key::Ops => "ops",
+            Key::Tries => "tries",
             Key::Op => "op",
             Key::Id => "id",
             Key::Parent => "parent",
             Key::Identity => "identity",
             Key::Selectors => "selectors",
+            Key::Hint => "hint",
+            Key::Domains => "domains",
+            Key::Expiry => "expiry",
+            Key::Revision => "revision",
             Key::Agent => "agent",
+            Key::Domain => "domain",
+            Key::Before => "before",
+            Key::Text => "text",
+            Key::Mode => "mode",
         }
     }
 }
@@ -78,7 +105,7 @@ pub enum Code {
     Field,
     /// A text is no UUID.
     NotUuid,
-    /// A text is no SPIFFE ID.
+    /// A text is no SPIFFE ID, or no trust domain.
     Id(IdRefusal),
     /// A text is no selector.
     Selector(SelectorRefusal),

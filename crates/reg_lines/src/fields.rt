@@ -1,20 +1,28 @@
 //! What does a value spell at its keys?
 //!
-//! A reader for each kind of key. Each answers the value, or the first fault, as the definition of its name says.
+//! A reader for each kind of key. Each answers the value, or the first fault, as the definition of its name says. What
+//! ends in `_in` reads a value for a key, what ends in `_at` the value at the key.
 
 ghost use Rattle.std.specs.Prelude.{◌≡◌, None, Some, option_map};
 ghost use Rattle.serde_json.specs.Find.{get};
-ghost use Rattle.serde_json.specs.View.{items_view, members_view, view};
+ghost use Rattle.serde_json.specs.View.{members_view, view};
 ghost use Rattle.spiffe_name.specs.declared.refusals.Failure.TheVariants.{Refused};
 ghost use Rattle.reg_lines.specs.Codes.{key_name};
-ghost use Rattle.reg_lines.specs.Fields.{Gives, id_at, is_one_of, no_others, selector_in, selectors_at, selectors_in, text_at, uuid_at};
+ghost use Rattle.reg_lines.specs.Fields.{Gives, given_at, is_one_of, no_others};
+
+mod lists;
+mod names;
+mod numbers;
+mod texts;
 
 use crate::fault::{Code, Fault, Field, Key};
-use entry_book::{Sequence, Text};
+use entry_book::Text;
+pub(crate) use lists::{optional_domains_at, selectors_at};
+pub(crate) use names::{domain_at, id_at, new_uuid_at, uuid_at};
+pub(crate) use numbers::{number_at, optional_number_at, tries_at};
 use serde_json::{Map, Value};
-use spiffe_name::{Failure, Selector, SelectorSet, SpiffeId};
-use std::alloc::Global;
-use uuid::Uuid;
+use spiffe_name::Failure;
+pub(crate) use texts::{optional_mode_at, optional_text_at, text_at};
 
 /// A fault of the line as a whole.
 pub(crate) fn at_line(code: Code) -> Failure<Fault>
@@ -45,86 +53,15 @@ pub(crate) fn value_at(object: &Value, key: Key) -> Option<&Value>
     object.get(key.name())
 }
 
-/// The text at the key.
-#[tactic(auto, unfolding(crate::specs::Fields::text_at))]
-pub(crate) fn text_at(object: &Value, key: Key) -> Result<&str, Failure<Fault>>
-    ensures { Gives (λ s. s.now) result (text_at key (view object.now)) }
+/// The value at an optional key of an object, where null counts as absent.
+fn given_at(object: &Value, key: Key) -> Option<&Value>
+    ensures { option_map (λ v. view v.now) result ≡ given_at key (view object.now) }
 {
-    match value_at(object, key).and_then(Value::as_str) {
-        Some(text) => Ok(text),
-        None => Err(at_key(Code::Field, key)),
+    let value = value_at(object, key)?;
+    if value.is_null() {
+        return None;
     }
-}
-
-/// The SPIFFE ID at the key.
-#[tactic(auto, unfolding(crate::specs::Fields::id_at))]
-pub(crate) fn id_at(alloc: Global, object: &Value, key: Key) -> Result<SpiffeId, Failure<Fault>>
-    ensures { Gives (λ id. id) result (id_at key (view object.now)) }
-{
-    let text = text_at(object, key)?;
-    match SpiffeId::parse(alloc, text) {
-        Ok(id) => Ok(id),
-        Err(Failure::NoMemory) => Err(Failure::NoMemory),
-        Err(Failure::Refused(refusal)) => Err(at_key(Code::Id(refusal), key)),
-    }
-}
-
-/// The UUID at the key.
-#[tactic(auto, unfolding(crate::specs::Fields::uuid_at))]
-pub(crate) fn uuid_at(object: &Value, key: Key) -> Result<Uuid, Failure<Fault>>
-    ensures { Gives (λ id. id) result (uuid_at key (view object.now)) }
-{
-    let text = text_at(object, key)?;
-    match Uuid::parse_str(text) {
-        Ok(id) => Ok(id),
-        Err(_) => Err(at_key(Code::NotUuid, key)),
-    }
-}
-
-/// The selector that an item of the key's list is.
-#[tactic(auto, unfolding(crate::specs::Fields::selector_in))]
-fn selector_in(alloc: Global, item: &Value, key: Key) -> Result<Selector, Failure<Fault>>
-    ensures { Gives (λ selector. selector) result (selector_in key (view item.now)) }
-{
-    let Some(text) = item.as_str() else {
-        return Err(at_key(Code::Field, key));
-    };
-    match Selector::parse(alloc, text) {
-        Ok(selector) => Ok(selector),
-        Err(Failure::NoMemory) => Err(Failure::NoMemory),
-        Err(Failure::Refused(refusal)) => Err(at_key(Code::Selector(refusal), key)),
-    }
-}
-
-/// The selectors that the items of the key's list are.
-fn selectors_in(
-    alloc: Global,
-    items: &[Value],
-    key: Key,
-) -> Result<Sequence<Selector>, Failure<Fault>>
-    ensures { Gives (λ selectors. selectors) result (selectors_in key (items_view items.now)) }
-{
-    let mut selectors = Sequence::empty(alloc);
-    for item in items {
-        selectors.push(selector_in(alloc, item, key)?)?;
-    }
-    Ok(selectors)
-}
-
-/// The set of the selectors that are listed at the key.
-#[tactic(auto, unfolding(crate::specs::Fields::selectors_at))]
-pub(crate) fn selectors_at(
-    alloc: Global,
-    object: &Value,
-    key: Key,
-) -> Result<SelectorSet, Failure<Fault>>
-    ensures { Gives (λ set. set) result (selectors_at key (view object.now)) }
-{
-    let Some(items) = value_at(object, key).and_then(Value::as_array) else {
-        return Err(at_key(Code::Field, key));
-    };
-    let selectors = selectors_in(alloc, items, key)?;
-    Ok(SelectorSet::of(selectors.into_vec())?)
+    Some(value)
 }
 
 /// Is this the name of one of the keys?

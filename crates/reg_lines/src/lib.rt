@@ -13,16 +13,19 @@
 //!   taking memory: [`print_text`], [`print_number`], [`print_list`], [`print_line`].
 //! - [`read_request`] says which [`Request`] a line spells, or why it spells none: a [`LineRefusal`] with the line's
 //!   number and the first [`Fault`] found, or want of memory. One definition, `spelled`, says both.
+//! - [`Ids`] gives ids to entries that come without one; [`ids_law`] says which words of its stream they are made of.
 //! - A [`LineRefusal`], and a book's reply with its call number, a [`CallReply`], are printed as lines; [`printed_law`]
 //!   says which JSON values these lines are.
 //!
 //! [`lines_law`] says what the lines of bytes are; [`KEPT_BYTES`] and [`most_lines`] are the limits.
 #![tactic(auto)]
 
+mod book_rows;
 mod counted;
 mod fault;
 mod fields;
 mod held;
+mod ids;
 mod input;
 mod limits;
 mod line;
@@ -42,6 +45,7 @@ mod waiting;
 
 pub use counted::Counted;
 pub use fault::{Code, Fault, Field, Key};
+pub use ids::{Ids, ids_law};
 pub use input::Input;
 pub use limits::{KEPT_BYTES, most_lines};
 pub use line::Line;

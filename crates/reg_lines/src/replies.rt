@@ -1,7 +1,7 @@
 //! Which line prints the reply to a batch?
 
 ghost use Rattle.std.specs.Prelude.{◌++◌, codes};
-ghost use Rattle.reg_lines.specs.Replies.{agent_json, detail_member, done_json, entry_json, op_detail_member, op_reply_json, refused_json, reply_json, under};
+ghost use Rattle.reg_lines.specs.Replies.{detail_member, done_json, dropped_json, op_detail_member, op_reply_json, refused_json, reply_json, under};
 ghost use Rattle.reg_lines.specs.Stream.{Puts};
 
 use crate::output::Output;
@@ -9,54 +9,27 @@ use crate::printing::{PrintJson, print_list, print_number};
 use crate::refusal::put_op;
 use crate::sink::Sink;
 use crate::text::print_text;
-use entry_book::{Agent, Entry, OpRefusal, OpReply, Outcome, Refusal, Reply};
+use entry_book::{OpRefusal, OpReply, Outcome, Refusal, Reply};
+use uuid::Uuid;
 
-/// The eight fields, in the order of their keys' bytes.
-impl PrintJson for Entry {
-    ghost text = { entry_json };
-
-    fn print_to<S: Sink>(&self, output: &mut Output<S>) {
-        output.put(b"{\"domains\":");
-        self.domains().print_to(output);
-        output.put(b",\"expiry\":");
-        print_number(self.expiry(), output);
-        output.put(b",\"hint\":");
-        self.hint().print_to(output);
-        output.put(b",\"id\":");
-        self.id().print_to(output);
-        output.put(b",\"identity\":");
-        self.identity().print_to(output);
-        output.put(b",\"parent\":");
-        self.parent().print_to(output);
-        output.put(b",\"revision\":");
-        print_number(self.revision(), output);
-        output.put(b",\"selectors\":");
-        self.selectors().print_to(output);
-        output.put(b"}");
-    }
-}
-
-impl PrintJson for Agent {
-    ghost text = { agent_json };
-
-    fn print_to<S: Sink>(&self, output: &mut Output<S>) {
-        output.put(b"{\"id\":");
-        self.id.print_to(output);
-        output.put(b",\"selectors\":");
-        self.selectors.print_to(output);
-        output.put(b"}");
-    }
-}
-
-/// An object with one key, which says what kind of reply it is.
+/// An object whose first key says what kind of reply it is. A row that isn't there is `null`.
 impl PrintJson for OpReply {
     ghost text = { op_reply_json };
 
     fn print_to<S: Sink>(&self, output: &mut Output<S>) {
         match self {
             OpReply::Entry(entry) => print_under("entry", entry, output),
+            OpReply::EntryShown(entry) => print_under("entry", entry, output),
             OpReply::Entries(entries) => print_under("entries", entries, output),
             OpReply::Agent(agent) => print_under("agent", agent, output),
+            OpReply::AgentShown(agent) => print_under("agent", agent, output),
+            OpReply::Bundle(bundle) => print_under("bundle", bundle, output),
+            OpReply::BundleShown(bundle) => print_under("bundle", bundle, output),
+            OpReply::Bundles(bundles) => print_under("bundles", bundles, output),
+            OpReply::Pruned(ids) => print_under("pruned", ids, output),
+            OpReply::Dropped(deleted, dissociated) => {
+                print_dropped(deleted.as_slice(), dissociated.as_slice(), output);
+            }
         }
     }
 }
@@ -69,6 +42,17 @@ fn print_under<T: PrintJson, S: Sink>(key: &str, value: &T, output: &mut Output<
     print_text(key, output);
     output.put(b":");
     value.print_to(output);
+    output.put(b"}");
+}
+
+/// Prints the ids of the entries that were deleted with a bundle, and of those that were dissociated.
+fn print_dropped<S: Sink>(deleted: &[Uuid], dissociated: &[Uuid], output: &mut Output<S>)
+    ensures { Puts output.old output.new (dropped_json deleted.now dissociated.now) }
+{
+    output.put(b"{\"deleted\":");
+    print_list(deleted, output);
+    output.put(b",\"dissociated\":");
+    print_list(dissociated, output);
     output.put(b"}");
 }
 
@@ -140,6 +124,7 @@ fn put_detail<S: Sink>(refusal: &Refusal, output: &mut Output<S>)
 {
     match refusal {
         Refusal::OfOp(_, refusal) => put_op_detail(refusal, output),
+        Refusal::Full(_) => {}
     }
 }
 
@@ -150,7 +135,10 @@ fn put_op_detail<S: Sink>(refusal: &OpRefusal, output: &mut Output<S>)
     match refusal {
         OpRefusal::IdTaken => {}
         OpRefusal::Similar(id) => put_detail_of(id, output),
+        OpRefusal::NoEntry => {}
+        OpRefusal::StaleRevision => {}
         OpRefusal::NoBundle(domain) => put_detail_of(domain, output),
+        OpRefusal::BundleInUse => {}
         OpRefusal::NoAgent => {}
     }
 }

@@ -1,14 +1,15 @@
 //! Which request does a line spell?
 
-ghost use Rattle.std.specs.Prelude.{◌≡◌, IfOk, MatchResult, length};
+ghost use Rattle.std.specs.Prelude.{◌≡◌, IfOk, MatchResult, OnErr, length};
 ghost use Rattle.std.specs.Io.BufRead.{ends_with_byte, strip_last};
 ghost use Rattle.serde_json.specs.Find.{as_object};
 ghost use Rattle.serde_json.specs.View.{members_view, view};
 ghost use Rattle.reg_lines.specs.Fields.{Fails, Gives};
-ghost use Rattle.reg_lines.specs.Requests.{batch_in, batch_of, framed, object_in, spelled, value_in};
+ghost use Rattle.reg_lines.specs.Requests.{batch_of, framed, object_in, request_in, spelled, value_in};
 
 use crate::fault::{Code, Fault, Key};
-use crate::fields::{at_key, at_line, no_others, value_at};
+use crate::fields::{at_key, at_line, no_others, tries_at, value_at};
+use crate::ids::Ids;
 use crate::ops::ops_in;
 use crate::refusal::LineRefusal;
 use entry_book::{Batch, Op, Sequence};
@@ -24,6 +25,8 @@ const LINE_LIMIT: usize = 1_048_576;
 pub struct Request {
     /// The batch that is to be run.
     pub batch: Batch,
+    /// How often it may be tried, 1 to 16.
+    pub tries: u64,
 }
 
 fn ends_with_lf(line: &[u8]) -> bool
@@ -99,51 +102,77 @@ fn batch_of(domain: &TrustDomain, ops: Sequence<Op>) -> Result<Batch, Failure<Fa
     }
 }
 
-/// The batch that an object spells.
-#[tactic(auto, unfolding(crate::specs::Requests::batch_in))]
-fn batch_in(
+/// The request that an object spells.
+#[tactic(auto, unfolding(crate::specs::Requests::request_in))]
+fn request_in(
     alloc: Global,
     domain: &TrustDomain,
+    ids: &mut Ids,
     object: &Value,
     members: &Map<String, Value>,
-) -> Result<Batch, Failure<Fault>>
-    ensures { Gives (λ batch. batch) result
-        (batch_in domain.now (view object.now) (members_view members.now.entries)) }
+) -> Result<Request, Failure<Fault>>
+    ensures { Gives (λ request. (request, ids.new)) result
+        (request_in domain.now ids.old (view object.now) (members_view members.now.entries)) }
 {
     let Some(items) = value_at(object, Key::Ops).and_then(Value::as_array) else {
         return Err(at_key(Code::Field, Key::Ops));
     };
-    no_others(members, &[Key::Ops])?;
-    let ops = ops_in(alloc, items)?;
-    batch_of(domain, ops)
+    let tries = tries_at(object, Key::Tries)?;
+    no_others(members, &[Key::Ops, Key::Tries])?;
+    let ops = ops_in(alloc, ids, items)?;
+    let batch = batch_of(domain, ops)?;
+    Ok(Request { batch, tries })
 }
 
 /// What the line spells.
 #[tactic(auto, unfolding(crate::specs::Requests::spelled))]
-fn request_in(alloc: Global, domain: &TrustDomain, line: &[u8]) -> Result<Request, Failure<Fault>>
-    ensures { Gives (λ request. request) result (spelled domain.now line.now) }
+fn spelled(
+    alloc: Global,
+    domain: &TrustDomain,
+    ids: &mut Ids,
+    line: &[u8],
+) -> Result<Request, Failure<Fault>>
+    ensures { Gives (λ request. (request, ids.new)) result (spelled domain.now ids.old line.now) }
 {
     framed(line)?;
     let value = value_in(alloc, line)?;
     let members = object_in(&value)?;
-    let batch = batch_in(alloc, domain, &value, members)?;
-    Ok(Request { batch })
+    request_in(alloc, domain, ids, &value, members)
+}
+
+/// What the line spells; if it is no request, the ids stay.
+fn drawn(
+    alloc: Global,
+    domain: &TrustDomain,
+    ids: &mut Ids,
+    line: &[u8],
+) -> Result<Request, Failure<Fault>>
+    ensures spelled { Gives (λ request. (request, ids.new)) result (spelled domain.now ids.old line.now) }
+    ensures kept { OnErr result (ids.new ≡ ids.old) }
+{
+    let mut after = ids.clone()?;
+    let request = spelled(alloc, domain, &mut after, line)?;
+    *ids = after;
+    Ok(request)
 }
 
 /// Reads a request line: its bytes with its LF where it has one (of a line over the limit the first 1,048,577 bytes
-/// are enough), and its number from 1. The error is the first fault found, or want of memory, with the line's number.
+/// are enough), and its number from 1. Each entry that comes without an id gets the next of the ids. The error is the
+/// first fault found, or want of memory, with the line's number; the ids are then as before.
 pub fn read_request(
     alloc: Global,
     domain: &TrustDomain,
+    ids: &mut Ids,
     line: &[u8],
     number: u64,
 ) -> Result<Request, LineRefusal>
     ensures spelled { MatchResult result
-        (λ request. spelled domain.now line.now ≡ Ok request)
-        (λ refusal. (refusal.line ≡ number) × Fails refusal.failure (spelled domain.now line.now)) }
+        (λ request. spelled domain.now ids.old line.now ≡ Ok (request, ids.new))
+        (λ refusal. (refusal.line ≡ number) × Fails refusal.failure (spelled domain.now ids.old line.now)) }
+    ensures kept { OnErr result (ids.new ≡ ids.old) }
     ensures domain { IfOk result (λ request. request.batch.domain ≡ domain.now) }
 {
-    match request_in(alloc, domain, line) {
+    match drawn(alloc, domain, ids, line) {
         Ok(request) => Ok(request),
         Err(failure) => Err(LineRefusal {
             line: number,

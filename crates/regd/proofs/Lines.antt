@@ -4,11 +4,19 @@ use Rattle.std.proofs.lemmas.Bool.{ne_eqb}
 use Rattle.clap.specs.Words.{Text}
 use Rattle.clap.proofs.OnLiterals.{clap_on_literals}
 use Rattle.regd.specs.CommandLine.{domain_word, line_faults}
-use Rattle.regd.specs.Laws.{DomainApart, HelpIsRefused, JoinedDomain, NothingIsRefused}
+use Rattle.regd.specs.Laws.{DomainApart, HelpIsRefused, JoinedDomain, JoinedSeed, NoSeed, NothingIsRefused}
 
 pub joined_domain : JoinedDomain
 unfolding clap_on_literals
 joined_domain name domain = record { taken = refl; given = refl }
+
+pub joined_seed : JoinedSeed
+unfolding clap_on_literals
+joined_seed name domain seed = (record { taken = refl; given = refl }, refl)
+
+pub no_seed : NoSeed
+unfolding clap_on_literals
+no_seed name domain = refl
 
 taken_apart : (name rest : Text) (first : ℕ) → (first == 45) ≡ false → line_faults (name ∷ codes "plain" ∷ codes "--domain" ∷ (first ∷ rest) ∷ []) ≡ []
 unfolding clap_on_literals

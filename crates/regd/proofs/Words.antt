@@ -21,7 +21,8 @@ use Rattle.spiffe_name.specs.Failures.{FailsBy}
 use Rattle.spiffe_name.specs.declared.Failure.{Failure}
 use Rattle.spiffe_name.specs.declared.Failure.TheVariants.{NoMemory, Refused}
 use Rattle.spiffe_name.specs.declared.IdRefusal.{IdRefusal}
-use Rattle.regd.specs.CommandLine.{IsFaultOf, domain_word, line_faults, option_in, regd_command}
+use Rattle.regd.specs.CommandLine.{IsFaultOf, TellsNoSeed, domain_word, line_faults, option_in, regd_command, seed_text}
+use Rattle.regd.specs.declared.faults.LineFault.TheVariants.{Seed}
 use Rattle.regd.specs.Conversions.{fault_of_domain, fault_of_kind, fault_of_refusal}
 
 -- the parser's account holds of the program
@@ -58,16 +59,22 @@ pub line_faults-parse : (app : App) (words : List Text) → app ≡ regd_command
 line_faults-parse app words is kinds =
     subst (λ (a : App). fault_of a words ≡ []) is (kinds (ap is_simple_and_free is ∙ is_simple_and_free-regd))
 
-pub domain_word-parse : (app : App) (words : List Text) (m : ArgMatches) → app ≡ regd_command → HasMatchesOf app words m
-    → option_in (codes "plain") (codes "domain") (subcommand_rows_of m) ≡ domain_word words
-domain_word-parse app words m is has =
-    ap (option_in (codes "plain") (codes "domain")) ((has (ap is_simple is ∙ is_simple-regd)).1 ∙ ap (λ (a : App). subcommand_of a words) is)
+pub option_in-parse : (id : Text) (app : App) (words : List Text) (m : ArgMatches) → app ≡ regd_command → HasMatchesOf app words m
+    → option_in (codes "plain") id (subcommand_rows_of m) ≡ option_in (codes "plain") id (subcommand_of regd_command words)
+option_in-parse id app words m is has =
+    ap (option_in (codes "plain") id) ((has (ap is_simple is ∙ is_simple-regd)).1 ∙ ap (λ (a : App). subcommand_of a words) is)
 
 -- a text that is no domain, of words that were taken
 pub IsFaultOf-domain : (words : List Text) (text : Text) (failure : Failure IdRefusal) → line_faults words ≡ [] → text ≡ unwrap_or (domain_word words) []
     → FailsBy (domain_refusal text) failure → IsFaultOf words (fault_of_domain failure)
 IsFaultOf-domain words text NoMemory taken is fails = tt
 IsFaultOf-domain words text (Refused refusal) taken is fails = (taken, subst (λ (t : Text). domain_refusal t ≡ Some refusal) is fails)
+
+-- a text that tells no seed, of words that were taken, whose domain is one
+pub IsFaultOf-seed : (words : List Text) (domain seed : Text) → line_faults words ≡ [] → domain ≡ unwrap_or (domain_word words) [] → domain_refusal domain ≡ None
+    → seed ≡ seed_text words → TellsNoSeed seed → IsFaultOf words Seed
+IsFaultOf-seed words domain seed taken is fine told none =
+    (taken, subst (λ (t : Text). domain_refusal t ≡ None) is fine, subst (λ (t : Text). TellsNoSeed t) told none)
 
 -- a text that is a domain was given: the empty text is none
 pub domain_word-given : (word : Option Text) (domain : Text) → domain ≡ unwrap_or word [] → domain_refusal domain ≡ None → word ≡ Some domain
@@ -97,8 +104,8 @@ pub option_in-matches : (m : ArgMatches) (found : Found) (name id : Text) → su
 option_in-matches m found name id named is =
     option_in-rows name id (subcommand_rows_of m) (rows_of found) (name_in _ ∙ named) is ∙ sym (first_value-rows found id)
 
--- the text behind a reference, or the empty text
-pub unwrap_or-text : (o : Option (Bor Text)) (empty text : Bor Text) (word : Option Text) → text ≡ unwrap_or o empty → empty.now ≡ []
-    → option_map (λ s. s.now) o ≡ word → text.now ≡ unwrap_or word []
-unwrap_or-text None empty text word is none same = ap (λ (b : Bor Text). b.now) is ∙ none ∙ ap (λ (w : Option Text). unwrap_or w []) same
-unwrap_or-text (Some s) empty text word is none same = ap (λ (b : Bor Text). b.now) is ∙ ap (λ (w : Option Text). unwrap_or w []) same
+-- the text behind a reference, or another one
+pub unwrap_or-text : (o : Option (Bor Text)) (other text : Bor Text) (word : Option Text) (last : Text) → text ≡ unwrap_or o other → other.now ≡ last
+    → option_map (λ s. s.now) o ≡ word → text.now ≡ unwrap_or word last
+unwrap_or-text None other text word last is none same = ap (λ (b : Bor Text). b.now) is ∙ none ∙ ap (λ (w : Option Text). unwrap_or w last) same
+unwrap_or-text (Some s) other text word last is none same = ap (λ (b : Bor Text). b.now) is ∙ ap (λ (w : Option Text). unwrap_or w last) same

@@ -1,11 +1,12 @@
 -- Which words are a command line of `regd`, by the command-line parser's own account of its words.
-use Rattle.std.specs.Prelude.{codes, if◌then◌else◌, option_and_then, true, unwrap_or, ◌≡◌, List, None, Option, Some, [], ⊤}
+use Rattle.std.specs.Prelude.{codes, if◌then◌else◌, length, option_and_then, true, unwrap_or, ◌≡◌, ◌≢◌, ℕ, List, None, Option, Some, [], ⊤}
 use Rattle.std.specs.Str.{bytes_eq}
 use Rattle.clap.specs.Words.{App, IsAmong, Kinds, Row, Rule, Text, fault_of, first_of, kind_of, new_app, new_rule, subcommand_of, with_rule, with_subcommand}
 use Rattle.clap.specs.Simple.{on_top}
+use Rattle.hex.specs.Hex.{IsBytes, encode_lower}
 use Rattle.spiffe_name.specs.Domain.{domain_refusal}
 use Rattle.regd.specs.declared.faults.LineFault.{LineFault}
-use Rattle.regd.specs.declared.faults.LineFault.TheVariants.{Refused, Domain, NotText, NoMemory}
+use Rattle.regd.specs.declared.faults.LineFault.TheVariants.{Refused, Domain, Seed, NotText, NoMemory}
 
 -- ---- the program, as it is told to the parser
 
@@ -17,9 +18,16 @@ domain_option = record (new_rule (codes "domain")) {
   required = true;
 }
 
--- `plain --domain D`
+-- `--seed S`
+abbrev pub seed_option : Rule
+seed_option = record (new_rule (codes "seed")) {
+  long = Some (codes "seed");
+  value_names = 1;
+}
+
+-- `plain --domain D [--seed S]`
 abbrev pub plain_command : App
-plain_command = with_rule (new_app (codes "plain")) domain_option
+plain_command = with_rule (with_rule (new_app (codes "plain")) domain_option) seed_option
 
 -- `regd`, which wants the word of one of its programs
 abbrev pub regd_alone : App
@@ -43,13 +51,33 @@ option_in name id = option_and_then (λ program. if bytes_eq program.0 name then
 abbrev pub domain_word : List Text → Option Text
 domain_word words = option_in (codes "plain") (codes "domain") (subcommand_of regd_command words)
 
+-- the text that the words give to `--seed`
+abbrev pub seed_word : List Text → Option Text
+seed_word words = option_in (codes "plain") (codes "seed") (subcommand_of regd_command words)
+
+-- ---- the seed, which is told as 64 lower-case hexadecimal digits, two a byte
+
+-- the text of the seed where none is given
+abbrev pub first_seed : Text
+first_seed = codes "0000000000000000000000000000000000000000000000000000000000000000"
+
+-- the text that tells the seed
+abbrev pub seed_text : List Text → Text
+seed_text words = unwrap_or (seed_word words) first_seed
+
+-- no 32 bytes have this text
+abbrev pub TellsNoSeed : Text → Type 0
+TellsNoSeed text = (seed : List ℕ) → length seed ≡ 32 → IsBytes seed → encode_lower seed ≢ text
+
 -- ---- the faults of a command line
 
 -- the words have this fault: the parser refuses them; or it takes them, and the domain that they give (the empty text,
--- where they give none) is no trust domain
+-- where they give none) is no trust domain; or it is one, and the text that tells the seed tells none
 abbrev pub IsFaultOf : List Text → LineFault → Type 0
 IsFaultOf words (Refused error) = IsAmong (kind_of error) (line_faults words)
 IsFaultOf words (Domain refusal) =
     (line_faults words ≡ []) × (domain_refusal (unwrap_or (domain_word words) []) ≡ Some refusal)
+IsFaultOf words Seed =
+    (line_faults words ≡ []) × (domain_refusal (unwrap_or (domain_word words) []) ≡ None) × TellsNoSeed (seed_text words)
 IsFaultOf words NotText = ⊥
 IsFaultOf words NoMemory = ⊤

@@ -2,7 +2,7 @@
 use Rattle.std.specs.Prelude.{codes, ◌≡◌, ◌≢◌, ◌++◌, ℕ, [], ◌∷◌, List, Some}
 use Rattle.clap.specs.Words.{Text}
 use Rattle.clap.specs.declared.error.ErrorKind.TheVariants.{DisplayHelp, MissingSubcommand}
-use Rattle.regd.specs.CommandLine.{domain_word, line_faults}
+use Rattle.regd.specs.CommandLine.{domain_word, first_seed, line_faults, seed_text}
 
 -- the parser takes the words, and they give this domain
 pub record Gives (words : List Text) (domain : Text) : Type 0 where
@@ -18,6 +18,17 @@ JoinedDomain = (name domain : Text)
 abbrev pub DomainApart : Type 0
 DomainApart = (name rest : Text) (first : ℕ) → first ≢ 45
     → Gives (name ∷ codes "plain" ∷ codes "--domain" ∷ (first ∷ rest) ∷ []) (first ∷ rest)
+
+-- `regd plain --domain=D --seed=S` gives D, and the seed that S tells
+abbrev pub JoinedSeed : Type 0
+JoinedSeed = (name domain seed : Text)
+    → Gives (name ∷ codes "plain" ∷ (codes "--domain=" ++ domain) ∷ (codes "--seed=" ++ seed) ∷ []) domain
+    × (seed_text (name ∷ codes "plain" ∷ (codes "--domain=" ++ domain) ∷ (codes "--seed=" ++ seed) ∷ []) ≡ seed)
+
+-- where no seed is given, 64 zeros tell it
+abbrev pub NoSeed : Type 0
+NoSeed = (name domain : Text)
+    → seed_text (name ∷ codes "plain" ∷ (codes "--domain=" ++ domain) ∷ []) ≡ first_seed
 
 -- `regd --help` and `regd plain --help` are refused, with the help as the refusal's text
 abbrev pub HelpIsRefused : Type 0

@@ -42,6 +42,9 @@ pub enum LineFault {
     /// The domain isn't one, for this reason; the text has its code.
     #[error("regd: domain {}", .0.code())]
     Domain(IdRefusal),
+    /// The seed isn't 64 lower-case hexadecimal digits.
+    #[error("regd: seed")]
+    Seed,
     /// A word isn't text.
     #[error("regd: a word isn't UTF-8")]
     NotText,

@@ -11,6 +11,7 @@ mod ended;
 mod faults;
 mod laws;
 mod plain_engine;
+mod seed;
 mod settings;
 
 pub use ended::{Ended, status};
@@ -38,7 +39,9 @@ fn run<R: Env + io::Input + Print + AllocGlobal>(rt: &R) -> Ended {
     };
     let mut input = Input::new(Counted::new(rt.reader()));
     let mut output = Output::new(Counted::new(io::writer(rt)));
-    Ended::of_run(plain(rt.alloc(), settings.into_domain(), &mut input, &mut output))
+    let seed = settings.seed();
+    let domain = settings.into_domain();
+    Ended::of_run(plain(rt.alloc(), domain, seed, &mut input, &mut output))
 }
 
 /// The settings that the words of the process ask for.

@@ -11,18 +11,20 @@ ghost use Rattle.regd.specs.Answers.{Answers, AnswersBatch, AnswersLine, start};
 use crate::faults::Fault;
 use entry_book::{Batch, PlainBook};
 use reg_lines::{
-    CallReply, Input, Line, LineRefusal, Output, Sink, Source, flush_before_waiting, most_lines,
-    print_line, read_request,
+    CallReply, Ids, Input, Line, LineRefusal, Output, Sink, Source, flush_before_waiting,
+    most_lines, print_line, read_request,
 };
 use spiffe_name::{Failure, TrustDomain};
 use std::alloc::Global;
 
-/// Answers each line of the input on a plain book of the trust domain, in order.
+/// Answers each line of the input on a plain book of the trust domain, in order. Creates that come without an id get the
+/// ids of the seed, in order.
 ///
 /// The replies are out before each read that may wait, and at the end.
 pub fn plain<S: Source, K: Sink>(
     alloc: Global,
     domain: TrustDomain,
+    seed: [u8; 32],
     input: &mut Input<S>,
     output: &mut Output<K>,
 ) -> Result<(), Fault>
@@ -32,22 +34,23 @@ pub fn plain<S: Source, K: Sink>(
 
     // each line got its reply, in order
     ensures text { OnOk result (IfSome input.old.left (λ bytes.
-        AppendsRun (Answers domain) start (lines_kept most_lines bytes) output.old.written output.new.written)) }
+        AppendsRun (Answers domain) (start seed) (lines_kept most_lines bytes) output.old.written output.new.written)) }
 
     // only a device that failed is blamed; at a failed read each reply so far is out
     ensures input_failed { IfErr result (λ fault. fault ≡ Fault.Input → 0 < input.new.failures) }
     ensures output_failed { IfErr result (λ fault. fault ≡ Fault.Output → 0 < output.new.failures) }
     ensures so_far { IfErr result (λ fault. fault ≡ Fault.Input → IfSome input.old.left (λ bytes. (count : ℕ)
         × TakesLines count bytes input.new.left
-        × AppendsRun (Answers domain) start (lines_kept count bytes) output.old.written output.new.written)) }
+        × AppendsRun (Answers domain) (start seed) (lines_kept count bytes) output.old.written output.new.written)) }
     ensures no_memory { IfErr result (λ fault. fault ≡ Fault.NoMemory → (input.new ≡ input.old) × (output.new ≡ output.old)) }
 
     // whatever happens, what was written is a beginning
     ensures front { IfSome input.old.left (λ bytes.
-        AppendsRunFront (Answers domain) start (lines_kept most_lines bytes) output.old.written output.new.written) }
+        AppendsRunFront (Answers domain) (start seed) (lines_kept most_lines bytes) output.old.written output.new.written) }
 {
     let mut line = Line::new(alloc)?;
     let mut book = PlainBook::new(alloc, domain)?;
+    let mut ids = Ids::of_seed(seed);
     let mut calls = 0;
     for lines in 0..most_lines() {
         flush_before_waiting(input, output);
@@ -57,7 +60,17 @@ pub fn plain<S: Source, K: Sink>(
         match input.read_line(&mut line) {
             Err(_) => return Err(Fault::Input),
             Ok(false) => return finish(output),
-            Ok(true) => calls = answer(alloc, &mut book, calls, lines, line.as_bytes(), output),
+            Ok(true) => {
+                calls = answer(
+                    alloc,
+                    &mut book,
+                    &mut ids,
+                    calls,
+                    lines,
+                    line.as_bytes(),
+                    output,
+                );
+            }
         }
     }
     finish(output)
@@ -80,19 +93,19 @@ fn finish<K: Sink>(output: &mut Output<K>) -> Result<(), Fault>
 fn answer<K: Sink>(
     alloc: Global,
     book: &mut PlainBook,
+    ids: &mut Ids,
     calls: u64,
     lines: u64,
     line: &[u8],
     output: &mut Output<K>,
 ) -> u64
-    requires place { book.old.place < 2 ^ 63 }
     requires calls { calls < 2 ^ 63 }
     requires lines { lines < 2 ^ 63 }
     ensures domain { book.new.domain ≡ book.old.domain }
     ensures line { (books : List Book) → Stands book.old books
-        → AnswersLine book.old.domain (record { books = books; calls = calls; lines = lines }) line.now output.old output.new book.new result }
+        → AnswersLine book.old.domain (record { books = books; ids = ids.old; calls = calls; lines = lines }) line.now output.old output.new book.new ids.new result }
 {
-    match read_request(alloc, book.domain(), line, lines + 1) {
+    match read_request(alloc, book.domain(), ids, line, lines + 1) {
         Err(refusal) => {
             print_line(&refusal, output);
             calls
@@ -107,7 +120,6 @@ fn answer<K: Sink>(
 /// Runs the batch of the line of this number on the book, as the call of this number, and answers it.
 fn call<K: Sink>(book: &mut PlainBook, batch: &Batch, call: u64, line: u64, output: &mut Output<K>)
     requires made_for { batch.now.domain ≡ book.old.domain }
-    requires place { book.old.place < 2 ^ 63 }
     ensures domain { book.new.domain ≡ book.old.domain }
     ensures answered { (books : List Book) → Stands book.old books
         → AnswersBatch books batch.now call line output.old output.new book.new }

@@ -1,15 +1,17 @@
 //! What does a command line ask for?
 
 use crate::faults::LineFault;
+use crate::seed::{FIRST_SEED, seed_of};
 use clap::{Arg, ArgMatches, Command};
 use spiffe_name::TrustDomain;
 use std::alloc::{AllocError, Global};
 use std::marker::Model;
 
-/// What a program was asked to do: `regd plain --domain D`.
+/// What a program was asked to do: `regd plain --domain D [--seed S]`.
 #[derive(Debug, Drop)]
 pub struct Settings {
     domain: TrustDomain,
+    seed: [u8; 32],
 }
 
 impl Model for Settings {
@@ -17,25 +19,31 @@ impl Model for Settings {
 
     ghost Value = { Asked };
 
-    ghost view = { λ settings. record { domain = settings.domain } };
+    ghost view = { λ settings. record { domain = settings.domain; seed = settings.seed } };
 }
 
 impl Settings {
     ghost use Rattle.std.specs.Prelude.{◌≡◌, IfErr, IfOk, []};
     ghost use Rattle.clap.specs.Walk.{texts};
-    ghost use Rattle.regd.specs.CommandLine.{IsFaultOf, domain_word, line_faults};
+    ghost use Rattle.hex.specs.Hex.{encode_lower};
+    ghost use Rattle.regd.specs.CommandLine.{IsFaultOf, domain_word, line_faults, seed_text};
 
-    /// Reads a command line, the program's own name first: all words by the command-line parser, and then the domain.
-    /// The error is the first fault, or want of memory; a request for help is a refusal, too, with the help as its text.
+    /// Reads a command line, the program's own name first: all words by the command-line parser, then the domain, and
+    /// then the seed, which is 64 zeros where none is given. The error is the first fault, or want of memory; a request for help is a refusal, too, with the help as its text.
     pub fn from_words(alloc: Global, words: &[&str]) -> Result<Settings, LineFault>
         ensures taken { IfOk result (λ _. line_faults (texts words.now) ≡ []) }
         ensures domain { IfOk result (λ settings. domain_word (texts words.now) ≡ Some settings.domain) }
+        ensures seed { IfOk result (λ settings. encode_lower settings.seed ≡ seed_text (texts words.now)) }
         ensures fault { IfErr result (IsFaultOf (texts words.now)) }
     {
         let matches = regd_command(alloc)?.try_get_matches_from(words)?;
         let word = option_word(&matches, "plain", "domain").unwrap_or("");
         let domain = TrustDomain::parse(alloc, word)?;
-        Ok(Settings { domain })
+        let text = option_word(&matches, "plain", "seed").unwrap_or(FIRST_SEED);
+        let Some(seed) = seed_of(text) else {
+            return Err(LineFault::Seed);
+        };
+        Ok(Settings { domain, seed })
     }
 
     /// The server's own trust domain.
@@ -43,6 +51,13 @@ impl Settings {
         ensures { result.now ≡ self.now.domain }
     {
         &self.domain
+    }
+
+    /// The seed of the ids that the server gives.
+    pub fn seed(&self) -> [u8; 32]
+        ensures { result ≡ self.now.seed }
+    {
+        self.seed
     }
 
     /// The server's own trust domain, taken out.
@@ -56,7 +71,7 @@ impl Settings {
 ghost use Rattle.std.specs.Prelude.{◌≡◌, IfOk, false, option_map};
 ghost use Rattle.clap.specs.Words.{app_of, rule_of, subcommand_rows_of};
 ghost use Rattle.clap.specs.declared.Command.TheViews.{out-Command};
-ghost use Rattle.regd.specs.CommandLine.{domain_option, option_in, plain_command, regd_command};
+ghost use Rattle.regd.specs.CommandLine.{domain_option, option_in, plain_command, regd_command, seed_option};
 
 fn domain_option<'a>(alloc: Global) -> Arg<'a>
     ensures rule { rule_of result ≡ domain_option }
@@ -69,6 +84,15 @@ fn domain_option<'a>(alloc: Global) -> Arg<'a>
         .help("The server's own trust domain, such as ex.org")
 }
 
+fn seed_option<'a>(alloc: Global) -> Arg<'a>
+    ensures rule { rule_of result ≡ seed_option }
+    ensures local { result.global ≡ false }
+{
+    Arg::new(alloc, "seed").long("seed").value_name("S").help(
+        "The seed of the ids that are given, 64 lower-case hexadecimal digits; zeros by default",
+    )
+}
+
 fn plain_command<'a>(alloc: Global) -> Result<Command<'a>, AllocError>
     ensures app { IfOk result (λ command. app_of command ≡ plain_command) }
     ensures local { IfOk result (λ command. (out-Command command).has_globals ≡ false) }
@@ -77,7 +101,8 @@ fn plain_command<'a>(alloc: Global) -> Result<Command<'a>, AllocError>
         .about(
             "Answers request lines on a plain book, one thread: standard input to standard output",
         )
-        .arg(domain_option(alloc))
+        .arg(domain_option(alloc))?
+        .arg(seed_option(alloc))
 }
 
 /// The program as the command-line parser is told of it.

@@ -1,17 +1,26 @@
 //! Command lines and what is told of them, word for word.
 
 mod devices;
+mod engine;
+mod ids;
+mod limits;
+mod operations;
+mod refusals;
 mod runs;
+mod story;
 
 use crate::{Ended, Fault, LineFault, Settings, a_line_gives_its_domain, status};
 use spiffe_name::IdRefusal;
 use std::alloc::Global;
 use std::test::Fail;
 
-/// The status and the text of a command line; of settings 0, and their domain.
+/// The status and the text of a command line; of settings 0, their domain and the last byte of their seed.
 fn told(alloc: Global, words: &[&str]) -> Result<(u8, String), Fail> {
     match Settings::from_words(alloc, words) {
-        Ok(settings) => Ok((0, settings.domain().to_string(alloc)?)),
+        Ok(settings) => {
+            let [.., last] = settings.seed();
+            Ok((0, format!(in alloc; "{} {last}", settings.domain())?))
+        }
         Err(LineFault::NoMemory) => Err(Fail::from("no memory")),
         Err(fault) => {
             let text = fault.to_string(alloc)?;
@@ -31,14 +40,62 @@ fn settings_have_the_domain_that_was_given(rt: HostRuntime) -> Result<(), Fail> 
     for words in lines {
         let (status, text) = told(rt.alloc(), words)?;
         assert_eq!(rt; status, 0);
-        assert_eq!(rt; text.as_str(), "ex.org");
+        assert_eq!(rt; text.as_str(), "ex.org 0");
+    }
+    Ok(())
+}
+
+/// The seed is that of zeros but for its last byte, as its last two digits say.
+#[test]
+fn a_seed_is_64_lower_case_hexadecimal_digits(rt: HostRuntime) -> Result<(), Fail> {
+    for (digits, status, text) in [
+        (
+            "00000000000000000000000000000000000000000000000000000000000000ab",
+            0,
+            "ex.org 171",
+        ),
+        (
+            "00000000000000000000000000000000000000000000000000000000000000aB",
+            2,
+            "regd: seed",
+        ),
+        (
+            "00000000000000000000000000000000000000000000000000000000000000ag",
+            2,
+            "regd: seed",
+        ),
+        (
+            "00000000000000000000000000000000000000000000000000000000000000a",
+            2,
+            "regd: seed",
+        ),
+        (
+            "00000000000000000000000000000000000000000000000000000000000000ab0",
+            2,
+            "regd: seed",
+        ),
+        (
+            "000000000000000000000000000000000000000000000000000000000000ab",
+            2,
+            "regd: seed",
+        ),
+        ("", 2, "regd: seed"),
+    ] {
+        let words = ["regd", "plain", "--seed", digits, "--domain", "ex.org"];
+        let told = told(rt.alloc(), &words)?;
+        assert_eq!(rt; told.0, status, "{digits}");
+        assert_eq!(rt; told.1.as_str(), text, "{digits}");
     }
     Ok(())
 }
 
 #[test]
 fn a_domain_that_is_none_is_refused_with_its_code(rt: HostRuntime) -> Result<(), Fail> {
-    let lines: [(&[&str], &str); 3] = [
+    let lines: [(&[&str], &str); 4] = [
+        (
+            &["regd", "plain", "--seed", "x", "--domain", "a/b"],
+            "regd: domain I5",
+        ),
         (&["regd", "plain", "--domain", "Ex.org"], "regd: domain I5"),
         (&["regd", "plain", "--domain", ""], "regd: domain I3"),
         (&["regd", "plain", "--domain=a/b"], "regd: domain I5"),
@@ -114,6 +171,7 @@ fn each_end_has_its_status_and_its_text(rt: HostRuntime) -> Result<(), Fail> {
             2,
             "regd: domain I4",
         ),
+        (LineFault::Seed, 2, "regd: seed"),
         (LineFault::NotText, 2, "regd: a word isn't UTF-8"),
         (LineFault::NoMemory, 1, "regd: out of memory"),
     ];

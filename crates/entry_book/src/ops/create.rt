@@ -7,7 +7,8 @@ ghost use Rattle.entry_book.specs.Ops.{create_over};
 ghost use Rattle.entry_book.specs.Performed.{performed};
 
 use crate::book::Book;
-use crate::entry::{Entry, NewEntry};
+use crate::entry::NewEntry;
+use crate::ops::put::put_beside;
 use crate::reply::{OpRefusal, OpReply};
 use crate::shared::Shared;
 use std::alloc::{AllocError, Global};
@@ -21,17 +22,8 @@ pub(crate) fn create(
     ensures { IfOk result (λ answer. answer ≡ performed
         (create_over (entry_at new.now.id book.now) (at_revision 0 new.now) book.now) book.now) }
 {
-    let given = new.get();
-    if book.entry(&given.id).is_some() {
+    if book.entry(&new.get().id).is_some() {
         return Ok(Err(OpRefusal::IdTaken));
     }
-    if let Some(other) = book.similar(given) {
-        return Ok(Err(OpRefusal::Similar(*other.id())));
-    }
-    if let Some(domain) = book.lacking(&given.domains) {
-        return Ok(Err(OpRefusal::NoBundle(domain.clone()?)));
-    }
-    let entry = Entry::at_revision(new, 0)?;
-    let after = book.with_entry(alloc, entry.clone()?)?;
-    Ok(Ok((OpReply::Entry(entry), after)))
+    put_beside(alloc, new, 0, book)
 }

@@ -1,6 +1,6 @@
 ghost use Rattle.std.specs.Prelude.{◌≡◌};
 
-use crate::{CallReply, Counted, LineRefusal, Output, PrintJson, print_line, read_request};
+use crate::{CallReply, Counted, Ids, LineRefusal, Output, PrintJson, print_line, read_request};
 use entry_book::PlainBook;
 use serde_json::Value;
 use spiffe_name::{Failure, TrustDomain};
@@ -30,6 +30,11 @@ pub fn printed<T: PrintJson>(alloc: Global, value: &T) -> Result<String, Fail> {
     Ok(String::from_str(alloc, text)?)
 }
 
+/// The ids of the seed of zeros.
+pub fn new_ids() -> Ids {
+    Ids::of_seed([0; 32])
+}
+
 /// A book of `ex.org` with nothing in it.
 pub fn new_book(alloc: Global) -> Result<PlainBook, Fail> {
     let domain = TrustDomain::parse(alloc, "ex.org")?;
@@ -41,11 +46,12 @@ pub fn new_book(alloc: Global) -> Result<PlainBook, Fail> {
 pub fn answer_on(
     alloc: Global,
     book: &mut PlainBook,
+    ids: &mut Ids,
     line: &[u8],
     number: u64,
     call: u64,
 ) -> Result<String, Fail> {
-    match read_request(alloc, book.domain(), line, number) {
+    match read_request(alloc, book.domain(), ids, line, number) {
         Err(refusal) => {
             if let Failure::NoMemory = &refusal.failure {
                 return Err(Fail::from("no memory"));
@@ -69,7 +75,7 @@ pub fn answer_on(
 /// The printed answer to a line on a book with nothing in it.
 pub fn answer(alloc: Global, line: &[u8], number: u64) -> Result<String, Fail> {
     let mut book = new_book(alloc)?;
-    answer_on(alloc, &mut book, line, number, 1)
+    answer_on(alloc, &mut book, &mut new_ids(), line, number, 1)
 }
 
 /// A text with an LF at its end.
@@ -93,12 +99,13 @@ pub fn answers(rt: &impl Abort, alloc: Global, table: &str) -> Result<(), Fail> 
 /// The same on one book, with the lines and the calls counted from 1.
 pub fn answers_in_a_row(rt: &impl Abort, alloc: Global, table: &str) -> Result<(), Fail> {
     let mut book = new_book(alloc)?;
+    let mut ids = new_ids();
     let mut count = 0u64;
     for case in table.lines() {
         if let Some((text, want)) = case.split_once(" => ") {
             count = count.saturating_add(1);
             let line = line_of(alloc, text)?;
-            let got = answer_on(alloc, &mut book, &line, count, count)?;
+            let got = answer_on(alloc, &mut book, &mut ids, &line, count, count)?;
             assert_eq!(rt; got.as_str(), want, "{text}");
         }
     }

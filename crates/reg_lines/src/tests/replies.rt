@@ -8,11 +8,25 @@ use std::alloc::Global;
 use std::test::Fail;
 use uuid::Uuid;
 
-/// The lines of one run, each with the line that answers it.
+/// The lines of one run, which meets every operation, each with the line that answers it.
 const RUN: &str = r#"
 {"ops":[{"op":"set_agent","agent":"spiffe://ex.org/spire/agent/n1","selectors":["x:1"]}]} => {"call":1,"place":1,"replies":[{"agent":{"id":"spiffe://ex.org/spire/agent/n1","selectors":["x:1"]}}],"result":"committed"}
 {"ops":[{"op":"create","id":"00000000-0000-0000-0000-000000000001","parent":"spiffe://ex.org/spire/agent/n1","identity":"spiffe://ex.org/web","selectors":["unix:uid:1000"]}]} => {"call":2,"place":2,"replies":[{"entry":{"domains":[],"expiry":0,"hint":"","id":"00000000-0000-0000-0000-000000000001","identity":"spiffe://ex.org/web","parent":"spiffe://ex.org/spire/agent/n1","revision":0,"selectors":["unix:uid:1000"]}}],"result":"committed"}
 {"ops":[{"op":"authorised","agent":"spiffe://ex.org/spire/agent/n1"}]} => {"call":3,"place":2,"replies":[{"entries":[{"domains":[],"expiry":0,"hint":"","id":"00000000-0000-0000-0000-000000000001","identity":"spiffe://ex.org/web","parent":"spiffe://ex.org/spire/agent/n1","revision":0,"selectors":["unix:uid:1000"]}]}],"result":"answered"}
+{"ops":[{"op":"set_bundle","domain":"b.org","text":"{}"}]} => {"call":4,"place":3,"replies":[{"bundle":{"domain":"b.org","sequence":0,"text":"{}"}}],"result":"committed"}
+{"ops":[{"op":"update","id":"00000000-0000-0000-0000-000000000001","parent":"spiffe://ex.org/spire/agent/n1","identity":"spiffe://ex.org/web","selectors":["unix:uid:1000"],"hint":"www","domains":["b.org"],"expiry":1700000000,"revision":0}]} => {"call":5,"place":4,"replies":[{"entry":{"domains":["b.org"],"expiry":1700000000,"hint":"www","id":"00000000-0000-0000-0000-000000000001","identity":"spiffe://ex.org/web","parent":"spiffe://ex.org/spire/agent/n1","revision":1,"selectors":["unix:uid:1000"]}}],"result":"committed"}
+{"ops":[{"op":"show","id":"00000000-0000-0000-0000-000000000001"}]} => {"call":6,"place":4,"replies":[{"entry":{"domains":["b.org"],"expiry":1700000000,"hint":"www","id":"00000000-0000-0000-0000-000000000001","identity":"spiffe://ex.org/web","parent":"spiffe://ex.org/spire/agent/n1","revision":1,"selectors":["unix:uid:1000"]}}],"result":"answered"}
+{"ops":[{"op":"show_agent","agent":"spiffe://ex.org/spire/agent/n1"}]} => {"call":7,"place":4,"replies":[{"agent":{"id":"spiffe://ex.org/spire/agent/n1","selectors":["x:1"]}}],"result":"answered"}
+{"ops":[{"op":"show_bundle","domain":"c.org"}]} => {"call":8,"place":4,"replies":[{"bundle":null}],"result":"answered"}
+{"ops":[{"op":"children","parent":"spiffe://ex.org/spire/agent/n1"}]} => {"call":9,"place":4,"replies":[{"entries":[{"domains":["b.org"],"expiry":1700000000,"hint":"www","id":"00000000-0000-0000-0000-000000000001","identity":"spiffe://ex.org/web","parent":"spiffe://ex.org/spire/agent/n1","revision":1,"selectors":["unix:uid:1000"]}]}],"result":"answered"}
+{"ops":[{"op":"trust","agent":"spiffe://ex.org/spire/agent/n1"}]} => {"call":10,"place":4,"replies":[{"bundles":[{"domain":"b.org","sequence":0,"text":"{}"}]}],"result":"answered"}
+{"ops":[{"op":"drop_bundle","domain":"b.org"}]} => {"call":11,"code":"O6","op":0,"place":4,"result":"refused"}
+{"ops":[{"op":"drop_bundle","domain":"b.org","mode":"dissociate"}]} => {"call":12,"place":5,"replies":[{"deleted":[],"dissociated":["00000000-0000-0000-0000-000000000001"]}],"result":"committed"}
+{"ops":[{"op":"prune","before":1700000001}]} => {"call":13,"place":6,"replies":[{"pruned":["00000000-0000-0000-0000-000000000001"]}],"result":"committed"}
+{"ops":[{"op":"create","parent":"spiffe://ex.org/spire/agent/n1","identity":"spiffe://ex.org/api","selectors":["unix:uid:1001"]}]} => {"call":14,"place":7,"replies":[{"entry":{"domains":[],"expiry":0,"hint":"","id":"76b8e0ad-a0f1-4d90-805d-6ae55386bd28","identity":"spiffe://ex.org/api","parent":"spiffe://ex.org/spire/agent/n1","revision":0,"selectors":["unix:uid:1001"]}}],"result":"committed"}
+{"ops":[{"op":"create","parent":"spiffe://ex.org/spire/agent/n1","identity":"spiffe://ex.org/api","selectors":["unix:uid:1001"]}]} => {"call":15,"code":"O2","detail":"76b8e0ad-a0f1-4d90-805d-6ae55386bd28","op":0,"place":7,"result":"refused"}
+{"ops":[{"op":"delete","id":"76b8e0ad-a0f1-4d90-805d-6ae55386bd28","revision":0}]} => {"call":16,"place":8,"replies":[{"entry":{"domains":[],"expiry":0,"hint":"","id":"76b8e0ad-a0f1-4d90-805d-6ae55386bd28","identity":"spiffe://ex.org/api","parent":"spiffe://ex.org/spire/agent/n1","revision":0,"selectors":["unix:uid:1001"]}}],"result":"committed"}
+{"ops":[{"op":"drop_agent","agent":"spiffe://ex.org/spire/agent/n1"}]} => {"call":17,"place":9,"replies":[{"agent":{"id":"spiffe://ex.org/spire/agent/n1","selectors":["x:1"]}}],"result":"committed"}
 "#;
 
 /// Lines, each answered on a book with nothing in it: escapes, sets in their order, refusals of the book.

@@ -1,7 +1,7 @@
-use super::answers::answers;
+use super::spelled::spells;
 use std::test::Fail;
 
-/// Lines, and what each is answered on a book with nothing in it.
+/// Lines, and what each spells.
 const TABLE: &str = r#"
 # no JSON text
  => {"code":"L2","line":1}
@@ -20,7 +20,7 @@ true => {"code":"L4","line":1}
 [] => {"code":"L4","line":1}
 "ops" => {"code":"L4","line":1}
 
-# the top key
+# the top keys
 {} => {"code":"L5","field":"ops","line":1}
 {"ops":null} => {"code":"L5","field":"ops","line":1}
 {"ops":7} => {"code":"L5","field":"ops","line":1}
@@ -28,6 +28,34 @@ true => {"code":"L4","line":1}
 {"ops":{}} => {"code":"L5","field":"ops","line":1}
 {"ops":true} => {"code":"L5","field":"ops","line":1}
 {"zz":1} => {"code":"L5","field":"ops","line":1}
+{"tries":0} => {"code":"L5","field":"ops","line":1}
+{"ops":null,"tries":1} => {"code":"L5","field":"ops","line":1}
+{"ops":[],"tries":1} => {"code":"B1","line":1}
+{"ops":[],"tries":null} => {"code":"B1","line":1}
+{"ops":[{"op":"show","id":"00000000-0000-0000-0000-000000000001"}]} => 1; show "00000000-0000-0000-0000-000000000001"
+{"ops":[{"op":"show","id":"00000000-0000-0000-0000-000000000001"}],"tries":null} => 1; show "00000000-0000-0000-0000-000000000001"
+{"tries":1,"ops":[{"op":"show","id":"00000000-0000-0000-0000-000000000001"}]} => 1; show "00000000-0000-0000-0000-000000000001"
+{"tries":2,"ops":[{"op":"show","id":"00000000-0000-0000-0000-000000000001"}]} => 2; show "00000000-0000-0000-0000-000000000001"
+{"tries":16,"ops":[{"op":"show","id":"00000000-0000-0000-0000-000000000001"}]} => 16; show "00000000-0000-0000-0000-000000000001"
+{"ops":[7],"tries":0,"zz":1} => {"code":"L5","field":"tries","line":1}
+{"ops":[7],"tries":17,"zz":1} => {"code":"L5","field":"tries","line":1}
+{"ops":[7],"tries":18446744073709551615,"zz":1} => {"code":"L5","field":"tries","line":1}
+{"ops":[7],"tries":18446744073709551616,"zz":1} => {"code":"L5","field":"tries","line":1}
+{"ops":[7],"tries":-0,"zz":1} => {"code":"L5","field":"tries","line":1}
+{"ops":[7],"tries":-1,"zz":1} => {"code":"L5","field":"tries","line":1}
+{"ops":[7],"tries":1.0,"zz":1} => {"code":"L5","field":"tries","line":1}
+{"ops":[7],"tries":1e0,"zz":1} => {"code":"L5","field":"tries","line":1}
+{"ops":[7],"tries":"1","zz":1} => {"code":"L5","field":"tries","line":1}
+{"ops":[7],"tries":[1],"zz":1} => {"code":"L5","field":"tries","line":1}
+{"ops":[7],"tries":{},"zz":1} => {"code":"L5","field":"tries","line":1}
+{"ops":[7],"tries":true,"zz":1} => {"code":"L5","field":"tries","line":1}
+{"ops":[7],"tries":false,"zz":1} => {"code":"L5","field":"tries","line":1}
+{"ops":[7],"tries":1,"zz":1} => {"code":"L5","field":"zz","line":1}
+{"ops":[],"tries":16,"after":0,"at":0} => {"code":"L5","field":"after","line":1}
+{"ops":[],"tries":0,"tries":1} => {"code":"B1","line":1}
+{"ops":[],"tries":0,"tries":null} => {"code":"B1","line":1}
+{"ops":7,"\u006fps":[]} => {"code":"B1","line":1}
+{"ops":[],"\u006fps":7} => {"code":"L5","field":"ops","line":1}
 
 # keys that aren't known, or not yet: in the order of their bytes, before the operations, whatever their value
 {"ops":[],"zz":1} => {"code":"L5","field":"zz","line":1}
@@ -37,7 +65,6 @@ true => {"code":"L4","line":1}
 {"ops":[],"":1} => {"code":"L5","field":"","line":1}
 {"ops":[],"～":1,"𐀀":1} => {"code":"L5","field":"～","line":1}
 {"ops":[],"after":0} => {"code":"L5","field":"after","line":1}
-{"ops":[],"tries":1} => {"code":"L5","field":"tries","line":1}
 {"ops":[],"token":null} => {"code":"L5","field":"token","line":1}
 
 # keys are compared with their escapes read, and the last value of a key stays
@@ -45,7 +72,7 @@ true => {"code":"L4","line":1}
 {"ops":7,"ops":[]} => {"code":"B1","line":1}
 {"ops":[],"ops":7} => {"code":"L5","field":"ops","line":1}
 {"ops":[],"a\"\\\/\b\f\n\r\t\u0001\u001F\u00e9\ud83d\ude00":1} => {"code":"L5","field":"a\"\\/\b\f\n\r\t\u0001\u001fé😀","line":1}
-{"ops":[{"op":"mint","op":"authorised","agent":"spiffe://ex.org/x","agent":"spiffe://ex.org/spire/agent/n1"}]} => {"call":1,"code":"O7","op":0,"place":0,"result":"refused"}
+{"ops":[{"op":"mint","op":"authorised","agent":"spiffe://ex.org/x","agent":"spiffe://ex.org/spire/agent/n1"}]} => 1; authorised "spiffe://ex.org/spire/agent/n1"
 
 # operations that are none, each in its turn
 {"ops":[7]} => {"code":"L5","field":"ops","line":1,"op":0}
@@ -61,7 +88,7 @@ true => {"code":"L4","line":1}
 {"ops":[{"op":"Create"}]} => {"code":"L5","field":"op","line":1,"op":0}
 {"ops":[{"zz":1}]} => {"code":"L5","field":"op","line":1,"op":0}
 {"ops":[{"op":"authorised","agent":"spiffe://ex.org/spire/agent/n1"},{"op":"authorised","agent":"spiffe://ex.org/spire/agent/n1"},{"op":"page","size":1}]} => {"code":"L5","field":"op","line":1,"op":2}
-{"ops":[{"op":"update"}]} => {"code":"L5","field":"op","line":1,"op":0}
+{"ops":[{"op":"page"}]} => {"code":"L5","field":"op","line":1,"op":0}
 
 # authorised
 {"ops":[{"op":"authorised"}]} => {"code":"L5","field":"agent","line":1,"op":0}
@@ -90,12 +117,12 @@ true => {"code":"L4","line":1}
 {"ops":[{"op":"set_agent","agent":"spiffe://ex.org/spire/agent/n1","selectors":["x:"],"zz":1}]} => {"code":"S4","field":"selectors","line":1,"op":0}
 {"ops":[{"op":"authorised","agent":"spiffe://ex.org/spire/agent/n1"},{"op":"authorised","agent":"spiffe://ex.org/spire/agent/n1"},{"op":"set_agent","agent":"spiffe://ex.org/spire/agent/n1","selectors":["x:1"],"zz":1,"id":1}]} => {"code":"L5","field":"id","line":1,"op":2}
 
-# create: its keys in their order, each required
-{"ops":[{"op":"create"}]} => {"code":"L5","field":"id","line":1,"op":0}
-{"ops":[{"op":"create","parent":"spiffe://ex.org/spire/agent/n1","identity":"spiffe://ex.org/web","selectors":["unix:uid:1000"]}]} => {"code":"L5","field":"id","line":1,"op":0}
-{"ops":[{"op":"create","id":null,"parent":"spiffe://ex.org/spire/agent/n1","identity":"spiffe://ex.org/web","selectors":["unix:uid:1000"]}]} => {"code":"L5","field":"id","line":1,"op":0}
+# create: its keys in their order, all but the id required
+{"ops":[{"op":"create"}]} => {"code":"L5","field":"parent","line":1,"op":0}
+{"ops":[{"op":"create","parent":"spiffe://ex.org/spire/agent/n1","identity":"spiffe://ex.org/web","selectors":["unix:uid:1000"]}]} => 1; create "76b8e0ad-a0f1-4d90-805d-6ae55386bd28" "spiffe://ex.org/spire/agent/n1" "spiffe://ex.org/web" ["unix:uid:1000"] "" [] 0
+{"ops":[{"op":"create","id":null,"parent":"spiffe://ex.org/spire/agent/n1","identity":"spiffe://ex.org/web","selectors":["unix:uid:1000"]}]} => 1; create "76b8e0ad-a0f1-4d90-805d-6ae55386bd28" "spiffe://ex.org/spire/agent/n1" "spiffe://ex.org/web" ["unix:uid:1000"] "" [] 0
 {"ops":[{"op":"create","id":1,"parent":"spiffe://ex.org/spire/agent/n1","identity":"spiffe://ex.org/web","selectors":["unix:uid:1000"]}]} => {"code":"L5","field":"id","line":1,"op":0}
-{"ops":[{"op":"create","id":null,"parent":"x","identity":"spiffe://ex.org/web","selectors":["unix:uid:1000"]}]} => {"code":"L5","field":"id","line":1,"op":0}
+{"ops":[{"op":"create","id":null,"parent":"x","identity":"spiffe://ex.org/web","selectors":["unix:uid:1000"]}]} => {"code":"I2","field":"parent","line":1,"op":0}
 {"ops":[{"op":"create","id":"","parent":"spiffe://ex.org/spire/agent/n1","identity":"spiffe://ex.org/web","selectors":["unix:uid:1000"]}]} => {"code":"U1","field":"id","line":1,"op":0}
 {"ops":[{"op":"create","id":"1","parent":"spiffe://ex.org/spire/agent/n1","identity":"spiffe://ex.org/web","selectors":["unix:uid:1000"]}]} => {"code":"U1","field":"id","line":1,"op":0}
 {"ops":[{"op":"create","id":"00000000-0000-0000-0000-000000000001 ","parent":7,"identity":"spiffe://ex.org/web","selectors":["unix:uid:1000"]}]} => {"code":"U1","field":"id","line":1,"op":0}
@@ -113,9 +140,9 @@ true => {"code":"L4","line":1}
 {"ops":[{"op":"create","id":"00000000-0000-0000-0000-000000000001","parent":"spiffe://ex.org/spire/agent/n1","identity":"spiffe://ex.org/web","selectors":"x:1"}]} => {"code":"L5","field":"selectors","line":1,"op":0}
 {"ops":[{"op":"create","id":"00000000-0000-0000-0000-000000000001","parent":"spiffe://ex.org/spire/agent/n1","identity":"spiffe://ex.org/web","selectors":["x:1",[]],"zz":1}]} => {"code":"L5","field":"selectors","line":1,"op":0}
 {"ops":[{"op":"create","id":"00000000-0000-0000-0000-000000000001","parent":"spiffe://ex.org/spire/agent/n1","identity":"spiffe://ex.org/web","selectors":[""]}]} => {"code":"S2","field":"selectors","line":1,"op":0}
-{"ops":[{"op":"create","id":"00000000-0000-0000-0000-000000000001","parent":"spiffe://ex.org/spire/agent/n1","identity":"spiffe://ex.org/web","selectors":["unix:uid:1000"],"hint":""}]} => {"code":"L5","field":"hint","line":1,"op":0}
-{"ops":[{"op":"create","id":"00000000-0000-0000-0000-000000000001","parent":"spiffe://ex.org/spire/agent/n1","identity":"spiffe://ex.org/web","selectors":["unix:uid:1000"],"domains":[]}]} => {"code":"L5","field":"domains","line":1,"op":0}
-{"ops":[{"op":"create","id":"00000000-0000-0000-0000-000000000001","parent":"spiffe://ex.org/spire/agent/n1","identity":"spiffe://ex.org/web","selectors":["unix:uid:1000"],"expiry":0}]} => {"code":"L5","field":"expiry","line":1,"op":0}
+{"ops":[{"op":"create","id":"00000000-0000-0000-0000-000000000001","parent":"spiffe://ex.org/spire/agent/n1","identity":"spiffe://ex.org/web","selectors":["unix:uid:1000"],"hint":""}]} => 1; create "00000000-0000-0000-0000-000000000001" "spiffe://ex.org/spire/agent/n1" "spiffe://ex.org/web" ["unix:uid:1000"] "" [] 0
+{"ops":[{"op":"create","id":"00000000-0000-0000-0000-000000000001","parent":"spiffe://ex.org/spire/agent/n1","identity":"spiffe://ex.org/web","selectors":["unix:uid:1000"],"domains":[]}]} => 1; create "00000000-0000-0000-0000-000000000001" "spiffe://ex.org/spire/agent/n1" "spiffe://ex.org/web" ["unix:uid:1000"] "" [] 0
+{"ops":[{"op":"create","id":"00000000-0000-0000-0000-000000000001","parent":"spiffe://ex.org/spire/agent/n1","identity":"spiffe://ex.org/web","selectors":["unix:uid:1000"],"expiry":0}]} => 1; create "00000000-0000-0000-0000-000000000001" "spiffe://ex.org/spire/agent/n1" "spiffe://ex.org/web" ["unix:uid:1000"] "" [] 0
 {"ops":[{"op":"create","id":"00000000-0000-0000-0000-000000000001","parent":"spiffe://ex.org/spire/agent/n1","identity":"spiffe://ex.org/web","selectors":["unix:uid:1000"],"agent":"spiffe://ex.org/spire/agent/n1","Agent":"spiffe://ex.org/spire/agent/n1"}]} => {"code":"L5","field":"Agent","line":1,"op":0}
 
 # what is no batch, after all operations were read
@@ -131,5 +158,5 @@ true => {"code":"L4","line":1}
 
 #[test]
 fn lines_are_read_in_the_order_of_the_format(rt: HostRuntime) -> Result<(), Fail> {
-    answers(&rt, rt.alloc(), TABLE)
+    spells(&rt, rt.alloc(), TABLE)
 }

@@ -1,4 +1,6 @@
 use Rattle.std.proofs.Common.{length, sym, ap, ◌∙◌, subst}
+use Rattle.std.specs.List.{AllByRecursion}
+use Rattle.spiffe_name.specs.Domain.{IsDomain}
 use Rattle.entry_book.specs.Rows.{IsId}
 use Rattle.spiffe_name.specs.SelectorSet.{IsSelectorSet}
 use Rattle.entry_book.proofs.check.know_entry.Goals as goal
@@ -10,4 +12,5 @@ returns c = record {
   identity = subst IsId c.get-2.ensures c.as_str-2.ensures.id;
   selectors = subst IsSelectorSet c.get-3.ensures c.as_slice.ensures.set;
   domains = c.as_slice-2.ensures.set;
+  are_domains = subst (AllByRecursion IsDomain) c.as_slice-2.ensures.items c.know_domains.ensures;
 }

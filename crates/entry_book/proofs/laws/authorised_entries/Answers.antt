@@ -1,4 +1,6 @@
-use Rattle.entry_book.proofs.Chains.{ends_of_chains, authorised_in_order}
+use Rattle.std.proofs.Common.{inl}
+use Rattle.entry_book.proofs.Aliases.{alias_is_held}
+use Rattle.entry_book.proofs.Chains.{authorised_in_order, begun_is_authorised, child_is_authorised, ends_of_chains, others_dont_matter}
 use Rattle.entry_book.proofs.laws.authorised_entries.Goals as goal
 
 pub returns-clause-ends : goal.returns-clause-ends
@@ -6,3 +8,15 @@ returns-clause-ends c = ends_of_chains
 
 pub returns-clause-order : goal.returns-clause-order
 returns-clause-order c = authorised_in_order
+
+pub returns-clause-held : goal.returns-clause-held
+returns-clause-held c = λ server a b e w h. begun_is_authorised server a b e w (inl h)
+
+pub returns-clause-child : goal.returns-clause-child
+returns-clause-child c = child_is_authorised
+
+pub returns-clause-alias : goal.returns-clause-alias
+returns-clause-alias c = alias_is_held
+
+pub returns-clause-others : goal.returns-clause-others
+returns-clause-others c = others_dont_matter

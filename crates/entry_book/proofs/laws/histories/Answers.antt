@@ -1,4 +1,6 @@
-use Rattle.entry_book.proofs.Histories.{changes_commit, commit_adds, count_of_books, history_goes_on, one_more, one_more_commits, others_leave, queries_only_ask}
+use Rattle.entry_book.proofs.Histories.{commit_adds, count_of_books, history_bounded, history_goes_on, one_more, one_more_commits, others_leave, queries_only_ask}
+use Rattle.entry_book.proofs.Verdicts.{changes_commit, full_refused, op_refuses, queries_answered}
+use Rattle.entry_book.proofs.WithinLimits.{all_within_limits, none_is_passed}
 use Rattle.entry_book.proofs.laws.histories.Goals as goal
 
 pub returns-clause-adds : goal.returns-clause-adds
@@ -10,8 +12,26 @@ returns-clause-leaves c = others_leave
 pub returns-clause-queries : goal.returns-clause-queries
 returns-clause-queries c = queries_only_ask
 
+pub returns-clause-refused : goal.returns-clause-refused
+returns-clause-refused c = op_refuses
+
+pub returns-clause-answered : goal.returns-clause-answered
+returns-clause-answered c = queries_answered
+
 pub returns-clause-changes : goal.returns-clause-changes
 returns-clause-changes c = changes_commit
+
+pub returns-clause-full : goal.returns-clause-full
+returns-clause-full c = full_refused
+
+pub returns-clause-limits : goal.returns-clause-limits
+returns-clause-limits c = none_is_passed
+
+pub returns-clause-within : goal.returns-clause-within
+returns-clause-within c = all_within_limits
+
+pub returns-clause-bounded : goal.returns-clause-bounded
+returns-clause-bounded c = history_bounded
 
 pub returns-clause-one_more : goal.returns-clause-one_more
 returns-clause-one_more c = one_more

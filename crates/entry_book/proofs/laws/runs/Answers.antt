@@ -1,4 +1,6 @@
+use Rattle.std.proofs.Common.{refl}
 use Rattle.entry_book.proofs.Keeps.{run_keeps}
+use Rattle.entry_book.proofs.Replies.{query_writes, run_replies}
 use Rattle.entry_book.proofs.Runs.{from_stop, run_fits, run_goes_on, to_stop}
 use Rattle.entry_book.proofs.laws.runs.Goals as goal
 
@@ -7,6 +9,15 @@ returns-clause-stops c = λ domain ops b n r. (to_stop domain ops b n r, from_st
 
 pub returns-clause-goes_on : goal.returns-clause-goes_on
 returns-clause-goes_on c = run_goes_on
+
+pub returns-clause-none : goal.returns-clause-none
+returns-clause-none c = λ domain b. refl
+
+pub returns-clause-replies : goal.returns-clause-replies
+returns-clause-replies c = run_replies
+
+pub returns-clause-queries : goal.returns-clause-queries
+returns-clause-queries c = query_writes
 
 pub returns-clause-fits : goal.returns-clause-fits
 returns-clause-fits c = run_fits

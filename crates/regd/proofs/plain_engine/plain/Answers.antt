@@ -6,27 +6,25 @@ use Rattle.entry_book.specs.History.{first_books}
 use Rattle.reg_lines.specs.Lines.{most_lines}
 use Rattle.reg_lines.proofs.RunLemmas.{RunsFrom-start, RunsFrom-flush, AppendsRun-so_far, AppendsRun-at_end, AppendsRun-at_most, AppendsRunFront-of}
 use Rattle.regd.specs.Answers.{Answers, start}
-use Rattle.regd.proofs.Running.{answers, calls_grow, flushed, one_more, place_grows, same_answer}
+use Rattle.regd.proofs.Running.{answers, calls_grow, flushed, one_more, same_answer}
 use Rattle.regd.proofs.plain_engine.plain.Goals as goal
 
 pub returns-in_err-line-clause-front : goal.returns-in_err-line-clause-front
 returns-in_err-line-clause-front g c =
-    AppendsRunFront-of _ (answers c.args.domain) _ _ _ _ _ 0 _ _ c.requires.output c.requires.none_held (omega arith) (RunsFrom-start (Answers c.args.domain) start c.args.input.now.left c.args.output.now)
+    AppendsRunFront-of _ (answers c.args.domain) _ _ _ _ _ 0 _ _ c.requires.output c.requires.none_held (omega arith) (RunsFrom-start (Answers c.args.domain) (start c.args.seed) c.args.input.now.left c.args.output.now)
 
 pub returns-in_err-book-clause-front : goal.returns-in_err-book-clause-front
 returns-in_err-book-clause-front g c =
-    AppendsRunFront-of _ (answers c.args.domain) _ _ _ _ _ 0 _ _ c.requires.output c.requires.none_held (omega arith) (RunsFrom-start (Answers c.args.domain) start c.args.input.now.left c.args.output.now)
+    AppendsRunFront-of _ (answers c.args.domain) _ _ _ _ _ 0 _ _ c.requires.output c.requires.none_held (omega arith) (RunsFrom-start (Answers c.args.domain) (start c.args.seed) c.args.input.now.left c.args.output.now)
 
 pub loop-lines-init : goal.loop-lines-init
 loop-lines-init g c =
-    let count = c.in_ok-book.ensures.stands.count in
     record {
-      way = record { books = first_books; stands = c.in_ok-book.ensures.stands; way = RunsFrom-start (Answers c.args.domain) start c.args.input.now.left c.args.output.now };
+      way = record { books = first_books; stands = c.in_ok-book.ensures.stands; way = rw c.of_seed-ids.ensures (RunsFrom-start (Answers c.args.domain) (start c.args.seed) c.args.input.now.left c.args.output.now) };
       domain = c.in_ok-book.ensures.domain;
       input = c.requires.input;
       lines = omega arith;
       calls = omega arith;
-      place = omega arith;
     }
 
 pub returns-then-has_failed-clause-front : goal.returns-then-has_failed-clause-front
@@ -73,16 +71,14 @@ returns-clause-front g c =
 pub loop-lines-preserved : goal.loop-lines-preserved
 loop-lines-preserved g c =
     let now = c.loop-lines.invariant in
-    let way = flushed _ _ _ _ _ _ _ _ _ now.way c.flush_before_waiting.ensures.put in
+    let way = flushed _ _ _ _ _ _ _ _ _ _ _ now.way c.flush_before_waiting.ensures.put in
     let line = rw c.in-Ok-true.field-0-test at c.in-Ok-true.ensures.line in
-    let told = same_answer _ _ _ _ _ _ _ _ _ now.domain c.as_bytes.ensures (c.answer-calls.ensures.line way.books way.stands) in
-    let calls = calls_grow _ _ _ _ _ _ _ told in
-    let place = place_grows _ _ _ _ _ _ _ _ way.stands told in
+    let told = same_answer _ _ _ _ _ _ _ _ _ _ now.domain c.as_bytes.ensures (c.answer-calls.ensures.line way.books way.stands) in
+    let calls = calls_grow _ _ _ _ _ _ _ _ told in
     record {
-      way = one_more _ _ _ _ _ _ _ _ _ _ _ _ _ way line told;
+      way = one_more _ _ _ _ _ _ _ _ _ _ _ _ _ _ _ _ way line told;
       domain = grind (arith, common_steps);
       input = grind (arith, common_steps);
       lines = omega arith;
       calls = omega arith;
-      place = omega arith;
     }

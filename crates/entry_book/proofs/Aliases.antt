@@ -1,0 +1,62 @@
+-- In a lawful book an authorised alias is held by the agent itself: no identity and no agent has the server's ID.
+use Rattle.std.proofs.Common.{◌≡◌, ◌≢◌, ℕ, ◌+◌, Bool, true, false, not, cond, ◌++◌, length, drop, Option, Some, None, refl, sym, ap, ◌∙◌, ⊎_elim}
+use Rattle.std.specs.Prelude.{bytes_eq, nat_lt}
+use Rattle.std.proofs.Math.Seq.{drop-append-add, drop-append_seam}
+use Rattle.std.proofs.lemmas.Bool.{both_ways}
+use Rattle.spiffe_name.specs.Id.{prefix, domain_of, path_of, server_text}
+use Rattle.entry_book.specs.declared.agent.Agent.{Agent}
+use Rattle.entry_book.specs.declared.fault.OpFault.{OpFault}
+use Rattle.entry_book.specs.declared.fault.OpFault.TheVariants.{ForeignId, Selectors, AgentPath}
+use Rattle.entry_book.specs.Rows.{Bytes, Entry, given_of}
+use Rattle.entry_book.specs.Order.{Within}
+use Rattle.entry_book.specs.Book.{Book}
+use Rattle.entry_book.specs.Authorised.{authorised, Holds}
+use Rattle.entry_book.specs.Batches.{agent_fault, is_foreign, is_agent_path}
+use Rattle.entry_book.specs.Lawful.{Lawful}
+use Rattle.entry_book.proofs.Chains.{reached_by}
+use Rattle.entry_book.proofs.Faultless.{not_the_server}
+use Rattle.entry_book.proofs.Sets.{text_is}
+use Rattle.entry_book.proofs.Servers.{server_path}
+
+-- ---- an agent's ID isn't the server's
+
+-- the table, with the answers to its tests
+abbrev lines : Bool → Bool → Bool → Option OpFault
+lines foreign many agents = cond foreign (Some ForeignId) (cond many (Some Selectors) (cond (not agents) (Some AgentPath) None))
+
+lines_pass : (foreign many agents : Bool) → lines foreign many agents ≡ None → (foreign ≡ false) × (agents ≡ true)
+lines_pass true many agents h = cc
+lines_pass false true agents h = cc
+lines_pass false false true h = (refl, refl)
+lines_pass false false false h = cc
+
+no_lines : (own : Bytes) (a : Agent) → agent_fault own a ≡ lines (is_foreign own a.id) (nat_lt 64 (length a.selectors)) (is_agent_path (path_of a.id))
+unfolding agent_fault
+no_lines own a = refl
+
+not_false : (t : Bool) → not t ≡ false → t ≡ true
+not_false true h = refl
+not_false false h = cc
+
+-- its domain is the book's, and its path an agent's
+pub of_agent : (own : Bytes) (a : Agent) → agent_fault own a ≡ None → (domain_of a.id ≡ own) × (is_agent_path (path_of a.id) ≡ true)
+of_agent own a h =
+    let k = lines_pass _ _ _ (sym (no_lines own a) ∙ h) in
+    (text_is (domain_of a.id) own (not_false (bytes_eq (domain_of a.id) own) k.0), k.1)
+
+behind : (own : Bytes) → drop (length prefix + length own) (server_text own) ≡ server_path
+behind own = drop-append-add prefix (own ++ server_path) (length own) ∙ drop-append_seam own server_path
+
+pub agent_not_server : (own : Bytes) (a : Agent) → agent_fault own a ≡ None → a.id ≢ server_text own
+agent_not_server own a h q =
+    let k = of_agent own a h in
+    let path : path_of a.id ≡ server_path = ap (λ d. drop (length prefix + length d) a.id) k.0 ∙ (ap (drop (length prefix + length own)) q ∙ behind own) in
+    both_ways (is_agent_path server_path) refl (sym (ap is_agent_path path) ∙ k.1)
+
+-- ---- an authorised alias
+
+pub alias_is_held : (own : Bytes) (most : ℕ) (a : Agent) (b : Book) (e : Entry) → Lawful own most b → Within b.agents a → Within (authorised (server_text own) a b) e → e.parent ≡ server_text own → Holds (server_text own) a e
+alias_is_held own most a b e l w v p = ⊎_elim
+    (λ s. ⊎_elim (λ h. h) (λ q. absurd (agent_not_server own a (l.no_agent_fault a w) (sym q ∙ p))) s)
+    (λ r. absurd (not_the_server own (given_of r.0) (l.no_fault r.0 r.1) (sym r.2 ∙ p)))
+    (reached_by (server_text own) a b e v)

@@ -1,0 +1,8 @@
+use Rattle.reg_lines.proofs.SeedIds.{known_first, of_their_words}
+use Rattle.reg_lines.proofs.ids.ids_law.Goals as goal
+
+pub returns-clause-words : goal.returns-clause-words
+returns-clause-words c = of_their_words
+
+pub returns-clause-first : goal.returns-clause-first
+returns-clause-first c = known_first

@@ -1,0 +1,52 @@
+-- The ids that a server gives: version 4 UUIDs (RFC 9562, section 5.4) of the words of a ChaCha20 stream.
+use Rattle.std.specs.Prelude.{◌≡◌, ℕ, zero, suc, ◌+◌, ◌*◌, ◌%◌, ◌^◌, ◌<◌, List, ◌++◌, replicate, Option, None, Some, codes}
+use Rattle.std.specs.Int.{w32, to_le_bytes}
+use Rattle.rand_chacha.specs.ChaCha.{ChaCha, key_of, of_seed, word_at}
+use Rattle.uuid.specs.Parts.{with_variant, with_version}
+use Rattle.uuid.specs.Text.{hyphenated_text, lower}
+use Rattle.uuid.specs.declared.Variant.TheVariants.{RFC4122}
+use Rattle.uuid.specs.declared.Version.TheVariants.{Random}
+
+-- no word of stream 0 is used yet
+abbrev pub first_ids : List ℕ → ChaCha
+first_ids seed = of_seed seed
+
+-- the same stream, this many words on; a stream begins again after 2 ^ 68 words
+abbrev pub words_on : ℕ → ChaCha → ChaCha
+words_on n ids = record ids { word_pos = (ids.word_pos + n) % 2 ^ 68 }
+
+-- the next word, of the cipher with ten double rounds, as four bytes, least byte first
+abbrev pub next_bytes : ChaCha → List ℕ
+next_bytes ids = to_le_bytes w32 (word_at 10 ids.key ids.stream ids.word_pos)
+
+-- the next four words are an id, but for the bits that tell the version and the variant
+unfoldable pub next_id : ChaCha → List ℕ
+next_id ids = with_version (with_variant (next_bytes ids ++ next_bytes (words_on 1 ids) ++ next_bytes (words_on 2 ids) ++ next_bytes (words_on 3 ids)) RFC4122) Random
+
+unfoldable pub after_id : ChaCha → ChaCha
+after_id ids = words_on 4 ids
+
+-- an entry's id, and what is left of the ids: only where none is given, one is drawn
+abbrev pub given_or_drawn : Option (List ℕ) → ChaCha → List ℕ × ChaCha
+given_or_drawn (Some id) ids = (id, ids)
+given_or_drawn None ids = (next_id ids, after_id ids)
+
+-- ---- what is known of the ids of a seed
+
+-- after this many ids
+abbrev pub after_ids : ℕ → ChaCha → ChaCha
+after_ids zero ids = ids
+after_ids (suc n) ids = after_id (after_ids n ids)
+
+-- the word at a place of stream 0, as four bytes
+abbrev pub seed_bytes : List ℕ → ℕ → List ℕ
+seed_bytes seed place = to_le_bytes w32 (word_at 10 (key_of seed) 0 place)
+
+-- as long as the stream lasts, the id after n others is of the words 4n to 4n + 3
+abbrev pub AreOfTheirWords : Type 0
+AreOfTheirWords = (seed : List ℕ) (n : ℕ) → 4 * n + 3 < 2 ^ 68
+    → next_id (after_ids n (first_ids seed)) ≡ with_version (with_variant (seed_bytes seed (4 * n) ++ seed_bytes seed (4 * n + 1) ++ seed_bytes seed (4 * n + 2) ++ seed_bytes seed (4 * n + 3)) RFC4122) Random
+
+-- the first id of the seed of zeros
+abbrev pub IsKnownFirst : Type 0
+IsKnownFirst = hyphenated_text lower (next_id (first_ids (replicate 32 0))) ≡ codes "76b8e0ad-a0f1-4d90-805d-6ae55386bd28"

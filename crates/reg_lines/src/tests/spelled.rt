@@ -1,0 +1,127 @@
+use super::answers::{line_of, new_ids, printed};
+use crate::{Ids, read_request};
+use entry_book::{NewEntry, Op};
+use spiffe_name::{Failure, TrustDomain};
+use std::alloc::Global;
+use std::process::Abort;
+use std::test::Fail;
+
+fn number_text(alloc: Global, number: Option<u64>) -> Result<String, Fail> {
+    match number {
+        Some(number) => Ok(format!(in alloc; "{number}")?),
+        None => Ok(String::from_str(alloc, "any")?),
+    }
+}
+
+/// The fields of an entry in the order of the format.
+fn entry_text(alloc: Global, new: &NewEntry) -> Result<String, Fail> {
+    let mut text = printed(alloc, &new.id)?;
+    for field in [
+        printed(alloc, &new.parent)?,
+        printed(alloc, &new.identity)?,
+        printed(alloc, &new.selectors)?,
+        printed(alloc, &new.hint)?,
+        printed(alloc, &new.domains)?,
+        number_text(alloc, Some(new.expiry))?,
+    ] {
+        text.push_str(" ")?;
+        text.push_str(field.as_str())?;
+    }
+    Ok(text)
+}
+
+/// The operation's name, and what was read of each of its keys.
+fn op_text(alloc: Global, op: &Op) -> Result<String, Fail> {
+    let (name, fields) = match op {
+        Op::Create(new) => ("create", entry_text(alloc, new.get())?),
+        Op::Update(new, expected) => (
+            "update",
+            format!(in alloc;
+                "{} {}",
+                entry_text(alloc, new.get())?,
+                number_text(alloc, *expected)?
+            )?,
+        ),
+        Op::Delete(id, expected) => (
+            "delete",
+            format!(in alloc;
+                "{} {}",
+                printed(alloc, id)?,
+                number_text(alloc, *expected)?
+            )?,
+        ),
+        Op::Show(id) => ("show", printed(alloc, id)?),
+        Op::ShowAgent(agent) => ("show_agent", printed(alloc, agent)?),
+        Op::ShowBundle(domain) => ("show_bundle", printed(alloc, domain)?),
+        Op::Children(parent) => ("children", printed(alloc, parent)?),
+        Op::Authorised(agent) => ("authorised", printed(alloc, agent)?),
+        Op::Trust(agent) => ("trust", printed(alloc, agent)?),
+        Op::Prune(moment) => ("prune", number_text(alloc, Some(*moment))?),
+        Op::SetAgent(agent) => (
+            "set_agent",
+            format!(in alloc;
+                "{} {}",
+                printed(alloc, &agent.id)?,
+                printed(alloc, &agent.selectors)?
+            )?,
+        ),
+        Op::DropAgent(agent) => ("drop_agent", printed(alloc, agent)?),
+        Op::SetBundle(domain, text) => (
+            "set_bundle",
+            format!(in alloc; "{} {}", printed(alloc, domain)?, printed(alloc, text)?)?,
+        ),
+        Op::DropBundle(domain, mode) => (
+            "drop_bundle",
+            format!(in alloc; "{} {mode:?}", printed(alloc, domain)?)?,
+        ),
+    };
+    Ok(format!(in alloc; "{name} {fields}")?)
+}
+
+/// What a line spells in the trust domain `ex.org`: how often it may be tried, and its operations; or the printed
+/// refusal. Want of memory is an error, so that no table has to know of it.
+pub fn spelled(alloc: Global, ids: &mut Ids, line: &[u8], number: u64) -> Result<String, Fail> {
+    let domain = TrustDomain::parse(alloc, "ex.org")?;
+    let request = match read_request(alloc, &domain, ids, line, number) {
+        Ok(request) => request,
+        Err(refusal) => {
+            if let Failure::NoMemory = &refusal.failure {
+                return Err(Fail::from("no memory"));
+            }
+            return printed(alloc, &refusal);
+        }
+    };
+    let mut text = number_text(alloc, Some(request.tries))?;
+    for op in request.batch.ops() {
+        text.push_str("; ")?;
+        text.push_str(op_text(alloc, op)?.as_str())?;
+    }
+    Ok(text)
+}
+
+/// Each line of the table is a request line and what it spells. Each is read with the first ids of the seed of zeros.
+pub fn spells(rt: &impl Abort, alloc: Global, table: &str) -> Result<(), Fail> {
+    for case in table.lines() {
+        if let Some((text, want)) = case.split_once(" => ") {
+            let line = line_of(alloc, text)?;
+            let got = spelled(alloc, &mut new_ids(), &line, 1)?;
+            assert_eq!(rt; got.as_str(), want, "{text}");
+        }
+    }
+    Ok(())
+}
+
+/// The same with what the lines before left of the ids; the lines are counted from 1.
+pub fn spells_in_a_row(rt: &impl Abort, alloc: Global, table: &str) -> Result<(), Fail> {
+    let mut ids = new_ids();
+    let mut count = 0u64;
+    for case in table.lines() {
+        if let Some((text, want)) = case.split_once(" => ") {
+            count = count.saturating_add(1);
+            let line = line_of(alloc, text)?;
+            let got = spelled(alloc, &mut ids, &line, count)?;
+            assert_eq!(rt; got.as_str(), want, "{text}");
+        }
+    }
+    Ok(())
+}

@@ -1,0 +1,127 @@
+//! The engine over memory: what a run answers, and tables of what it has to answer.
+
+use super::devices::{Giver, Pace, Taker, Trouble};
+use crate::{Fault, plain};
+use reg_lines::{Counted, Input, Output};
+use serde_json::Value;
+use spiffe_name::TrustDomain;
+use std::alloc::Global;
+use std::process::Abort;
+use std::test::Fail;
+
+/// The seed that is taken where none is given.
+pub const FIRST_SEED: [u8; 32] = [0; 32];
+
+/// Runs the engine of `ex.org` with the first seed over these devices.
+pub fn run(
+    alloc: Global,
+    giver: &mut Giver<'_>,
+    taker: &mut Taker,
+) -> Result<Result<(), Fault>, Fail> {
+    run_with(alloc, "ex.org", FIRST_SEED, giver, taker)
+}
+
+fn run_with(
+    alloc: Global,
+    domain: &str,
+    seed: [u8; 32],
+    giver: &mut Giver<'_>,
+    taker: &mut Taker,
+) -> Result<Result<(), Fault>, Fail> {
+    let domain = TrustDomain::parse(alloc, domain)?;
+    let mut input = Input::new(Counted::new(giver));
+    let mut output = Output::new(Counted::new(taker));
+    Ok(plain(alloc, domain, seed, &mut input, &mut output))
+}
+
+/// What the engine of `ex.org` with the first seed answers to these bytes.
+pub fn answers(alloc: Global, bytes: &[u8]) -> Result<Vec<u8>, Fail> {
+    answers_with(alloc, "ex.org", FIRST_SEED, bytes)
+}
+
+/// The same of the engine of another trust domain, or with another seed.
+pub fn answers_with(
+    alloc: Global,
+    domain: &str,
+    seed: [u8; 32],
+    bytes: &[u8],
+) -> Result<Vec<u8>, Fail> {
+    let mut giver = Giver::new(bytes, Pace::All, Trouble::NONE);
+    let mut taker = Taker::new(alloc, Pace::All, Trouble::NONE);
+    match run_with(alloc, domain, seed, &mut giver, &mut taker)? {
+        Ok(()) => Ok(taker.bytes),
+        Err(_) => Err(Fail::from("the run failed")),
+    }
+}
+
+/// A run's input, and the output that it has to give.
+#[derive(Drop)]
+pub struct Table {
+    pub asked: String,
+    pub wanted: String,
+}
+
+impl Table {
+    /// The lines of a table that begin with `{` are requests and their answers in turn; its other lines tell what is
+    /// shown.
+    pub fn of(alloc: Global, text: &str) -> Result<Table, Fail> {
+        let mut table = Table {
+            asked: String::new(alloc),
+            wanted: String::new(alloc),
+        };
+        let mut is_answer = false;
+        for line in text.lines() {
+            if line.starts_with('{') {
+                if is_answer {
+                    add_line(&mut table.wanted, line)?;
+                } else {
+                    add_line(&mut table.asked, line)?;
+                }
+                is_answer = !is_answer;
+            }
+        }
+        Ok(table)
+    }
+}
+
+fn add_line(text: &mut String, line: &str) -> Result<(), Fail> {
+    text.push_str(line)?;
+    text.push('\n')?;
+    Ok(())
+}
+
+/// The requests of the table, in one run of the engine of `ex.org` with the first seed, get the answers beside them.
+pub fn are_answered(rt: &impl Abort, alloc: Global, text: &str) -> Result<(), Fail> {
+    are_answered_with(rt, alloc, "ex.org", FIRST_SEED, text)
+}
+
+/// The same of an engine of another trust domain, or with another seed.
+pub fn are_answered_with(
+    rt: &impl Abort,
+    alloc: Global,
+    domain: &str,
+    seed: [u8; 32],
+    text: &str,
+) -> Result<(), Fail> {
+    let table = Table::of(alloc, text)?;
+    let got = answers_with(alloc, domain, seed, table.asked.as_bytes())?;
+    assert_eq!(rt; str::from_utf8(&got)?, table.wanted.as_str());
+    are_compact(rt, alloc, table.wanted.as_str())
+}
+
+/// Each line is the text that `serde_json` writes of the value that it reads there.
+pub fn are_compact(rt: &impl Abort, alloc: Global, lines: &str) -> Result<(), Fail> {
+    for line in lines.lines() {
+        let value = Value::from_str(alloc, line)?;
+        assert_eq!(rt; value.to_string(alloc)?.as_str(), line);
+    }
+    Ok(())
+}
+
+/// A text with spaces behind it, so many bytes in all, and what ends them.
+pub fn padded(alloc: Global, text: &str, len: usize, end: &str) -> Result<Vec<u8>, Fail> {
+    let mut line = Vec::from_slice(alloc, text.as_bytes())?;
+    line.resize(len, b' ')?;
+    line.extend_from_slice(end.as_bytes())?;
+    Ok(line)
+}
