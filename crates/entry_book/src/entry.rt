@@ -74,7 +74,7 @@ impl Entry {
     ghost use Rattle.entry_book.specs.Ops.{dissociated, is_stale};
 
     /// The entry that was given, at this revision. The error is want of memory.
-    pub(crate) fn at_revision(given: &Shared<NewEntry>, revision: u64) -> Result<Entry, AllocError>
+    pub fn at_revision(given: &Shared<NewEntry>, revision: u64) -> Result<Entry, AllocError>
         ensures { IfOk result (λ entry. entry ≡ at_revision revision given.now) }
     {
         Ok(Entry {
@@ -165,11 +165,7 @@ impl Entry {
     }
 
     /// The entry without a trust domain, at its next revision. The error is want of memory.
-    pub(crate) fn dissociated(
-        &self,
-        alloc: Global,
-        domain: &TrustDomain,
-    ) -> Result<Entry, AllocError>
+    pub fn dissociated(&self, alloc: Global, domain: &TrustDomain) -> Result<Entry, AllocError>
         requires room { self.now.revision ≤ 2 ^ 63 }
         ensures { IfOk result (λ entry. entry ≡ dissociated domain.now self.now) }
     {

@@ -3,6 +3,7 @@
 ghost use Rattle.std.specs.Prelude.{◌≡◌};
 
 use std::alloc::{AllocError, Global};
+use std::cmp::Ordering;
 use std::marker::Model;
 use std::sync::Arc;
 
@@ -50,5 +51,45 @@ impl<T: Drop> Clone for Shared<T> {
         Ok(Shared {
             value: self.value.clone()?,
         })
+    }
+}
+
+/// Two are equal where their values are.
+impl<T: PartialEq> PartialEq for Shared<T> {
+    ghost eq = { T.eq };
+
+    ghost laws = { T.PartialEq.laws };
+
+    fn eq(&self, other: &Shared<T>) -> bool {
+        self.get() == other.get()
+    }
+}
+
+impl<T: Eq> Eq for Shared<T> {
+    ghost laws = { T.Eq.laws };
+}
+
+impl<T: PartialOrd> PartialOrd for Shared<T> {
+    ghost partial_cmp = { T.partial_cmp };
+
+    ghost laws = { T.PartialOrd.laws };
+
+    fn partial_cmp(&self, other: &Shared<T>) -> Option<Ordering> {
+        self.get().partial_cmp(other.get())
+    }
+}
+
+/// The order is that of the values.
+impl<T: Ord> Ord for Shared<T> {
+    ghost cmp = { T.cmp };
+
+    ghost total = { T.total };
+
+    ghost matches_partial_cmp = { T.matches_partial_cmp };
+
+    ghost matches_eq = { T.matches_eq };
+
+    fn cmp(&self, other: &Shared<T>) -> Ordering {
+        self.get().cmp(other.get())
     }
 }

@@ -106,10 +106,11 @@ number_at key d = required key (option_and_then as_u64 (option_and_then as_numbe
 unfoldable pub optional_number_at : Key → Data → Result (Option ℕ) Fault
 optional_number_at key d = optional (number_in key) (given_at key d)
 
--- how often a batch may be tried: 1 to 16, once by default
+-- how often a batch may be tried: 1 to 16
 abbrev pub tries_of : Key → ℕ → Result ℕ Fault
 tries_of key n = if nat_lt 0 n && not (nat_lt 16 n) then Ok n else at_key code.Field key
 
+-- the same of an optional key: 1 where it is absent or null
 unfoldable pub tries_at : Key → Data → Result ℕ Fault
 tries_at key d = do
   number ← optional_number_at key d
@@ -188,13 +189,14 @@ abbrev pub domain_set : List (List ℕ) → List (List ℕ)
 domain_set [] = []
 domain_set (domain ∷ domains) = with_row (λ d. d) domain (Some domain) (domain_set domains)
 
--- the set of the trust domains that are listed, none by default
+-- the set of the trust domains that are listed
 unfoldable pub domain_set_in : Key → Data → Result (List (List ℕ)) Fault
 domain_set_in key d = do
   items ← required key (as_array d)
   domains ← domains_in key items
   Ok (domain_set domains)
 
+-- nothing where the key is absent or null; an entry then has the empty set
 unfoldable pub optional_domains_at : Key → Data → Result (Option (List (List ℕ))) Fault
 optional_domains_at key d = optional (domain_set_in key) (given_at key d)
 

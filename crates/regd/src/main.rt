@@ -1,7 +1,8 @@
 //! `regd`, a workload registration server.
 //!
 //! - [`Settings`]: what a command line asks for.
-//! - [`plain`]: the program `regd plain`, from the bytes of request lines to the bytes of reply lines.
+//! - [`plain`]: the program `regd plain`, from the bytes of request lines to the bytes of reply lines; [`run_plain`]: the
+//!   same for what the settings give.
 //! - [`Fault`] and [`LineFault`]: why a run stopped, and why a command line is none, with the texts for standard error.
 //! - [`a_line_gives_its_domain`]: which words give which domain.
 //! - [`Ended`] and [`status`]: how a run ended, and the exit status that tells the caller so.
@@ -17,7 +18,7 @@ mod settings;
 pub use ended::{Ended, status};
 pub use faults::{Fault, LineFault};
 pub use laws::a_line_gives_its_domain;
-pub use plain_engine::plain;
+pub use plain_engine::{plain, run_plain};
 use reg_lines::{Counted, Input, Output};
 pub use settings::Settings;
 use std::process::ExitCode;
@@ -39,9 +40,7 @@ fn run<R: Env + io::Input + Print + AllocGlobal>(rt: &R) -> Ended {
     };
     let mut input = Input::new(Counted::new(rt.reader()));
     let mut output = Output::new(Counted::new(io::writer(rt)));
-    let seed = settings.seed();
-    let domain = settings.into_domain();
-    Ended::of_run(plain(rt.alloc(), domain, seed, &mut input, &mut output))
+    Ended::of_run(run_plain(rt.alloc(), settings, &mut input, &mut output))
 }
 
 /// The settings that the words of the process ask for.

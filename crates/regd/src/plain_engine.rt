@@ -9,6 +9,7 @@ ghost use Rattle.reg_lines.specs.Stream.{Puts};
 ghost use Rattle.regd.specs.Answers.{Answers, AnswersBatch, AnswersLine, start};
 
 use crate::faults::Fault;
+use crate::settings::Settings;
 use entry_book::{Batch, PlainBook};
 use reg_lines::{
     CallReply, Ids, Input, Line, LineRefusal, Output, Sink, Source, flush_before_waiting,
@@ -74,6 +75,32 @@ pub fn plain<S: Source, K: Sink>(
         }
     }
     finish(output)
+}
+
+/// The same for the trust domain and the seed that the settings give.
+pub fn run_plain<S: Source, K: Sink>(
+    alloc: Global,
+    settings: Settings,
+    input: &mut Input<S>,
+    output: &mut Output<K>,
+) -> Result<(), Fault>
+    requires input { input.old.failures ≡ 0 }
+    requires output { output.old.failures ≡ 0 }
+    requires none_held { output.old.held ≡ [] }
+    ensures text { OnOk result (IfSome input.old.left (λ bytes.
+        AppendsRun (Answers settings.domain) (start settings.seed) (lines_kept most_lines bytes) output.old.written output.new.written)) }
+    ensures input_failed { IfErr result (λ fault. fault ≡ Fault.Input → 0 < input.new.failures) }
+    ensures output_failed { IfErr result (λ fault. fault ≡ Fault.Output → 0 < output.new.failures) }
+    ensures so_far { IfErr result (λ fault. fault ≡ Fault.Input → IfSome input.old.left (λ bytes. (count : ℕ)
+        × TakesLines count bytes input.new.left
+        × AppendsRun (Answers settings.domain) (start settings.seed) (lines_kept count bytes) output.old.written output.new.written)) }
+    ensures no_memory { IfErr result (λ fault. fault ≡ Fault.NoMemory → (input.new ≡ input.old) × (output.new ≡ output.old)) }
+    ensures front { IfSome input.old.left (λ bytes.
+        AppendsRunFront (Answers settings.domain) (start settings.seed) (lines_kept most_lines bytes) output.old.written output.new.written) }
+{
+    let seed = settings.seed();
+    let domain = settings.into_domain();
+    plain(alloc, domain, seed, input, output)
 }
 
 /// Flushes what is left at the end.

@@ -1,4 +1,4 @@
-mod Above
+pub mod Above
 mod Changed
 mod First
 mod Split

@@ -96,3 +96,21 @@ fn lines_are_utf8_and_not_too_deep(rt: HostRuntime) -> Result<(), Fail> {
     }
     Ok(())
 }
+
+/// A last part without LF is truncated, whatever it holds; a line of the same bytes is no JSON text.
+#[test]
+fn a_last_part_that_is_no_text_is_truncated(rt: HostRuntime) -> Result<(), Fail> {
+    for part in [
+        b"\xff".as_slice(),
+        b"{\"ops\":\"\xc3",
+        b"{\"ops\":[]}\xf0\x9f",
+    ] {
+        let got = answer(rt.alloc(), part, 1)?;
+        assert_eq!(rt; got.as_str(), r#"{"code":"L3","line":1}"#, "{part:?}");
+        let mut line = Vec::from_slice(rt.alloc(), part)?;
+        line.push(b'\n')?;
+        let got = answer(rt.alloc(), &line, 1)?;
+        assert_eq!(rt; got.as_str(), r#"{"code":"L2","line":1}"#, "{part:?}");
+    }
+    Ok(())
+}

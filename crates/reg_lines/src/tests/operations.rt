@@ -1,5 +1,5 @@
 use super::answers::new_ids;
-use super::spelled::{spelled, spells};
+use super::spelled::{spelled, spells, spells_with};
 use std::alloc::Global;
 use std::test::Fail;
 
@@ -218,7 +218,7 @@ fn with_text(alloc: Global, before: &str, count: usize) -> Result<String, Fail> 
 }
 
 #[test]
-fn lengths_are_of_bytes_after_escapes(rt: HostRuntime) -> Result<(), Fail> {
+fn lengths_of_texts_are_of_bytes_after_escapes(rt: HostRuntime) -> Result<(), Fail> {
     let hint =
         r#"{"ops":[{"op":"create","parent":"spiffe://ex.org/a","identity":"spiffe://ex.org/b","selectors":["u:1"],"hint":""#;
     let text = r#"{"ops":[{"op":"set_bundle","domain":"b.org","text":""#;
@@ -233,4 +233,24 @@ fn lengths_are_of_bytes_after_escapes(rt: HostRuntime) -> Result<(), Fail> {
         r#"{"code":"B12","line":1,"op":0}"#
     );
     Ok(())
+}
+
+/// Lines in which each `*` stands for 254 letters written as escapes, and what each spells, with those letters as they
+/// are.
+const LONG_NAMES: &str = r#"
+# an ID of 2,048 bytes, and one of 2,049
+{"ops":[{"op":"children","parent":"spiffe://ex.org/********"}]} => 1; children "spiffe://ex.org/********"
+{"ops":[{"op":"children","parent":"spiffe://ex.org/********x"}]} => {"code":"I1","field":"parent","line":1,"op":0}
+{"ops":[{"op":"show_agent","agent":"spiffe://ex.org/********\u0078"}]} => {"code":"I1","field":"agent","line":1,"op":0}
+
+# a trust domain of 255 bytes, and one of 256
+{"ops":[{"op":"show_bundle","domain":"b*"}]} => 1; show_bundle "b*"
+{"ops":[{"op":"show_bundle","domain":"b*b"}]} => {"code":"I4","field":"domain","line":1,"op":0}
+{"ops":[{"op":"update","id":"00000000-0000-0000-0000-000000000001","parent":"spiffe://ex.org/a","identity":"spiffe://ex.org/b","selectors":["u:1"],"domains":["b*","a"]}]} => 1; update "00000000-0000-0000-0000-000000000001" "spiffe://ex.org/a" "spiffe://ex.org/b" ["u:1"] "" ["a","b*"] 0 any
+{"ops":[{"op":"update","id":"00000000-0000-0000-0000-000000000001","parent":"spiffe://ex.org/a","identity":"spiffe://ex.org/b","selectors":["u:1"],"domains":["b*\u0078","a"]}]} => {"code":"I4","field":"domains","line":1,"op":0}
+"#;
+
+#[test]
+fn lengths_of_names_are_of_bytes_after_escapes(rt: HostRuntime) -> Result<(), Fail> {
+    spells_with(&rt, rt.alloc(), LONG_NAMES, 254, ["\\u0078", "x"])
 }

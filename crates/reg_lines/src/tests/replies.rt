@@ -150,7 +150,7 @@ fn id_of(alloc: Global, text: &str) -> Result<Shared<SpiffeId>, Fail> {
     Ok(Shared::of(alloc, SpiffeId::parse(alloc, text)?)?)
 }
 
-/// The reply to a create whose hint and expiry no line of this stage gives.
+/// The reply to a create with a hint that has to be escaped and the latest expiry.
 fn reply_with_hint(alloc: Global) -> Result<Reply, Fail> {
     let selectors = Vec::from_array(alloc, [Selector::parse(alloc, "u:1")?])?;
     let new = NewEntry {
@@ -173,7 +173,7 @@ fn reply_with_hint(alloc: Global) -> Result<Reply, Fail> {
 }
 
 #[test]
-fn values_that_no_line_of_this_stage_asks_for(rt: HostRuntime) -> Result<(), Fail> {
+fn values_made_without_a_line_are_printed(rt: HostRuntime) -> Result<(), Fail> {
     let alloc = rt.alloc();
     let reply = reply_with_hint(alloc)?;
     let line = CallReply {

@@ -1,4 +1,4 @@
-use super::spelled::spells;
+use super::spelled::{spells, spells_with};
 use std::test::Fail;
 
 /// Lines, and what each spells.
@@ -90,6 +90,16 @@ true => {"code":"L4","line":1}
 {"ops":[{"op":"authorised","agent":"spiffe://ex.org/spire/agent/n1"},{"op":"authorised","agent":"spiffe://ex.org/spire/agent/n1"},{"op":"page","size":1}]} => {"code":"L5","field":"op","line":1,"op":2}
 {"ops":[{"op":"page"}]} => {"code":"L5","field":"op","line":1,"op":0}
 
+# keys of an operation that aren't known: after the known ones, in the order of their bytes
+{"ops":[{"op":"show","id":"00000000-0000-0000-0000-000000000001","zz":1,"aa":1,"Zz":1}]} => {"code":"L5","field":"Zz","line":1,"op":0}
+{"ops":[{"op":"show","id":"00000000-0000-0000-0000-000000000001","𐀀":1,"～":1,"é":1,"zz":1}]} => {"code":"L5","field":"zz","line":1,"op":0}
+{"ops":[{"𐀀":1,"～":1,"é":1,"op":"show","id":"00000000-0000-0000-0000-000000000001"}]} => {"code":"L5","field":"é","line":1,"op":0}
+{"ops":[{"op":"show","𐀀":1,"id":"00000000-0000-0000-0000-000000000001","～":1}]} => {"code":"L5","field":"～","line":1,"op":0}
+{"ops":[{"op":"show","\ud800\udc00":1,"id":"00000000-0000-0000-0000-000000000001","\uff5e":1}]} => {"code":"L5","field":"～","line":1,"op":0}
+{"ops":[{"op":"show","id":"00000000-0000-0000-0000-000000000001","𐀀":1,"\u00e9z":1,"é":1}]} => {"code":"L5","field":"é","line":1,"op":0}
+{"ops":[{"op":"show","𐀀":1,"～":1}]} => {"code":"L5","field":"id","line":1,"op":0}
+{"ops":[{"op":"show","id":"00000000-0000-0000-0000-000000000001"},{"op":"prune","𐀀":1,"before":7,"～":1},{"op":"show","id":"00000000-0000-0000-0000-000000000001","é":1}]} => {"code":"L5","field":"～","line":1,"op":1}
+
 # authorised
 {"ops":[{"op":"authorised"}]} => {"code":"L5","field":"agent","line":1,"op":0}
 {"ops":[{"op":"authorised","agent":null}]} => {"code":"L5","field":"agent","line":1,"op":0}
@@ -117,7 +127,7 @@ true => {"code":"L4","line":1}
 {"ops":[{"op":"set_agent","agent":"spiffe://ex.org/spire/agent/n1","selectors":["x:"],"zz":1}]} => {"code":"S4","field":"selectors","line":1,"op":0}
 {"ops":[{"op":"authorised","agent":"spiffe://ex.org/spire/agent/n1"},{"op":"authorised","agent":"spiffe://ex.org/spire/agent/n1"},{"op":"set_agent","agent":"spiffe://ex.org/spire/agent/n1","selectors":["x:1"],"zz":1,"id":1}]} => {"code":"L5","field":"id","line":1,"op":2}
 
-# create: its keys in their order, all but the id required
+# create: its keys in their order; parent, identity and selectors are required
 {"ops":[{"op":"create"}]} => {"code":"L5","field":"parent","line":1,"op":0}
 {"ops":[{"op":"create","parent":"spiffe://ex.org/spire/agent/n1","identity":"spiffe://ex.org/web","selectors":["unix:uid:1000"]}]} => 1; create "76b8e0ad-a0f1-4d90-805d-6ae55386bd28" "spiffe://ex.org/spire/agent/n1" "spiffe://ex.org/web" ["unix:uid:1000"] "" [] 0
 {"ops":[{"op":"create","id":null,"parent":"spiffe://ex.org/spire/agent/n1","identity":"spiffe://ex.org/web","selectors":["unix:uid:1000"]}]} => 1; create "76b8e0ad-a0f1-4d90-805d-6ae55386bd28" "spiffe://ex.org/spire/agent/n1" "spiffe://ex.org/web" ["unix:uid:1000"] "" [] 0
@@ -159,4 +169,26 @@ true => {"code":"L4","line":1}
 #[test]
 fn lines_are_read_in_the_order_of_the_format(rt: HostRuntime) -> Result<(), Fail> {
     spells(&rt, rt.alloc(), TABLE)
+}
+
+/// Lines in which `*` stands for 63 more questions, and what each spells: 65 operations are too many, which is looked at
+/// after all of them were read.
+const MANY: &str = r#"
+{"ops":[{"op":"show","id":"00000000-0000-0000-0000-000000000001"}*]} => 1; show "00000000-0000-0000-0000-000000000001"*
+{"ops":[{"op":"show","id":"00000000-0000-0000-0000-000000000001"}*,{"op":"show","id":"00000000-0000-0000-0000-000000000001"}]} => {"code":"B2","line":1}
+{"ops":[{"op":"show","id":"1"}*,{"op":"show","id":"00000000-0000-0000-0000-000000000001"}]} => {"code":"U1","field":"id","line":1,"op":0}
+{"ops":[{"op":"show","id":"00000000-0000-0000-0000-000000000001"}*,{"op":"show","id":"1"}]} => {"code":"U1","field":"id","line":1,"op":64}
+{"ops":[{"op":"show","id":"00000000-0000-0000-0000-000000000001"}*,{"op":"set_agent","agent":"spiffe://ex.org/spire/agent/n1","selectors":["unix"]}]} => {"code":"S2","field":"selectors","line":1,"op":64}
+{"ops":[{"op":"show","id":"00000000-0000-0000-0000-000000000001"}*,{"op":"set_agent","agent":"spiffe://ex.org/spire/agent/n1","selectors":["unix"]},7]} => {"code":"S2","field":"selectors","line":1,"op":64}
+{"ops":[{"op":"show","id":"00000000-0000-0000-0000-000000000001"},{"op":"set_agent","agent":"spiffe://ex.org/spire/agent/n1","selectors":["unix"]}*]} => {"code":"S2","field":"selectors","line":1,"op":1}
+{"ops":[{"op":"show","id":"00000000-0000-0000-0000-000000000001"}*,7]} => {"code":"L5","field":"ops","line":1,"op":64}
+"#;
+
+#[test]
+fn one_operation_too_many_is_told_after_a_refused_one(rt: HostRuntime) -> Result<(), Fail> {
+    let more = [
+        r#",{"op":"show","id":"00000000-0000-0000-0000-000000000001"}"#,
+        r#"; show "00000000-0000-0000-0000-000000000001""#,
+    ];
+    spells_with(&rt, rt.alloc(), MANY, 63, more)
 }

@@ -125,3 +125,29 @@ pub fn spells_in_a_row(rt: &impl Abort, alloc: Global, table: &str) -> Result<()
     }
     Ok(())
 }
+
+/// The text in which the piece stands so many times in the place of each `*`.
+fn with_pieces(alloc: Global, text: &str, count: usize, piece: &str) -> Result<String, Fail> {
+    let pieces = piece.repeat(alloc, count)?;
+    Ok(text.replace(alloc, "*", pieces.as_str())?)
+}
+
+/// The same where each `*` of a line stands for the first piece, so many times, and each `*` of what it spells for the
+/// second.
+pub fn spells_with(
+    rt: &impl Abort,
+    alloc: Global,
+    table: &str,
+    count: usize,
+    [piece, spelled_piece]: [&str; 2],
+) -> Result<(), Fail> {
+    for case in table.lines() {
+        if let Some((text, want)) = case.split_once(" => ") {
+            let line = line_of(alloc, with_pieces(alloc, text, count, piece)?.as_str())?;
+            let want = with_pieces(alloc, want, count, spelled_piece)?;
+            let got = spelled(alloc, &mut new_ids(), &line, 1)?;
+            assert_eq!(rt; got.as_str(), want.as_str(), "{text}");
+        }
+    }
+    Ok(())
+}

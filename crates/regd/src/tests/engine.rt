@@ -1,7 +1,7 @@
 //! The engine over memory: what a run answers, and tables of what it has to answer.
 
 use super::devices::{Giver, Pace, Taker, Trouble};
-use crate::{Fault, plain};
+use crate::{Fault, Settings, plain, run_plain};
 use reg_lines::{Counted, Input, Output};
 use serde_json::Value;
 use spiffe_name::TrustDomain;
@@ -49,6 +49,23 @@ pub fn answers_with(
     let mut giver = Giver::new(bytes, Pace::All, Trouble::NONE);
     let mut taker = Taker::new(alloc, Pace::All, Trouble::NONE);
     match run_with(alloc, domain, seed, &mut giver, &mut taker)? {
+        Ok(()) => Ok(taker.bytes),
+        Err(_) => Err(Fail::from("the run failed")),
+    }
+}
+
+/// What a run of these words of a command line answers to these bytes.
+pub fn answers_of_words(alloc: Global, words: &[&str], bytes: &[u8]) -> Result<Vec<u8>, Fail> {
+    let settings = Settings::from_words(alloc, words)
+        .ok()
+        .ok_or("no settings")?;
+    let mut giver = Giver::new(bytes, Pace::All, Trouble::NONE);
+    let mut taker = Taker::new(alloc, Pace::All, Trouble::NONE);
+    let mut input = Input::new(Counted::new(&mut giver));
+    let mut output = Output::new(Counted::new(&mut taker));
+    let ended = run_plain(alloc, settings, &mut input, &mut output);
+    drop(output);
+    match ended {
         Ok(()) => Ok(taker.bytes),
         Err(_) => Err(Fail::from("the run failed")),
     }

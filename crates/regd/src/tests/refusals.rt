@@ -68,6 +68,9 @@ the least code first within an operation, then operation by operation
 {"code":"B3","line":26,"op":0}
 {"ops":[{"op":"set_agent","agent":"spiffe://ex.org/n1","selectors":["x:0","x:1","x:2","x:3","x:4","x:5","x:6","x:7","x:8","x:9","x:10","x:11","x:12","x:13","x:14","x:15","x:16","x:17","x:18","x:19","x:20","x:21","x:22","x:23","x:24","x:25","x:26","x:27","x:28","x:29","x:30","x:31","x:32","x:33","x:34","x:35","x:36","x:37","x:38","x:39","x:40","x:41","x:42","x:43","x:44","x:45","x:46","x:47","x:48","x:49","x:50","x:51","x:52","x:53","x:54","x:55","x:56","x:57","x:58","x:59","x:60","x:61","x:62","x:63","x:64"]},{"op":"drop_agent","agent":"spiffe://b.org"}]}
 {"code":"B6","line":27,"op":0}
+of the keys of an operation that aren't known the first one in the order of their bytes
+{"ops":[{"op":"show","id":"00000000-0000-0000-0000-000000000001"},{"op":"show","𐀀":1,"～":1,"id":"00000000-0000-0000-0000-000000000001"}]}
+{"code":"L5","field":"～","line":28,"op":1}
 "#;
 
 #[test]
@@ -161,6 +164,19 @@ fn empty_long_good_and_cut_lines(rt: HostRuntime) -> Result<(), Fail> {
 "#;
     assert_eq!(rt; answers(rt.alloc(), &bytes)?.as_slice(), wanted.as_bytes());
     are_compact(&rt, rt.alloc(), wanted)
+}
+
+#[test]
+fn bytes_that_are_no_text(rt: HostRuntime) -> Result<(), Fail> {
+    let mut bytes = Vec::from_slice(rt.alloc(), b"{\"ops\":\"\xc3\n")?;
+    bytes.extend_from_slice(SHOW.as_bytes())?;
+    bytes.extend_from_slice(b"\n{\"ops\":\"\xc3")?;
+    let wanted = r#"{"code":"L2","line":1}
+{"call":1,"place":0,"replies":[{"entry":null}],"result":"answered"}
+{"code":"L3","line":3}
+"#;
+    assert_eq!(rt; answers(rt.alloc(), &bytes)?.as_slice(), wanted.as_bytes());
+    Ok(())
 }
 
 /// The answer to a question of the children of this parent, on the book of the trust domain `a`.

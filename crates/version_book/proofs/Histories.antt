@@ -1,0 +1,148 @@
+-- How do versions follow one another, batch by batch?
+use Rattle.std.proofs.Common.{◌≡◌, ℕ, ◌+◌, ◌*◌, Bool, true, false, List, [], ◌∷◌, ◌++◌, length, Option, Some, None, Ok, Err, sym, ap, subst, ◌∙◌, refl, IfOk, inl, inr, option_map, arith, length-append}
+use Rattle.std.specs.Prelude.{map, filter}
+use Rattle.std.specs.List.{list_any}
+use Rattle.std.proofs.lemmas.Bool.{or_parts}
+use Rattle.entry_book.proofs.Fits.{in_order}
+use Rattle.entry_book.proofs.Histories.{batch_keeps, last-snoc, verdict_changes}
+use Rattle.entry_book.proofs.Runs.{run_fits}
+use Rattle.entry_book.proofs.WithinLimits.{none_is_passed}
+use Rattle.entry_book.specs.declared.limit.Limit.{Limit}
+use Rattle.entry_book.specs.declared.reply.OpReply.{OpReply}
+use Rattle.entry_book.specs.Rows.{Bytes, entry_key, agent_key, bundle_key}
+use Rattle.entry_book.specs.Order.{Within, Ascending, with_row}
+use Rattle.entry_book.specs.Book.{Book, AscendingBook, empty_book}
+use Rattle.entry_book.specs.Writes.{Change, Write, wrote_entry, wrote_agent, wrote_bundle, FitsRows, FitsBook, FitAll, after, after_write}
+use Rattle.entry_book.specs.Batches.{Batch, is_query}
+use Rattle.entry_book.specs.Runs.{RunResult, run}
+use Rattle.entry_book.specs.Lawful.{Lawful}
+use Rattle.entry_book.specs.Laws.{IsWithinLimits}
+use Rattle.entry_book.specs.Limits.{limit_passed}
+use Rattle.entry_book.specs.History.{Verdict, adds, adds_within, verdict, verdict_when, last_book, place_of, books_with, books_after, reply_with, is_committed}
+use Rattle.version_book.specs.declared.mark.Named.{Named}
+use Rattle.version_book.specs.declared.numbered.Numbered.{Numbered}
+use Rattle.version_book.specs.Marks.{hits, passes, names_entry, names_agent, names_bundle}
+use Rattle.version_book.specs.Numbered.{Rows, State, AllUpTo, row_of, numbered, of_row, book_of, marked, next_state, rows_after, rows_after_write}
+use Rattle.version_book.specs.History.{Commits, Follows, any_hits, state_with, writes_in, writes_of}
+use Rattle.version_book.specs.Laws.{BatchCommits, FollowsOn, BooksFollow, DomainStays, LawfulFollows, LimitsFollow, UnhitHistory}
+use Rattle.version_book.proofs.Agreement.{old_fails, unhit_rows}
+use Rattle.version_book.proofs.NamedRows.{book_after, book_after_write}
+use Rattle.version_book.proofs.Numbers.{all_up_to_next, ascending_rows}
+
+-- ---- one batch
+
+pub batch_commits : BatchCommits
+batch_commits batch s t m q e l =
+    let same : state_with batch s ≡ next_state t.writes s = ap (λ r. next_state (writes_in r) s) e in
+    let b = book_of s.rows in (
+      record {
+        made = m;
+        replies = t.replies;
+        added =
+            verdict_changes (is_query batch.ops) s.number b (run batch.domain batch.ops b) t None q e l
+            ∙ ap (adds t.replies) (sym (ap (λ u. book_of u.rows) same ∙ book_after (s.number + 1) t.writes s.rows));
+      },
+      same,
+    )
+
+-- what holds of the writes of each run holds of those of a batch that commits
+of_writes : (P : List Write → Type 0) (query : Bool) (n : ℕ) (b c : Book) (replies : List OpReply) (r : RunResult) → verdict_when query n b r ≡ adds replies c → IfOk r (λ t. P t.writes) → P (writes_in r)
+of_writes P query n b c replies (Ok t) e h = h
+of_writes P query n b c replies (Err s) e h = cc
+
+of_batch : (P : List Write → Type 0) (batch : Batch) (s : State) → Commits batch s → IfOk (run batch.domain batch.ops (book_of s.rows)) (λ t. P t.writes) → P (writes_of batch (book_of s.rows))
+of_batch P batch s c h = of_writes P (is_query batch.ops) s.number (book_of s.rows) (book_of (state_with batch s).rows) c.replies (run batch.domain batch.ops (book_of s.rows)) c.added h
+
+-- the writes of a batch that commits find the rows that they name
+writes_fit : (batch : Batch) (s : State) → AscendingBook (book_of s.rows) → Commits batch s → FitAll (writes_of batch (book_of s.rows)) (book_of s.rows)
+writes_fit batch s a c = (of_batch (λ ws. FitAll ws (book_of s.rows) × AscendingBook (after ws (book_of s.rows))) batch s c (run_fits batch.domain batch.ops (book_of s.rows) a)).0
+
+pub ascending_next : (batch : Batch) (s : State) → AscendingBook (book_of s.rows) → Commits batch s → AscendingBook (book_of (state_with batch s).rows)
+ascending_next batch s a c = subst AscendingBook (sym (book_after (s.number + 1) (writes_of batch (book_of s.rows)) s.rows)) (in_order (writes_of batch (book_of s.rows)) (book_of s.rows) a (writes_fit batch s a c))
+
+-- ---- many batches
+
+pub follows_on : FollowsOn
+follows_on [] second s t u f g = subst (λ x. Follows x second u) (sym f) g
+follows_on (batch ∷ first) second s t u f g = (f.0, follows_on first second (state_with batch s) t u f.1 g)
+
+-- a batch that adds a book, on a list of books
+added_to : (books : List Book) (v : Verdict) (replies : List OpReply) (b : Book) → v ≡ adds replies b → (is_committed (reply_with (place_of books) v).outcome ≡ true) × (books_with books v ≡ books ++ b ∷ [])
+added_to books v replies b e = (ap (λ v. is_committed (reply_with (place_of books) v).outcome) e, ap (books_with books) e)
+
+pub books_follow : BooksFollow
+books_follow [] older newer books l b p f =
+    let n = ap (λ s. s.number) f in (tt, b ∙ ap (λ s. book_of s.rows) f, p ∙ n, omega arith)
+books_follow (batch ∷ batches) older newer books l b p f =
+    let c : Commits batch older = f.0 in
+    let next : Book = book_of (state_with batch older).rows in
+    let v : verdict batch (place_of books) (last_book books) ≡ adds c.replies next = ap (λ n. verdict batch n (last_book books)) p ∙ (ap (verdict batch older.number) b ∙ c.added) in
+    let a = added_to books (verdict batch (place_of books) (last_book books)) c.replies next v in
+    let n : length (books_after batch books) ≡ length books + 1 = ap length a.1 ∙ length-append books (next ∷ []) in
+    let r = books_follow batches (state_with batch older) newer (books_after batch books) (omega arith) (ap last_book a.1 ∙ last-snoc empty_book books next) (omega arith) f.1 in
+    let k = r.3 in
+    ((a.0, r.0), r.1, r.2, omega arith)
+
+pub lawful_next : (batch : Batch) (s : State) → Lawful s.domain (64 * s.number) (book_of s.rows) → Commits batch s → Lawful s.domain (64 * (s.number + 1)) (book_of (state_with batch s).rows)
+lawful_next batch s l c = subst (Lawful s.domain (64 * (s.number + 1))) (sym (book_after (s.number + 1) (writes_of batch (book_of s.rows)) s.rows))
+    (of_batch (λ ws. Lawful s.domain (64 * (s.number + 1)) (after ws (book_of s.rows))) batch s c (batch_keeps s.domain batch s.number (book_of s.rows) c.made l))
+
+pub lawful_follows : LawfulFollows
+lawful_follows [] older newer l u f = (subst (λ s. Lawful s.domain (64 * s.number) (book_of s.rows)) f l, subst (λ s. AllUpTo s.number s.rows) f u)
+lawful_follows (batch ∷ batches) older newer l u f = lawful_follows batches (state_with batch older) newer (lawful_next batch older l f.0) (all_up_to_next (writes_of batch (book_of older.rows)) older u) f.1
+
+-- ---- writes that don't hit leave the rows with their numbers
+
+within_rows : {X : Type 0} (rows : List (Numbered X)) (r : Numbered X) → Within rows r → Within (map row_of rows) r.row
+within_rows [] r w = absurd w
+within_rows (x ∷ xs) r w = elim w [ inl e ↦ inl (ap row_of e) | inr v ↦ inr (within_rows xs r v) ]
+
+passes_numbered : {X : Type 0} (p : X → Bool) (n : ℕ) (o : Option X) → passes p o ≡ false → passes (of_row p) (option_map (numbered n) o) ≡ false
+passes_numbered p n None h = h
+passes_numbered p n (Some x) h = h
+
+unhit_numbered : {X : Type 0} (key : X → Bytes) (p : X → Bool) (n : ℕ) (c : Change X) (rows : List (Numbered X)) → Ascending key (map row_of rows) → FitsRows key c (map row_of rows) → passes p c.old ≡ false → passes p c.new ≡ false → filter (of_row p) rows ≡ filter (of_row p) (with_row (of_row key) c.key (option_map (numbered n) c.new) rows)
+unhit_numbered key p n c rows a f old new = sym (unhit_rows (of_row key) (of_row p) c.key (option_map (numbered n) c.new) rows (ascending_rows key rows a) (λ r w e. old_fails key p c (map row_of rows) f old r.row (within_rows rows r w) e) (passes_numbered p n c.new new))
+
+unhit_write : (m : Named) (n : ℕ) (w : Write) (rows : Rows) → AscendingBook (book_of rows) → FitsBook w (book_of rows) → hits w m ≡ false → marked m rows ≡ marked m (rows_after_write n w rows)
+unhit_write m n (wrote_entry c) rows a f h = let r = or_parts _ _ (or_parts _ _ h).1 in ap (λ es. record (marked m rows) { entries = es }) (unhit_numbered entry_key (names_entry m) n c rows.entries a.entries f r.0 r.1)
+unhit_write m n (wrote_agent c) rows a f h = let r = or_parts _ _ h in ap (λ us. record (marked m rows) { agents = us }) (unhit_numbered agent_key (names_agent m) n c rows.agents a.agents f r.0 r.1)
+unhit_write m n (wrote_bundle c) rows a f h = let r = or_parts _ _ h in ap (λ ds. record (marked m rows) { bundles = ds }) (unhit_numbered bundle_key (names_bundle m) n c rows.bundles a.bundles f r.0 r.1)
+
+unhit_writes : (m : Named) (n : ℕ) (ws : List Write) (rows : Rows) → AscendingBook (book_of rows) → FitAll ws (book_of rows) → list_any (λ w. hits w m) ws ≡ false → marked m rows ≡ marked m (rows_after n ws rows)
+unhit_writes m n [] rows a f h = refl
+unhit_writes m n (w ∷ ws) rows a f h =
+    let r = or_parts (hits w m) (list_any (λ w. hits w m) ws) h in
+    let e : after_write w (book_of rows) ≡ book_of (rows_after_write n w rows) = sym (book_after_write n w rows) in
+    unhit_write m n w rows a f.0 r.0
+    ∙ unhit_writes m n ws (rows_after_write n w rows) (subst AscendingBook e (in_order (w ∷ []) (book_of rows) a (f.0, tt))) (subst (FitAll ws) e f.1) r.1
+
+pub unhit_history : UnhitHistory
+unhit_history m [] older newer a f h = ap (λ s. marked m s.rows) f
+unhit_history m (batch ∷ batches) older newer a f h =
+    let r = or_parts (list_any (λ w. hits w m) (writes_of batch (book_of older.rows))) (any_hits m (state_with batch older) batches) h in
+    unhit_writes m (older.number + 1) (writes_of batch (book_of older.rows)) older.rows a (writes_fit batch older a f.0) r.0
+    ∙ unhit_history m batches (state_with batch older) newer (ascending_next batch older a f.0) f.1 r.1
+
+-- ---- what stays along a history
+
+pub domain_stays : DomainStays
+domain_stays [] older newer f = (ap (λ s. s.domain) (sym f), tt)
+domain_stays (batch ∷ batches) older newer f = let r = domain_stays batches (state_with batch older) newer f.1 in (r.0, (f.0.made, r.1))
+
+-- a book that is added has passed no limit
+added_within : (limit : Option Limit) (replies others : List OpReply) (b c : Book) → adds_within limit replies b ≡ adds others c → (limit ≡ None) × (b ≡ c)
+added_within None replies others b c e = (refl, cc)
+added_within (Some l) replies others b c e = cc
+
+verdict_within : (query : Bool) (n : ℕ) (b c : Book) (replies : List OpReply) (r : RunResult) → verdict_when query n b r ≡ adds replies c → IsWithinLimits c
+verdict_within query n b c replies (Err s) e = cc
+verdict_within true n b c replies (Ok t) e = cc
+verdict_within false n b c replies (Ok t) e =
+    let w = added_within (limit_passed n (after t.writes b)) t.replies replies (after t.writes b) c e in
+    subst IsWithinLimits w.1 ((none_is_passed n (after t.writes b)).0 w.0).1
+
+pub limits_follow : LimitsFollow
+limits_follow [] older newer w f = subst (λ s. IsWithinLimits (book_of s.rows)) f w
+limits_follow (batch ∷ batches) older newer w f =
+    limits_follow batches (state_with batch older) newer (verdict_within (is_query batch.ops) older.number (book_of older.rows) (book_of (state_with batch older).rows) f.0.replies (run batch.domain batch.ops (book_of older.rows)) f.0.added) f.1

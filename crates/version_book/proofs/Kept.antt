@@ -1,0 +1,120 @@
+-- What rows are left after one is taken away, and what are they after another is put?
+use Rattle.std.proofs.Common.{◌≡◌, ◌+◌, ◌≤◌, true, false, List, [], ◌∷◌, ◌++◌, length, map, Some, None, refl, sym, ap, subst, ◌∙◌, inl, ⊎_elim, arith, length-append}
+use Rattle.std.specs.Prelude.{filter, option_to_list, bytes_eq}
+use Rattle.std.specs.Ordering.{nat_cmp}
+use Rattle.std.specs.Cmp.Lexicographic.{slice_cmp}
+use Rattle.std.specs.Map.{values_of}
+use Rattle.std.proofs.lemmas.List.Elements.{filter-append}
+use Rattle.version_shelf.specs.Shelf.{IsInOrder, get}
+use Rattle.entry_book.specs.Rows.{Bytes, Entry, entry_key}
+use Rattle.entry_book.specs.Order.{Within, Ascending, is_before, with_row}
+use Rattle.entry_book.proofs.Sets.{All-from_within, from_within_filter, within_filter, before-trans, before-irrefl, text_is, text_same}
+use Rattle.entry_book.proofs.Keys.{from_with_row, without_none}
+use Rattle.version_book.specs.declared.numbered.Numbered.{Numbered}
+use Rattle.version_book.specs.Numbered.{of_row, row_of}
+use Rattle.version_book.specs.Room.{count_of_names, most_rows}
+use Rattle.version_book.specs.Stores.{IsAbsent, IsKeyed}
+use Rattle.version_book.proofs.NamedRows.{map-with_row}
+use Rattle.version_book.proofs.Shelves.{filter-twice, filter-apart, row_at}
+
+-- ---- a row taken away
+
+module _ {X : Type 0} (key : X → Bytes) (k : Bytes) where
+  below_not_above : (x : X) → is_before (key x) k ≡ true → is_before k (key x) ≡ false
+  below_not_above x h = elim (is_before k (key x)) as (λ b. is_before k (key x) ≡ b → b ≡ false) [
+    | true ↦ λ e. absurd (before-irrefl k (before-trans k (key x) k e h))
+    | false ↦ λ e. refl
+  ] refl
+
+  above_not_below : (x : X) → is_before k (key x) ≡ true → is_before (key x) k ≡ false
+  above_not_below x h = elim (is_before (key x) k) as (λ b. is_before (key x) k ≡ b → b ≡ false) [
+    | true ↦ λ e. absurd (before-irrefl k (before-trans k (key x) k h e))
+    | false ↦ λ e. refl
+  ] refl
+
+  append_none : (xs : List X) → xs ++ [] ≡ xs
+  append_none [] = refl
+  append_none (x ∷ xs) = ap (λ l. x ∷ l) (append_none xs)
+
+  below_left : (rows : List X) → filter (λ x. is_before (key x) k) (with_row key k None rows) ≡ filter (λ x. is_before (key x) k) rows
+  unfolding with_row
+  below_left rows =
+      let twice = filter-twice (λ x. is_before (key x) k) rows in
+      let apart = filter-apart (λ x. is_before (key x) k) (λ x. is_before k (key x)) above_not_below rows in
+      filter-append (λ x. is_before (key x) k) (filter (λ x. is_before (key x) k) rows) (filter (λ x. is_before k (key x)) rows)
+      ∙ ((λ i. twice i ++ apart i) ∙ append_none (filter (λ x. is_before (key x) k) rows))
+
+  above_left : (rows : List X) → filter (λ x. is_before k (key x)) (with_row key k None rows) ≡ filter (λ x. is_before k (key x)) rows
+  unfolding with_row
+  above_left rows =
+      let apart = filter-apart (λ x. is_before k (key x)) (λ x. is_before (key x) k) below_not_above rows in
+      let twice = filter-twice (λ x. is_before k (key x)) rows in
+      filter-append (λ x. is_before k (key x)) (filter (λ x. is_before (key x) k) rows) (filter (λ x. is_before k (key x)) rows)
+      ∙ (λ i. apart i ++ twice i)
+
+  -- a row that is put where its key was taken away
+  pub with_after_none : (n : X) (rows : List X) → with_row key k (Some n) (with_row key k None rows) ≡ with_row key k (Some n) rows
+  unfolding with_row
+  with_after_none n rows =
+      let below = below_left rows in
+      let above = above_left rows in
+      λ i. below i ++ n ∷ above i
+
+  -- it is one more
+  pub length-with_row : (n : X) (rows : List X) → length (with_row key k (Some n) rows) ≡ length (with_row key k None rows) + 1
+  unfolding with_row
+  length-with_row n rows =
+      let one = length-append (filter (λ x. is_before (key x) k) rows) (n ∷ filter (λ x. is_before k (key x)) rows) in
+      let none = length-append (filter (λ x. is_before (key x) k) rows) (filter (λ x. is_before k (key x)) rows) in
+      omega (arith, one, none)
+
+count-append : (xs ys : List Entry) → count_of_names (xs ++ ys) ≡ count_of_names xs + count_of_names ys
+count-append [] ys = omega arith
+count-append (x ∷ xs) ys = let rest = count-append xs ys in omega (arith, rest)
+
+count-with_row : (k : Bytes) (n : Entry) (rows : List Entry) → count_of_names (with_row entry_key k (Some n) rows) ≡ count_of_names (with_row entry_key k None rows) + length n.domains
+unfolding with_row
+count-with_row k n rows =
+    let one = count-append (filter (λ x. is_before (entry_key x) k) rows) (n ∷ filter (λ x. is_before k (entry_key x)) rows) in
+    let none = count-append (filter (λ x. is_before (entry_key x) k) rows) (filter (λ x. is_before k (entry_key x)) rows) in
+    omega (arith, one, none)
+
+length-map : {X Y : Type 0} (f : X → Y) (xs : List X) → length (map f xs) ≡ length xs
+length-map f [] = refl
+length-map f (x ∷ xs) = let rest = length-map f xs in omega (arith, rest)
+
+-- ---- the rows of a version without one, and with another
+
+module _ (k : Bytes) (rows : List (Numbered Entry)) where
+  rows_without : map row_of (with_row (of_row entry_key) k None rows) ≡ with_row entry_key k None (map row_of rows)
+  rows_without = map-with_row row_of entry_key k None rows
+
+  pub room_after : (new : Entry) → length (with_row entry_key k (Some new) (map row_of rows)) ≤ most_rows → length (with_row (of_row entry_key) k None rows) + 1 ≤ most_rows
+  room_after new room =
+      let one = length-with_row entry_key k new (map row_of rows) in
+      let same = ap length rows_without in
+      let size = length-map {Y = Entry} row_of (with_row (of_row entry_key) k None rows) in
+      omega (arith, one, same, size, room)
+
+  pub names_after : (new : Entry) → count_of_names (with_row entry_key k (Some new) (map row_of rows)) ≤ most_rows → count_of_names (map row_of (with_row (of_row entry_key) k None rows)) + length new.domains ≤ most_rows
+  names_after new room =
+      let one = count-with_row k new (map row_of rows) in
+      let same = ap count_of_names rows_without in
+      omega (arith, one, same, room)
+
+  pub absent_after : IsAbsent entry_key k (with_row (of_row entry_key) k None rows)
+  absent_after = All-from_within (λ r. r.row.id ≡ k → ⊥) (with_row (of_row entry_key) k None rows)
+      (λ r w. ⊎_elim (λ n. absurd n) (λ o. o.1) (from_with_row (of_row entry_key) k None rows r w))
+
+-- the row of a key, and what is left where there is none
+module _ (k : Bytes) (shelf : List (Bytes × Numbered Entry)) (sorted : IsInOrder (slice_cmp nat_cmp) shelf) (keyed : IsKeyed entry_key shelf) where
+  pub row_within : (r : Numbered Entry) → get (slice_cmp nat_cmp) shelf k ≡ Some r → Within (values_of shelf) r × (r.row.id ≡ k)
+  row_within r e =
+      let alone : filter (λ r. bytes_eq r.row.id k) (values_of shelf) ≡ r ∷ [] = row_at entry_key k shelf sorted keyed ∙ ap option_to_list e in
+      let there = from_within_filter (λ r. bytes_eq r.row.id k) (values_of shelf) r (subst (λ l. Within l r) (sym alone) (inl refl)) in
+      (there.0, text_is r.row.id k there.1)
+
+  pub none_left : Ascending (of_row entry_key) (values_of shelf) → get (slice_cmp nat_cmp) shelf k ≡ None → with_row (of_row entry_key) k None (values_of shelf) ≡ values_of shelf
+  none_left ascending e =
+      let alone : filter (λ r. bytes_eq r.row.id k) (values_of shelf) ≡ [] = row_at entry_key k shelf sorted keyed ∙ ap option_to_list e in
+      without_none (of_row entry_key) k (values_of shelf) ascending (λ r w q. subst (λ l. Within l r) alone (within_filter (λ r. bytes_eq r.row.id k) (values_of shelf) r w (text_same r.row.id k q)))

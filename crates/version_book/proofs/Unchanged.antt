@@ -1,0 +1,27 @@
+-- What it tells of an older and a newer version that a mark has the same rows in both, with the same numbers.
+use Rattle.std.proofs.Common.{◌≡◌, Bool, true, false, List, sym, ap, ◌∙◌, IsTrue}
+use Rattle.std.proofs.lemmas.Bool.{both_ways, cases_Bool}
+use Rattle.std.proofs.Common.{⊎_elim}
+use Rattle.entry_book.specs.Batches.{Batch}
+use Rattle.entry_book.specs.Book.{AscendingBook}
+use Rattle.version_book.specs.declared.mark.Named.{Named}
+use Rattle.version_book.specs.Marks.{Agree}
+use Rattle.version_book.specs.Numbered.{State, AllUpTo, book_of, marked}
+use Rattle.version_book.specs.History.{Follows, IsEarlier, any_hits}
+use Rattle.version_book.specs.Stores.{NumbersTell}
+use Rattle.version_book.proofs.Histories.{unhit_history}
+use Rattle.version_book.proofs.NamedRows.{book_reads}
+use Rattle.version_book.proofs.Numbers.{numbers_tell}
+
+module _ (m : Named) (older newer : State) (ascending : AscendingBook (book_of older.rows)) (upto : AllUpTo older.number older.rows) (result : Bool) where
+  abbrev Same : Type 0
+  Same = marked m older.rows ≡ marked m newer.rows
+
+  pub same_rows : (NumbersTell older.rows newer.rows → IsTrue result → Same) → IsEarlier older newer → IsTrue result → Same
+  same_rows tells e h = tells (numbers_tell e.0 older newer ascending upto e.1) h
+
+  pub same_reads : (NumbersTell older.rows newer.rows → IsTrue result → Same) → IsEarlier older newer → IsTrue result → Agree (book_of older.rows) (book_of newer.rows) m
+  same_reads tells e h = book_reads m older.rows ∙ (ap book_of (same_rows tells e h) ∙ sym (book_reads m newer.rows))
+
+  pub some_hits : (Same → IsTrue result) → (batches : List Batch) → Follows older batches newer → result ≡ false → any_hits m older batches ≡ true
+  some_hits same batches f h = ⊎_elim (λ t. t) (λ n. absurd (both_ways result h (same (unhit_history m batches older newer ascending f n)))) (cases_Bool (any_hits m older batches))

@@ -1,0 +1,23 @@
+use Rattle.version_book.proofs.laws.histories.Goals as goal
+use Rattle.version_book.proofs.Histories.{batch_commits, books_follow, domain_stays, follows_on, lawful_follows, limits_follow, unhit_history}
+
+pub returns-clause-commits : goal.returns-clause-commits
+returns-clause-commits c = batch_commits
+
+pub returns-clause-joined : goal.returns-clause-joined
+returns-clause-joined c = follows_on
+
+pub returns-clause-books : goal.returns-clause-books
+returns-clause-books c = books_follow
+
+pub returns-clause-domain : goal.returns-clause-domain
+returns-clause-domain c = domain_stays
+
+pub returns-clause-limits : goal.returns-clause-limits
+returns-clause-limits c = limits_follow
+
+pub returns-clause-lawful : goal.returns-clause-lawful
+returns-clause-lawful c = lawful_follows
+
+pub returns-clause-unhit : goal.returns-clause-unhit
+returns-clause-unhit c = unhit_history

@@ -1,0 +1,13 @@
+use Rattle.std.proofs.Common.{sym, ap, subst, ◌∙◌}
+use Rattle.version_book.specs.Numbered.{AllUpTo, rows_after}
+use Rattle.version_book.proofs.NamedRows.{book_after}
+use Rattle.version_book.proofs.Numbers.{all_up_to_next}
+use Rattle.version_book.proofs.version.Version.apply.Goals as goal
+
+pub invariant_of-result : goal.invariant_of-result
+invariant_of-result c =
+    let store = c.in_ok-store.ensures ∙ (ap (λ ws. rows_after c.args.number ws c.self.inside.store) c.writes.ensures ∙ ap (λ s. rows_after c.args.number c.args.changes.now s.rows) c.self.view_is) in
+    let domain = c.in_ok-clone.ensures.cases ∙ ap (λ s. s.domain) c.self.view_is in
+    let upto = subst (λ s. AllUpTo s.number s.rows) c.self.view_is c.self.invariant.1 in
+    let next = subst (λ n. AllUpTo n (rows_after n c.args.changes.now c.args.self.now.rows)) (sym c.requires.next) (all_up_to_next c.args.changes.now c.args.self.now upto) in
+    rw (domain, store, book_after c.args.number c.args.changes.now c.args.self.now.rows) (c.requires.lawful, next)

@@ -1,0 +1,48 @@
+-- How versions follow one another: by batches that commit as the plain book says.
+use Rattle.std.specs.Prelude.{◌≡◌, Bool, false, ◌||◌, List, [], ◌∷◌, Ok, Err}
+use Rattle.std.specs.List.{list_any}
+use Rattle.entry_book.specs.declared.reply.OpReply.{OpReply}
+use Rattle.entry_book.specs.Book.{Book}
+use Rattle.entry_book.specs.Writes.{Write}
+use Rattle.entry_book.specs.Runs.{RunResult, run}
+use Rattle.entry_book.specs.Batches.{Batch, IsMadeFor}
+use Rattle.entry_book.specs.History.{verdict, adds}
+use Rattle.version_book.specs.declared.mark.Named.{Named}
+use Rattle.version_book.specs.Marks.{hits}
+use Rattle.version_book.specs.Numbered.{State, book_of, next_state}
+
+-- ---- one batch
+
+abbrev pub writes_in : RunResult → List Write
+writes_in (Ok t) = t.writes
+writes_in (Err s) = []
+
+-- the writes of a batch, run on a book
+abbrev pub writes_of : Batch → Book → List Write
+writes_of batch b = writes_in (run batch.domain batch.ops b)
+
+-- the version after a batch
+abbrev pub state_with : Batch → State → State
+state_with batch s = next_state (writes_of batch (book_of s.rows)) s
+
+-- The batch commits on the version: it was made for its trust domain, and the plain book adds the book of the version after it.
+pub record Commits (batch : Batch) (s : State) : Type 0 where
+  pub made : IsMadeFor s.domain batch
+  pub replies : List OpReply
+  pub added : verdict batch s.number (book_of s.rows) ≡ adds replies (book_of (state_with batch s).rows)
+
+-- ---- many batches
+
+-- the newer version follows from the older one by these batches, each of which commits
+abbrev pub Follows : State → List Batch → State → Type 0
+Follows older [] newer = older ≡ newer
+Follows older (batch ∷ batches) newer = Commits batch older × Follows (state_with batch older) batches newer
+
+-- the older version is an earlier one of the same history, or the same one
+abbrev pub IsEarlier : State → State → Type 0
+IsEarlier older newer = (batches : List Batch) × Follows older batches newer
+
+-- one of the batches, run one after another from the older version on, makes a write that hits the mark
+abbrev pub any_hits : Named → State → List Batch → Bool
+any_hits m older [] = false
+any_hits m older (batch ∷ batches) = list_any (λ w. hits w m) (writes_of batch (book_of older.rows)) || any_hits m (state_with batch older) batches

@@ -1,0 +1,74 @@
+-- The keys of indexes, and what an index has. The start stands before all ids, and the end after them.
+use Rattle.std.specs.Prelude.{◌≡◌, ℕ, Bool, true, ◌&&◌, nat_lt, List, [], ◌∷◌, map, if◌then◌else◌}
+use Rattle.std.specs.declared.cmp.Ordering.{Ordering}
+use Rattle.std.specs.Ordering.{is_eq, is_lt, is_ge}
+use Rattle.entry_book.specs.Rows.{Bytes, Entry}
+use Rattle.entry_book.specs.Order.{Within}
+use Rattle.version_book.specs.declared.key.Edge.{Edge}
+use Rattle.version_book.specs.declared.key.Edge.TheVariants.{Start, At, End}
+use Rattle.version_book.specs.declared.mark.Named.{Named}
+use Rattle.version_book.specs.declared.mark.Named.TheVariants as mark
+use Rattle.version_book.specs.declared.mark.Span.{Span}
+use Rattle.version_book.specs.declared.mark.Span.TheVariants.{Row, Groups, Users, Expiries}
+use Rattle.version_book.specs.declared.numbered.Numbered.{Numbered}
+
+-- ---- the keys of an entry
+
+abbrev pub GroupKey : Type 0
+GroupKey = Bytes × Edge Bytes × Edge Bytes
+
+abbrev pub UserKey : Type 0
+UserKey = Bytes × Edge Bytes
+
+abbrev pub ExpiryKey : Type 0
+ExpiryKey = ℕ × Edge Bytes
+
+-- each entry stands once under its parent and identity
+abbrev pub group_keys : Entry → List GroupKey
+group_keys e = (e.parent, At e.identity, At e.id) ∷ []
+
+-- and once under each domain that it names
+abbrev pub user_keys : Entry → List UserKey
+user_keys e = map (λ d. (d, At e.id)) e.domains
+
+-- and once under its expiry, where it has one
+abbrev pub expiry_keys : Entry → List ExpiryKey
+expiry_keys e = if nat_lt 0 e.expiry then (e.expiry, At e.id) ∷ [] else []
+
+-- ---- an index by such keys
+
+-- An index has each row under each of its keys, and nothing else.
+pub record IsIndex {K : Type 0} (keys : Entry → List K) (rows : List (Numbered Entry)) (index : List (K × Numbered Entry)) : Type 0 where
+  pub sound : (k : K) (r : Numbered Entry) → Within index (k, r) → Within rows r × Within (keys r.row) k
+  pub complete : (k : K) (r : Numbered Entry) → Within rows r → Within (keys r.row) k → Within index (k, r)
+
+-- lo <= key < hi
+abbrev pub is_between : {K : Type 0} → (K → K → Ordering) → K → K → K → Bool
+is_between cmp lo hi k = is_ge (cmp k lo) && is_lt (cmp k hi)
+
+-- The range has just the entries that pass the test, each under one key.
+pub record Covers {K : Type 0} (cmp : K → K → Ordering) (keys : Entry → List K) (lo hi : K) (p : Entry → Bool) : Type 0 where
+  pub sound : (e : Entry) (k : K) → Within (keys e) k → is_between cmp lo hi k ≡ true → p e ≡ true
+  pub complete : (e : Entry) → p e ≡ true → (k : K) × Within (keys e) k × (is_between cmp lo hi k ≡ true)
+  pub once : (e : Entry) (k l : K) → Within (keys e) k → Within (keys e) l → is_between cmp lo hi k ≡ true → is_between cmp lo hi l ≡ true → k ≡ l
+
+-- ---- the bounds of a mark's range
+
+abbrev pub span_of : Named → Span
+span_of (mark.Entry id) = Row
+span_of (mark.Group parent identity) = Groups (parent, At identity, Start) (parent, At identity, End)
+span_of (mark.Children parent) = Groups (parent, Start, Start) (parent, End, End)
+span_of (mark.Users domain) = Users (domain, Start) (domain, End)
+span_of (mark.Expiring moment) = Expiries (0, Start) (moment, Start)
+span_of (mark.Agent id) = Row
+span_of (mark.Bundle domain) = Row
+
+-- ---- what holds of the keys of an index
+
+-- keys that compare as equal are equal
+abbrev pub TellsKeys : {K : Type 0} → (K → K → Ordering) → Type 0
+TellsKeys cmp = (k l : _) → is_eq (cmp k l) ≡ true → k ≡ l
+
+-- a key is of one entry's id alone
+abbrev pub KeysTell : {K : Type 0} → (Entry → List K) → Type 0
+KeysTell keys = (e f : Entry) (k : _) → Within (keys e) k → Within (keys f) k → e.id ≡ f.id

@@ -1,0 +1,102 @@
+-- The laws of marks and versions. Each is a clause of a function of the module `laws`.
+use Rattle.std.specs.Prelude.{◌≡◌, ℕ, ◌+◌, ◌*◌, ◌<◌, false, List, ◌++◌, length, map, option_to_list, None, Ok}
+use Rattle.std.specs.List.{AllByRecursion}
+use Rattle.entry_book.specs.Rows.{Bytes, Entry}
+use Rattle.entry_book.specs.Book.{Book, AscendingBook, entry_at, agent_at, bundle_at, group_of, children_of, users_of, expired_before, empty_book}
+use Rattle.entry_book.specs.Writes.{Write, after, FitAll}
+use Rattle.entry_book.specs.Batches.{Batch, IsMadeFor, is_query}
+use Rattle.entry_book.specs.Runs.{Ran, run}
+use Rattle.entry_book.specs.Limits.{limit_passed}
+use Rattle.entry_book.specs.Lawful.{Lawful}
+use Rattle.entry_book.specs.Laws.{IsWithinLimits}
+use Rattle.entry_book.specs.History.{last_book, place_of, books_from, CommitAll}
+use Rattle.version_book.specs.declared.mark.Named.{Named}
+use Rattle.version_book.specs.declared.mark.Named.TheVariants as mark
+use Rattle.version_book.specs.Marks.{reads, Agree, hits, seen}
+use Rattle.version_book.specs.Numbered.{Rows, State, book_of, marked, AllUpTo, rows_after, next_state}
+use Rattle.version_book.specs.History.{Commits, Follows, any_hits, state_with}
+use Rattle.version_book.specs.Room.{RoomAll}
+
+-- ---- what each mark reads, in the words of the book's own questions
+
+abbrev pub entries_alone : List Entry → Book
+entries_alone es = record empty_book { entries = es }
+
+abbrev pub ReadsEntry : Type 0
+ReadsEntry = (id : Bytes) (b : Book) → AscendingBook b → reads (mark.Entry id) b ≡ entries_alone (option_to_list (entry_at id b))
+
+abbrev pub ReadsGroup : Type 0
+ReadsGroup = (parent identity : Bytes) (b : Book) → reads (mark.Group parent identity) b ≡ entries_alone (group_of parent identity b)
+
+abbrev pub ReadsChildren : Type 0
+ReadsChildren = (parent : Bytes) (b : Book) → reads (mark.Children parent) b ≡ entries_alone (children_of parent b)
+
+abbrev pub ReadsUsers : Type 0
+ReadsUsers = (domain : Bytes) (b : Book) → reads (mark.Users domain) b ≡ entries_alone (users_of domain b)
+
+abbrev pub ReadsExpiring : Type 0
+ReadsExpiring = (moment : ℕ) (b : Book) → reads (mark.Expiring moment) b ≡ entries_alone (expired_before moment b)
+
+abbrev pub ReadsAgent : Type 0
+ReadsAgent = (id : Bytes) (b : Book) → AscendingBook b → reads (mark.Agent id) b ≡ record empty_book { agents = option_to_list (agent_at id b) }
+
+abbrev pub ReadsBundle : Type 0
+ReadsBundle = (domain : Bytes) (b : Book) → AscendingBook b → reads (mark.Bundle domain) b ≡ record empty_book { bundles = option_to_list (bundle_at domain b) }
+
+-- ---- reads and writes
+
+-- what a mark reads after writes is what it read before them, after what it sees of them
+abbrev pub ReadsAfter : Type 0
+ReadsAfter = (m : Named) (ws : List Write) (b : Book) → reads m (after ws b) ≡ after (map (seen m) ws) (reads m b)
+
+-- two books that read the same at a mark still do after the same writes
+abbrev pub AgreeAfter : Type 0
+AgreeAfter = (ws : List Write) (b c : Book) (m : Named) → Agree b c m → Agree (after ws b) (after ws c) m
+
+-- where no write hits a mark, it reads the same before and after
+abbrev pub Unhit : Type 0
+Unhit = (ws : List Write) (b : Book) (m : Named) → AscendingBook b → FitAll ws b → AllByRecursion (λ w. hits w m ≡ false) ws → Agree b (after ws b) m
+
+-- ---- versions
+
+-- the book of a version after writes is the book after these writes
+abbrev pub BookAfter : Type 0
+BookAfter = (n : ℕ) (ws : List Write) (rows : Rows) → book_of (rows_after n ws rows) ≡ after ws (book_of rows)
+
+-- what a mark reads on a version's book is the version's rows that it names
+abbrev pub BookReads : Type 0
+BookReads = (m : Named) (rows : Rows) → reads m (book_of rows) ≡ book_of (marked m rows)
+
+-- ---- histories
+
+-- A batch of changes that runs on a version's book, and passes no limit, commits on it: the version after it has its writes.
+abbrev pub BatchCommits : Type 0
+BatchCommits = (batch : Batch) (s : State) (t : Ran) → IsMadeFor s.domain batch → is_query batch.ops ≡ false → run batch.domain batch.ops (book_of s.rows) ≡ Ok t → limit_passed s.number (after t.writes (book_of s.rows)) ≡ None → Commits batch s × (state_with batch s ≡ next_state t.writes s)
+
+-- histories are joined, so a history goes on with any batch that commits on its last version
+abbrev pub FollowsOn : Type 0
+FollowsOn = (first second : List Batch) (s t u : State) → Follows s first t → Follows t second u → Follows s (first ++ second) u
+
+-- the plain book, on a list of books whose last is the older version's, commits the batches too, and its last book then is the newer version's
+abbrev pub BooksFollow : Type 0
+BooksFollow = (batches : List Batch) (older newer : State) (books : List Book) → 0 < length books → last_book books ≡ book_of older.rows → place_of books ≡ older.number → Follows older batches newer → CommitAll books batches × (last_book (books_from books batches) ≡ book_of newer.rows) × (place_of (books_from books batches) ≡ newer.number) × (length batches + older.number ≡ newer.number)
+
+-- the trust domain stays, and each batch was made for it
+abbrev pub DomainStays : Type 0
+DomainStays = (batches : List Batch) (older newer : State) → Follows older batches newer → (newer.domain ≡ older.domain) × AllByRecursion (IsMadeFor older.domain) batches
+
+-- a version within the limits is followed by versions within the limits
+abbrev pub LimitsFollow : Type 0
+LimitsFollow = (batches : List Batch) (older newer : State) → IsWithinLimits (book_of older.rows) → Follows older batches newer → IsWithinLimits (book_of newer.rows)
+
+-- a lawful version is followed by lawful versions, whose rows have no number above theirs
+abbrev pub LawfulFollows : Type 0
+LawfulFollows = (batches : List Batch) (older newer : State) → Lawful older.domain (64 * older.number) (book_of older.rows) → AllUpTo older.number older.rows → Follows older batches newer → Lawful newer.domain (64 * newer.number) (book_of newer.rows) × AllUpTo newer.number newer.rows
+
+-- where no batch since makes a write that hits a mark, both versions have the same rows there, with the same numbers
+abbrev pub UnhitHistory : Type 0
+UnhitHistory = (m : Named) (batches : List Batch) (older newer : State) → AscendingBook (book_of older.rows) → Follows older batches newer → any_hits m older batches ≡ false → marked m older.rows ≡ marked m newer.rows
+
+-- the run of a batch on a lawful book within the limits has room for all of its rows
+abbrev pub RoomInRun : Type 0
+RoomInRun = (own : Bytes) (most : ℕ) (batch : Batch) (b : Book) (t : Ran) → IsMadeFor own batch → Lawful own most b → IsWithinLimits b → run own batch.ops b ≡ Ok t → RoomAll t.writes b

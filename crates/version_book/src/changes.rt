@@ -1,0 +1,120 @@
+//! What does a batch write?
+
+ghost use Rattle.std.specs.Prelude.{◌≡◌};
+
+use entry_book::{Agent, Bundle, Entry, Shared};
+use spiffe_name::{SpiffeId, TrustDomain};
+use std::alloc::{AllocError, Global};
+use std::marker::Model;
+use uuid::Uuid;
+
+/// One row's change: the row of a key as it was found, and as it is put. Either may be absent.
+#[derive(Drop)]
+pub(crate) struct Change<K, T> {
+    pub(crate) key: K,
+    pub(crate) old: Option<T>,
+    pub(crate) new: Option<T>,
+}
+
+#[derive(Drop)]
+pub(crate) enum Write {
+    Entry(Change<Uuid, Entry>),
+    Agent(Change<Shared<SpiffeId>, Agent>),
+    Bundle(Change<Shared<TrustDomain>, Bundle>),
+}
+
+/// The writes of a batch, in order. Each names the row that it finds on the book that the earlier ones left, if there is
+/// one, and the row that it puts there, if there is one.
+#[derive(Drop)]
+pub struct Changes {
+    writes: Vec<Write>,
+}
+
+impl Model for Changes {
+    ghost use Rattle.std.specs.Prelude.{List, map};
+    ghost use Rattle.entry_book.specs.Writes.{Write};
+    ghost use Rattle.version_book.specs.Written.{write_of};
+
+    ghost Value = { List Write };
+
+    ghost view = { λ changes. map write_of changes.writes.items };
+}
+
+impl Changes {
+    ghost use Rattle.std.specs.Prelude.{◌≡◌, ◌++◌, ◌∷◌, [], OnOk, OnErr, map, length, ◌==◌};
+    ghost use Rattle.entry_book.specs.Writes.{wrote_agent, wrote_bundle, wrote_entry};
+    ghost use Rattle.version_book.specs.Written.{write_of};
+
+    /// No writes. Takes no memory.
+    pub fn new(alloc: Global) -> Changes
+        ensures { result ≡ [] }
+    {
+        Changes {
+            writes: Vec::new(alloc),
+        }
+    }
+
+    /// How many writes there are.
+    pub fn len(&self) -> usize
+        ensures { result ≡ length self.now }
+    {
+        self.writes.len()
+    }
+
+    pub fn is_empty(&self) -> bool
+        ensures { result ≡ (length self.now == 0) }
+    {
+        self.writes.is_empty()
+    }
+
+    /// Adds a write of the entry of an id. The error is want of memory, and nothing has changed then.
+    pub fn put_entry(
+        &mut self,
+        id: Uuid,
+        old: Option<Entry>,
+        new: Option<Entry>,
+    ) -> Result<(), AllocError>
+        ensures put { OnOk result (self.new ≡ self.old ++ wrote_entry (record { key = id; old = old; new = new }) ∷ []) }
+        ensures err { OnErr result (self.new ≡ self.old) }
+    {
+        let key = id;
+        self.writes.push(Write::Entry(Change { key, old, new }))?;
+        Ok(())
+    }
+
+    /// Adds a write of the agent of an id. The error is want of memory, and nothing has changed then.
+    pub fn put_agent(
+        &mut self,
+        id: Shared<SpiffeId>,
+        old: Option<Agent>,
+        new: Option<Agent>,
+    ) -> Result<(), AllocError>
+        ensures put { OnOk result (self.new ≡ self.old ++ wrote_agent (record { key = id; old = old; new = new }) ∷ []) }
+        ensures err { OnErr result (self.new ≡ self.old) }
+    {
+        let key = id;
+        self.writes.push(Write::Agent(Change { key, old, new }))?;
+        Ok(())
+    }
+
+    /// Adds a write of the bundle of a trust domain. The error is want of memory, and nothing has changed then.
+    pub fn put_bundle(
+        &mut self,
+        domain: Shared<TrustDomain>,
+        old: Option<Bundle>,
+        new: Option<Bundle>,
+    ) -> Result<(), AllocError>
+        ensures put { OnOk result (self.new ≡ self.old ++ wrote_bundle (record { key = domain; old = old; new = new }) ∷ []) }
+        ensures err { OnErr result (self.new ≡ self.old) }
+    {
+        let key = domain;
+        self.writes.push(Write::Bundle(Change { key, old, new }))?;
+        Ok(())
+    }
+
+    pub(crate) fn writes(&self) -> &[Write]
+        ensures { map write_of result.now ≡ self.now }
+    {
+        self.writes.as_slice()
+    }
+}

@@ -1,0 +1,225 @@
+//! How are the entries of a version kept?
+
+ghost use Rattle.std.specs.Prelude.{◌≡◌, IfOk};
+ghost use Rattle.version_book.specs.Index.{group_keys, user_keys, expiry_keys};
+
+use crate::changes::Change;
+use crate::index::{entries_between, same_between, with_keys, without_keys};
+use crate::key::{Edge, ExpiryKey, GroupKey, UserKey};
+use crate::mark::{Mark, Named, Span};
+use crate::numbered::{Numbered, is_same_row, row_alone};
+use entry_book::Entry;
+use std::alloc::{AllocError, Global};
+use std::marker::Model;
+use uuid::Uuid;
+use version_shelf::Shelf;
+
+/// The entries of a version, by id, and an index of them for each question. A contract sees the entries with their
+/// numbers, in the order of their ids.
+#[derive(Drop)]
+pub(crate) struct Entries {
+    rows: Shelf<Uuid, Numbered<Entry>>,
+    groups: Shelf<GroupKey, Numbered<Entry>>,
+    users: Shelf<UserKey, Numbered<Entry>>,
+    expiries: Shelf<ExpiryKey, Numbered<Entry>>,
+}
+
+impl Model for Entries {
+    ghost use Rattle.std.specs.Prelude.{List};
+    ghost use Rattle.std.specs.Map.{values_of};
+    ghost use Rattle.entry_book.specs.Order.{Ascending};
+    ghost use Rattle.entry_book.specs.Rows.{Entry as BookEntry, entry_key};
+    ghost use Rattle.version_book.specs.declared.numbered.Numbered.{Numbered as NumberedRow};
+    ghost use Rattle.version_book.specs.Index.{IsIndex, group_keys, user_keys, expiry_keys};
+    ghost use Rattle.version_book.specs.Numbered.{of_row};
+    ghost use Rattle.version_book.specs.Stores.{IsKeyed};
+
+    ghost Value = { List (NumberedRow BookEntry) };
+
+    ghost view = { λ entries. values_of entries.rows };
+
+    ghost invariant = { λ entries. let rows = values_of entries.rows in
+        IsKeyed entry_key entries.rows × Ascending (of_row entry_key) rows
+        × IsIndex group_keys rows entries.groups × IsIndex user_keys rows entries.users
+        × IsIndex expiry_keys rows entries.expiries };
+}
+
+/// The key of an entry under its parent and identity.
+fn group_keys(alloc: Global, entry: &Entry) -> Result<Vec<GroupKey>, AllocError>
+    ensures { IfOk result (λ keys. keys.items ≡ group_keys entry.now) }
+{
+    let identity = Edge::At(entry.identity().clone()?);
+    let key = (entry.parent().clone()?, identity, Edge::At(*entry.id()));
+    let mut keys = Vec::new(alloc);
+    keys.push(key)?;
+    Ok(keys)
+}
+
+/// The keys of an entry under the trust domains that it names.
+fn user_keys(alloc: Global, entry: &Entry) -> Result<Vec<UserKey>, AllocError>
+    ensures { IfOk result (λ keys. keys.items ≡ user_keys entry.now) }
+{
+    let mut keys = Vec::new(alloc);
+    for domain in entry.domains().as_slice() {
+        keys.push((domain.clone()?, Edge::At(*entry.id())))?;
+    }
+    Ok(keys)
+}
+
+/// The key of an entry under its expiry, where it has one.
+fn expiry_keys(alloc: Global, entry: &Entry) -> Result<Vec<ExpiryKey>, AllocError>
+    ensures { IfOk result (λ keys. keys.items ≡ expiry_keys entry.now) }
+{
+    let mut keys = Vec::new(alloc);
+    if entry.expiry() > 0 {
+        keys.push((entry.expiry(), Edge::At(*entry.id())))?;
+    }
+    Ok(keys)
+}
+
+impl Entries {
+    ghost use Rattle.std.specs.Prelude.{◌≡◌, ◌+◌, ◌≤◌, [], IfOk, IfSome, IsTrue, Some, None, filter, length, map, option_map};
+    ghost use Rattle.entry_book.specs.Order.{Ascending, Within, with_row};
+    ghost use Rattle.entry_book.specs.Rows.{entry_key};
+    ghost use Rattle.version_book.specs.Marks.{names_entry};
+    ghost use Rattle.version_book.specs.Numbered.{numbered, of_row, row_of};
+    ghost use Rattle.version_book.specs.Room.{count_of_names, most_rows};
+    ghost use Rattle.version_book.specs.Stores.{IsAbsent, TellRows};
+
+    /// No entries. Takes no memory.
+    pub(crate) fn empty(alloc: Global) -> Entries
+        ensures { result ≡ [] }
+    {
+        Entries {
+            rows: Shelf::new(alloc),
+            groups: Shelf::new(alloc),
+            users: Shelf::new(alloc),
+            expiries: Shelf::new(alloc),
+        }
+    }
+
+    /// How many entries there are.
+    pub(crate) fn len(&self) -> usize
+        ensures count { result ≡ length self.now }
+        ensures order { Ascending (of_row entry_key) self.now }
+    {
+        self.rows.len()
+    }
+
+    /// The entries without one of them. The error is want of memory.
+    fn without(&self, alloc: Global, entry: &Entry) -> Result<Entries, AllocError>
+        requires there { Within (map row_of self.now) entry.now }
+        ensures { IfOk result (λ entries. entries ≡ with_row (of_row entry_key) entry.now.id None self.now) }
+    {
+        let group_keys = group_keys(alloc, entry)?;
+        let user_keys = user_keys(alloc, entry)?;
+        let expiry_keys = expiry_keys(alloc, entry)?;
+        let rows = self.rows.without(entry.id())?;
+        Ok(Entries {
+            rows,
+            groups: without_keys(&self.groups, group_keys.as_slice())?,
+            users: without_keys(&self.users, user_keys.as_slice())?,
+            expiries: without_keys(&self.expiries, expiry_keys.as_slice())?,
+        })
+    }
+
+    /// The entries with one of whose id there is none yet. The error is want of memory.
+    fn with(&self, alloc: Global, row: Numbered<Entry>) -> Result<Entries, AllocError>
+        requires absent { IsAbsent entry_key row.row.id self.now }
+        requires room { length self.now + 1 ≤ most_rows }
+        requires names { count_of_names (map row_of self.now) + length row.row.domains ≤ most_rows }
+        ensures { IfOk result (λ entries. entries ≡ with_row (of_row entry_key) row.row.id (Some row) self.now) }
+    {
+        let group_keys = group_keys(alloc, &row.row)?;
+        let user_keys = user_keys(alloc, &row.row)?;
+        let expiry_keys = expiry_keys(alloc, &row.row)?;
+        let groups = with_keys(&self.groups, group_keys, &row)?;
+        let users = with_keys(&self.users, user_keys, &row)?;
+        let expiries = with_keys(&self.expiries, expiry_keys, &row)?;
+        let id = *row.row.id();
+        let rows = self.rows.with(id, row)?;
+        Ok(Entries {
+            rows,
+            groups,
+            users,
+            expiries,
+        })
+    }
+
+    /// The entries without the one of an id, if there is one. The error is want of memory.
+    fn rest_of(&self, alloc: Global, id: &Uuid) -> Result<Entries, AllocError>
+        ensures { IfOk result (λ rest. rest ≡ with_row (of_row entry_key) id.now None self.now) }
+    {
+        match self.rows.get(id) {
+            Some(old) => Ok(self.without(alloc, &old.row)?),
+            None => Ok(self.clone()?),
+        }
+    }
+
+    /// The entries after a change of one of them, by this commit. The error is want of memory.
+    pub(crate) fn after(
+        &self,
+        alloc: Global,
+        change: &Change<Uuid, Entry>,
+        commit: u64,
+    ) -> Result<Entries, AllocError>
+        requires keyed { IfSome change.now.new (λ new. new.id ≡ change.now.key) }
+        requires room { IfSome change.now.new (λ new. length (with_row entry_key change.now.key change.now.new (map row_of self.now)) ≤ most_rows) }
+        requires names { IfSome change.now.new (λ new. count_of_names (with_row entry_key change.now.key change.now.new (map row_of self.now)) ≤ most_rows) }
+        ensures { IfOk result (λ entries. entries ≡ with_row (of_row entry_key) change.now.key (option_map (numbered commit) change.now.new) self.now) }
+    {
+        let rest = self.rest_of(alloc, &change.key)?;
+        match &change.new {
+            Some(new) => {
+                let row = new.clone()?;
+                rest.with(alloc, Numbered { row, commit })
+            }
+            None => Ok(rest),
+        }
+    }
+
+    /// The entries that a mark names, in the order of their ids. The error is want of memory.
+    pub(crate) fn at(&self, alloc: Global, mark: &Mark) -> Result<Vec<Entry>, AllocError>
+        ensures { IfOk result (λ found. found.items ≡ filter (names_entry mark.now) (map row_of self.now)) }
+    {
+        match mark.span() {
+            Span::Groups(low, high) => entries_between(alloc, &self.groups, low, high),
+            Span::Users(low, high) => entries_between(alloc, &self.users, low, high),
+            Span::Expiries(low, high) => entries_between(alloc, &self.expiries, low, high),
+            Span::Row => match mark.named() {
+                Named::Entry(id) => row_alone(alloc, self.rows.get(id)),
+                _ => Ok(Vec::new(alloc)),
+            },
+        }
+    }
+
+    /// Are the entries at a mark those of older entries of the same history, each last written by the same commit?
+    pub(crate) fn is_same_at(&self, older: &Entries, mark: &Mark) -> bool
+        ensures same { filter (of_row (names_entry mark.now)) older.now ≡ filter (of_row (names_entry mark.now)) self.now → IsTrue result }
+        ensures tells { TellRows entry_key older.now self.now → IsTrue result
+            → filter (of_row (names_entry mark.now)) older.now ≡ filter (of_row (names_entry mark.now)) self.now }
+    {
+        match mark.span() {
+            Span::Groups(low, high) => same_between(&older.groups, &self.groups, low, high),
+            Span::Users(low, high) => same_between(&older.users, &self.users, low, high),
+            Span::Expiries(low, high) => same_between(&older.expiries, &self.expiries, low, high),
+            Span::Row => match mark.named() {
+                Named::Entry(id) => is_same_row(older.rows.get(id), self.rows.get(id)),
+                _ => true,
+            },
+        }
+    }
+}
+
+impl Clone for Entries {
+    ghost is_clone = { λ original copy. copy ≡ original };
+
+    fn clone(&self) -> Result<Entries, AllocError> {
+        Ok(Entries {
+            rows: self.rows.clone()?,
+            groups: self.groups.clone()?,
+            users: self.users.clone()?,
+            expiries: self.expiries.clone()?,
+        })
+    }
+}

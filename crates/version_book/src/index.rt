@@ -1,0 +1,112 @@
+//! How is an index of entries read and kept?
+//!
+//! An index is a shelf with an entry's row under each of its keys. Its keys end with the entry's id.
+
+ghost use Rattle.std.specs.Prelude.{◌≡◌, ◌+◌, ◌≤◌, ◌↔◌, Bool, List, None, Some, IfOk, IsTrue, filter, length, map};
+ghost use Rattle.entry_book.specs.Order.{Ascending, Within, with_row};
+ghost use Rattle.entry_book.specs.Rows.{Entry as EntryRow, entry_key};
+ghost use Rattle.version_shelf.specs.Shelf.{ClonesEqual, IsInOrder, most_rows, rows_between};
+ghost use Rattle.version_book.specs.declared.numbered.Numbered.{Numbered as NumberedRow};
+ghost use Rattle.version_book.specs.Numbered.{of_row, row_of};
+ghost use Rattle.version_book.specs.Index.{Covers, IsIndex, KeysTell, TellsKeys};
+ghost use Rattle.version_book.specs.Stores.{IsAbsent, stamps};
+
+use crate::numbered::Numbered;
+use entry_book::Entry;
+use std::alloc::{AllocError, Global};
+use version_shelf::Shelf;
+
+/// The index without these keys: those of a row that is taken away. The error is want of memory.
+pub(crate) fn without_keys<K: Ord + Clone + Drop>(
+    index: &Shelf<K, Numbered<Entry>>,
+    keys: &[K],
+) -> Result<Shelf<K, Numbered<Entry>>, AllocError>
+    requires clones { ClonesEqual K.is_clone }
+    requires tells { TellsKeys K.cmp }
+    ensures { IfOk result (λ rest. (keys_of : EntryRow → List K) (rows : List (NumberedRow EntryRow)) (old : NumberedRow EntryRow)
+        → KeysTell keys_of → Ascending (of_row entry_key) rows → IsIndex keys_of rows index.now → Within rows old → keys.now ≡ keys_of old.row
+        → IsIndex keys_of (with_row (of_row entry_key) old.row.id None rows) rest) }
+{
+    let mut rest = index.clone()?;
+    for key in keys {
+        rest = rest.without(key)?;
+    }
+    Ok(rest)
+}
+
+/// The index with a row under these keys: those of a row that is put. The error is want of memory.
+pub(crate) fn with_keys<K: Ord + Clone + Drop>(
+    index: &Shelf<K, Numbered<Entry>>,
+    keys: Vec<K>,
+    row: &Numbered<Entry>,
+) -> Result<Shelf<K, Numbered<Entry>>, AllocError>
+    requires clones { ClonesEqual K.is_clone }
+    requires tells { TellsKeys K.cmp }
+    requires room { IsInOrder K.cmp index.now → length index.now + length keys.items ≤ most_rows }
+    ensures { IfOk result (λ more. (keys_of : EntryRow → List K) (rows : List (NumberedRow EntryRow))
+        → KeysTell keys_of → IsAbsent entry_key row.now.row.id rows → IsIndex keys_of rows index.now → keys.items ≡ keys_of row.now.row
+        → IsIndex keys_of (with_row (of_row entry_key) row.now.row.id (Some row.now) rows) more) }
+{
+    in_order(index);
+    let mut more = index.clone()?;
+    for key in keys {
+        more = more.with(key, row.clone()?)?;
+    }
+    Ok(more)
+}
+
+/// The rows of an index stand in the order of their keys, so that none stands twice.
+fn in_order<K: Ord + Clone>(index: &Shelf<K, Numbered<Entry>>)
+    ensures { IsInOrder K.cmp index.now }
+{
+    let _ = index.len();
+}
+
+/// The entries of the keys `lo <= key < hi`, in the order of their ids. The error is want of memory.
+pub(crate) fn entries_between<K: Ord + Clone>(
+    alloc: Global,
+    index: &Shelf<K, Numbered<Entry>>,
+    lo: &K,
+    hi: &K,
+) -> Result<Vec<Entry>, AllocError>
+    ensures { IfOk result (λ found. (keys_of : EntryRow → List K) (rows : List (NumberedRow EntryRow)) (p : EntryRow → Bool)
+        → IsIndex keys_of rows index.now → Covers K.cmp keys_of lo.now hi.now p → Ascending (of_row entry_key) rows
+        → found.items ≡ filter p (map row_of rows)) }
+{
+    let mut found = Vec::new(alloc);
+    for (_, row) in index.range(lo, hi) {
+        found.push(row.row.clone()?)?;
+    }
+    found.sort_by_key(|entry| *entry.id())?;
+    Ok(found)
+}
+
+/// Have the keys `lo <= key < hi` the same rows in both indexes, each last written by the same commit?
+pub(crate) fn same_between<K: Ord + Clone>(
+    one: &Shelf<K, Numbered<Entry>>,
+    other: &Shelf<K, Numbered<Entry>>,
+    lo: &K,
+    hi: &K,
+) -> bool
+    ensures same { IsTrue result ↔ (stamps (rows_between K.cmp one.now lo.now hi.now)
+        ≡ stamps (rows_between K.cmp other.now lo.now hi.now)) }
+    ensures order { IsInOrder K.cmp (rows_between K.cmp one.now lo.now hi.now)
+        × IsInOrder K.cmp (rows_between K.cmp other.now lo.now hi.now) }
+{
+    let mut others = other.range(lo, hi);
+    for (_, row) in one.range(lo, hi) {
+        let Some((_, other)) = others.next() else {
+            return false;
+        };
+        if !is_same(row, other) {
+            return false;
+        }
+    }
+    others.next().is_none()
+}
+
+fn is_same(one: &Numbered<Entry>, other: &Numbered<Entry>) -> bool
+    ensures { IsTrue result ↔ ((one.now.row.id ≡ other.now.row.id) × (one.now.commit ≡ other.now.commit)) }
+{
+    one.row.id() == other.row.id() && one.commit == other.commit
+}

@@ -1,0 +1,157 @@
+//! What can a version of the book be asked, and how is the next one made?
+
+ghost use Rattle.std.specs.Prelude.{◌≡◌};
+
+use crate::changes::Changes;
+use crate::mark::Mark;
+use crate::reading::Reading;
+use crate::store::Store;
+use entry_book::Shared;
+use spiffe_name::TrustDomain;
+use std::alloc::{AllocError, Global};
+use std::marker::Model;
+
+/// How many rows of each kind a version has.
+#[derive(Clone, Copy, PartialEq, Eq)]
+pub struct RowCounts {
+    pub entries: usize,
+    pub agents: usize,
+    pub bundles: usize,
+}
+
+/// One version of the book of a trust domain's server. It is never changed: a reader keeps it for as long as it likes,
+/// and a writer makes the next one. Each row has the number of the commit that last wrote it. A contract sees the trust
+/// domain, the number, and the rows with their numbers.
+#[derive(Drop)]
+pub struct Version {
+    alloc: Global,
+    domain: Shared<TrustDomain>,
+    number: u64,
+    store: Store,
+}
+
+impl Model for Version {
+    ghost use Rattle.std.specs.Prelude.{◌*◌};
+    ghost use Rattle.entry_book.specs.Lawful.{Lawful};
+    ghost use Rattle.version_book.specs.Numbered.{AllUpTo, State, book_of};
+
+    ghost Value = { State };
+
+    ghost view = { λ version. record { domain = version.domain; number = version.number; rows = version.store } };
+
+    ghost invariant = { λ version.
+        Lawful version.domain (64 * version.number) (book_of version.store) × AllUpTo version.number version.store };
+}
+
+impl Version {
+    ghost use Rattle.std.specs.Prelude.{◌≡◌, ◌*◌, ◌+◌, IfOk, IsTrue, List, false, length, true};
+    ghost use Rattle.entry_book.specs.Batches.{Batch};
+    ghost use Rattle.entry_book.specs.Lawful.{Lawful};
+    ghost use Rattle.entry_book.specs.Writes.{FitAll, after};
+    ghost use Rattle.version_book.specs.History.{Follows, IsEarlier, any_hits};
+    ghost use Rattle.version_book.specs.Marks.{Agree, reads};
+    ghost use Rattle.version_book.specs.Numbered.{AllUpTo, book_of, marked, next_state, no_rows};
+    ghost use Rattle.version_book.specs.Room.{RoomAll};
+
+    /// The first version: no rows, at number 0. The error is want of memory.
+    pub fn empty(alloc: Global, domain: TrustDomain) -> Result<Version, AllocError>
+        ensures { IfOk result (λ version. version ≡ record { domain = domain; number = 0; rows = no_rows }) }
+    {
+        Ok(Version {
+            alloc,
+            domain: Shared::of(alloc, domain)?,
+            number: 0,
+            store: Store::empty(alloc),
+        })
+    }
+
+    /// The server's trust domain. Takes no memory.
+    pub fn domain(&self) -> &TrustDomain
+        ensures { result.now ≡ self.now.domain }
+    {
+        self.domain.get()
+    }
+
+    /// The number of this version's book in its history. Takes no memory. The book is lawful, and no row was written by a
+    /// later commit.
+    pub fn number(&self) -> u64
+        ensures number { result ≡ self.now.number }
+        ensures lawful { Lawful self.now.domain (64 * self.now.number) (book_of self.now.rows) }
+        ensures commits { AllUpTo self.now.number self.now.rows }
+    {
+        self.number
+    }
+
+    /// How many rows of each kind there are. Takes no memory.
+    pub fn count(&self) -> RowCounts
+        ensures { result ≡ record {
+          entries = length self.now.rows.entries;
+          agents = length self.now.rows.agents;
+          bundles = length self.now.rows.bundles;
+        } }
+    {
+        RowCounts {
+            entries: self.store.count_of_entries(),
+            agents: self.store.count_of_agents(),
+            bundles: self.store.count_of_bundles(),
+        }
+    }
+
+    /// What a mark reads on this version's book. The error is want of memory.
+    pub fn read(&self, mark: &Mark) -> Result<Reading, AllocError>
+        ensures { IfOk result (λ reading. reading ≡ reads mark.now (book_of self.now.rows)) }
+    {
+        self.store.read(self.alloc, mark)
+    }
+
+    /// The next version: the book after these changes, whose rows get its number. The caller sees to it that the number is
+    /// the one after this version's, that each change in turn finds the row that it names and puts a row of its own key,
+    /// that the book that comes out is lawful, and that there is room for its rows. The error is want of memory; this
+    /// version stays as it is.
+    pub fn apply(&self, changes: &Changes, number: u64) -> Result<Version, AllocError>
+        requires next { number ≡ self.now.number + 1 }
+        requires fits { FitAll changes.now (book_of self.now.rows) }
+        requires lawful { Lawful self.now.domain (64 * number) (after changes.now (book_of self.now.rows)) }
+        requires room { RoomAll changes.now (book_of self.now.rows) }
+        ensures { IfOk result (λ version. version ≡ next_state changes.now self.now) }
+    {
+        let store = self
+            .store
+            .after_writes(self.alloc, changes.writes(), number)?;
+        Ok(Version {
+            alloc: self.alloc,
+            domain: self.domain.clone()?,
+            number,
+            store,
+        })
+    }
+
+    /// Are the rows at a mark those of an older version of the same history, each last written by the same commit? Takes
+    /// no memory. Where they are, both versions read the same at the mark; where they aren't, a batch that committed since
+    /// made a write that hits the mark.
+    pub fn unchanged(&self, mark: &Mark, older: &Version) -> bool
+        ensures same { marked mark.now older.now.rows ≡ marked mark.now self.now.rows → IsTrue result }
+        ensures rows { IsEarlier older.now self.now
+            → IsTrue result → marked mark.now older.now.rows ≡ marked mark.now self.now.rows }
+        ensures reads { IsEarlier older.now self.now
+            → IsTrue result → Agree (book_of older.now.rows) (book_of self.now.rows) mark.now }
+        ensures hit { (batches : List Batch) → Follows older.now batches self.now
+            → result ≡ false → any_hits mark.now older.now batches ≡ true }
+    {
+        self.store.is_same_at(&older.store, mark)
+    }
+}
+
+/// A clone is one more owner of the same rows. The error is that no more owners can be counted.
+impl Clone for Version {
+    ghost is_clone = { λ original copy. copy ≡ original };
+
+    fn clone(&self) -> Result<Version, AllocError> {
+        Ok(Version {
+            alloc: self.alloc,
+            domain: self.domain.clone()?,
+            number: self.number,
+            store: self.store.clone()?,
+        })
+    }
+}
