@@ -7,27 +7,27 @@
 //!
 //! What a call costs at a shelf of n rows:
 //!
-//! | Call | Comparisons of keys | Copies of rows | Memory |
+//! | Call | Comparisons of keys | Copies of keys and values | Memory |
 //! |---|---|---|---|
 //! | `new`, `len`, `has_room` | none | none | none |
 //! | `get` | log2 n + 2 | none | none |
 //! | `range` | 2 log2 n + 2; none for a row that comes | none | none |
 //! | `clone` | none | none | none, but that one more owner is counted |
-//! | `with`, `without` | log2 n + 2 | every row that stays | for all rows of the new shelf |
+//! | `with`, `without` | log2 n + 2 | none, but that one more owner of every row that stays is counted | for a list of all rows, and for the row that is new |
 //!
-//! What sharing means: a clone of a shelf has the very rows of that shelf, which are let go with the last of its
-//! clones. A shelf made by `with` or `without` has copies, and shares nothing with the older one. So a value that is
-//! large, or that many versions hold, belongs behind an `Arc` that the caller puts into the row: a copy of the row
-//! then counts one more owner of the value.
+//! What sharing means: every shelf that has a row holds the same key and value in memory, which are let go with the last
+//! of these shelves. A clone of a shelf also has its list of rows; `with` and `without` make a list of their own.
 //!
 //! `AllocError` says that memory, or one more owner in a full count, was refused, and nothing else. The calls that need
 //! no memory have no such answer.
 //!
 //! - `shelf`: the face, what a shelf can be asked and how the next one is made.
 //! - `rows`: the walk over the rows between two bounds.
-//! - `vector`: the body, one sorted vector; nothing outside this crate rests on it.
+//! - `row`: a key with its value, as several shelves hold it.
+//! - `vector`: the body, one sorted vector of rows; nothing outside this crate rests on it.
 #![tactic(auto)]
 
+mod row;
 mod rows;
 mod shelf;
 mod vector;

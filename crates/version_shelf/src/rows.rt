@@ -3,13 +3,14 @@
 ghost use Rattle.std.specs.Prelude.{◌≡◌};
 ghost use Rattle.std.specs.Iterator.{YieldsFirstBy, item_count};
 
+use crate::row::Row;
 use std::marker::Model;
 
 /// The rows of a shelf between two bounds, in ascending order of keys: an iterator that a contract sees as the list of
 /// the rows that are left. Each call of `next` gives the first of them, and no call takes memory.
 #[derive(Drop)]
 pub struct Rows<'a, K: Ord + 'a, V: 'a> {
-    rest: &'a [(K, V)],
+    rest: &'a [Row<K, V>],
 }
 
 impl<'a, K: Ord + 'a, V: 'a> Model for Rows<'a, K, V> {
@@ -21,7 +22,7 @@ impl<'a, K: Ord + 'a, V: 'a> Model for Rows<'a, K, V> {
 }
 
 impl<'a, K: Ord + 'a, V: 'a> Rows<'a, K, V> {
-    pub(crate) fn of(rest: &'a [(K, V)]) -> Rows<'a, K, V>
+    pub(crate) fn of(rest: &'a [Row<K, V>]) -> Rows<'a, K, V>
         ensures { result ≡ rest.now }
     {
         Rows { rest }
@@ -38,6 +39,6 @@ impl<'a, K: Ord + 'a, V: 'a> Iterator for Rows<'a, K, V> {
     fn next(&mut self) -> Option<(&'a K, &'a V)> {
         let (row, rest) = self.rest.split_first()?;
         self.rest = rest;
-        Some((&row.0, &row.1))
+        Some((row.key(), row.value()))
     }
 }

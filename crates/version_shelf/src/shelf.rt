@@ -4,8 +4,9 @@ ghost use Rattle.std.specs.Prelude.{◌≡◌, ◌↔◌, ◌+◌, ◌≤◌, []
 ghost use Rattle.std.specs.Option.{option_copied};
 ghost use Rattle.version_shelf.specs.Shelf.{ClonesEqual, HasRoom, most_rows, IsInOrder, get, count_of, rows_between, with_row, without_row, Changes};
 
+use crate::row::Row;
 use crate::rows::Rows;
-use crate::vector::{Parts, between, part, with_copies, without_copies};
+use crate::vector::{Parts, between, part, rows_with, rows_without};
 use std::alloc::{AllocError, Global};
 use std::marker::Model;
 use std::sync::Arc;
@@ -18,7 +19,7 @@ const MOST_ROWS: usize = 262_144;
 pub struct Shelf<K: Ord, V> {
     alloc: Global,
     // The first shelf has none.
-    rows: Option<Arc<Vec<(K, V)>>>,
+    rows: Option<Arc<Vec<Row<K, V>>>>,
 }
 
 impl<K: Ord, V> Model for Shelf<K, V> {
@@ -87,7 +88,7 @@ impl<K: Ord + Clone, V: Clone> Shelf<K, V> {
         ensures count { IfOk result (λ new. length new + count_of K.cmp self.now key ≡ length self.now + 1) }
         ensures order { IfOk result (IsInOrder K.cmp) }
     {
-        let rows = with_copies(self.alloc, self.rows(), key, value)?;
+        let rows = rows_with(self.alloc, self.rows(), key, value)?;
         Ok(Shelf {
             alloc: self.alloc,
             rows: Some(rows),
@@ -104,14 +105,14 @@ impl<K: Ord + Clone, V: Clone> Shelf<K, V> {
         ensures count { IfOk result (λ new. length new + count_of K.cmp self.now key.now ≡ length self.now) }
         ensures order { IfOk result (IsInOrder K.cmp) }
     {
-        let rows = without_copies(self.alloc, self.rows(), key)?;
+        let rows = rows_without(self.alloc, self.rows(), key)?;
         Ok(Shelf {
             alloc: self.alloc,
             rows: Some(rows),
         })
     }
 
-    fn rows(&self) -> &[(K, V)]
+    fn rows(&self) -> &[Row<K, V>]
         ensures rows { result.now ≡ self.now }
         ensures order { IsInOrder K.cmp self.now }
         ensures most { length self.now ≤ most_rows }

@@ -134,18 +134,57 @@ fn marks(alloc: Global) -> Result<Vec<Mark>, Fail> {
     Ok(marks)
 }
 
+/// The versions of a history, and the operations of each version's batch; the first version has none.
+#[derive(Drop)]
+struct Played {
+    steps: Vec<Step>,
+    batches: Vec<String>,
+}
+
 /// A history of so many versions after the first.
-fn history(alloc: Global, seed: u64, count: usize) -> Result<Vec<Step>, Fail> {
+fn history(alloc: Global, seed: u64, count: usize) -> Result<Played, Fail> {
     let mut state = seed;
     let mut steps = first_step(alloc)?;
+    let mut batches = Vec::new(alloc);
+    batches.push(String::new(alloc))?;
     for _ in 0..100_000 {
         if steps.len() > count {
             break;
         }
         let lines = lines(alloc, &mut state)?;
-        go_on(alloc, &mut steps, lines.as_str())?;
+        if go_on(alloc, &mut steps, lines.as_str())? {
+            batches.push(lines)?;
+        }
     }
-    Ok(steps)
+    Ok(Played { steps, batches })
+}
+
+/// How many batches were one operation that begins and ends with these words and wrote at least so many rows?
+fn count_of(played: &Played, (start, end): (&str, &str), least: usize) -> usize {
+    played
+        .steps
+        .iter()
+        .zip(&played.batches)
+        .filter(|(step, batch)| {
+            !batch.contains('\n')
+                && batch.starts_with(start)
+                && batch.ends_with(end)
+                && step.changes.len() >= least
+        })
+        .count()
+}
+
+/// Every operation came alone and wrote something, and each way to drop a bundle met its users where it takes notice.
+fn every_operation_came(rt: &impl Abort, played: &Played) {
+    for kind in KINDS {
+        assert!(rt; count_of(played, (kind, ""), 1) > 0, "{kind}");
+    }
+    for (mode, least) in [("restrict", 1), ("delete", 2), ("dissociate", 2)] {
+        assert!(rt;
+            count_of(played, ("drop_bundle", mode), least) > 0,
+            "{mode}"
+        );
+    }
 }
 
 /// Every mark reads of this version what it reads of the lists.
@@ -168,11 +207,12 @@ fn are_read(
 fn each_mark_reads_what_the_lists_have(rt: HostRuntime) -> Result<(), Fail> {
     let alloc = rt.alloc();
     let marks = marks(alloc)?;
-    let steps = history(alloc, 7, 1000)?;
-    assert_eq!(rt; steps.len(), 1001);
+    let played = history(alloc, 7, 1000)?;
+    assert_eq!(rt; played.steps.len(), 1001);
+    every_operation_came(&rt, &played);
     let mut listed = Listed::empty(alloc);
     let mut longest = 0;
-    for step in &steps {
+    for step in &played.steps {
         listed.apply(&step.changes)?;
         longest = step.changes.len().max(longest);
         are_read(&rt, alloc, step, &listed, marks.as_slice())?;
@@ -246,7 +286,8 @@ fn compare_at(
 fn a_mark_is_unchanged_where_no_write_hits_it(rt: HostRuntime) -> Result<(), Fail> {
     let alloc = rt.alloc();
     let marks = marks(alloc)?;
-    let steps = history(alloc, 11, 300)?;
+    let played = history(alloc, 12, 300)?;
+    every_operation_came(&rt, &played);
     let mut counts = Counts {
         unhit: 0,
         unchanged: 0,
@@ -254,7 +295,7 @@ fn a_mark_is_unchanged_where_no_write_hits_it(rt: HostRuntime) -> Result<(), Fai
         unchanged_though_hit: 0,
         changed_though_equal: 0,
     };
-    for ten in steps.as_slice().windows(10) {
+    for ten in played.steps.as_slice().windows(10) {
         for mark in &marks {
             compare_at(&rt, alloc, ten, mark, &mut counts)?;
         }
