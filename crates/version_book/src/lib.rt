@@ -11,7 +11,8 @@
 //! - [`laws`]: what holds of marks, writes and histories of versions, such as that a mark that no write hits reads the same.
 //!
 //! The definitions stand in `specs/`: what marks read and which writes hit them in `Marks`, the rows of versions in `Numbered`,
-//! how versions follow one another in `History`. Nothing outside this crate knows how the rows are kept:
+//! how versions follow one another in `History`, what there has to be room for in `Room`; the others are for this crate's
+//! own contracts. Nothing outside this crate knows how the rows are kept:
 //!
 //! - `store` and `entries`: the shelves behind a version; `index` and `key`: how an index is kept and ordered; `numbered`:
 //!   their rows.

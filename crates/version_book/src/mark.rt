@@ -37,7 +37,7 @@ pub(crate) enum Span {
     Expiries(ExpiryKey, ExpiryKey),
 }
 
-/// One thing that a batch can read. It is made with the bounds of its range, so that no later question takes memory.
+/// One thing that a batch can read. It is made with the bounds of its range, so that `unchanged` takes no memory.
 /// What it names is all that a contract sees of it: marks that name the same are equal.
 #[derive(Drop)]
 pub struct Mark {

@@ -107,7 +107,8 @@ impl Version {
     /// The next version: the book after these changes, whose rows get its number. The caller sees to it that the number is
     /// the one after this version's, that each change in turn finds the row that it names and puts a row of its own key,
     /// that the book that comes out is lawful, and that there is room for its rows. The error is want of memory; this
-    /// version stays as it is.
+    /// version stays as it is. That the next version's book is the book after the changes is the law `books`, and that it is
+    /// lawful is told by its `number`.
     pub fn apply(&self, changes: &Changes, number: u64) -> Result<Version, AllocError>
         requires next { number ≡ self.now.number + 1 }
         requires fits { FitAll changes.now (book_of self.now.rows) }

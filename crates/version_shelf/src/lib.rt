@@ -13,10 +13,12 @@
 //! | `get` | log2 n + 2 | none | none |
 //! | `range` | 2 log2 n + 2; none for a row that comes | none | none |
 //! | `clone` | none | none | none, but that one more owner is counted |
-//! | `with`, `without` | log2 n + 2 | none, but that one more owner of every row that stays is counted | for a list of all rows, and for the row that is new |
+//! | `with` | log2 n + 2 | none, but that one more owner of every row that stays is counted | for the row, and for a list of all rows |
+//! | `without` | log2 n + 2 | the same | for a list of all rows |
 //!
-//! What sharing means: every shelf that has a row holds the same key and value in memory, which are let go with the last
-//! of these shelves. A clone of a shelf also has its list of rows; `with` and `without` make a list of their own.
+//! What sharing means: a row that a shelf has from an older one is the same key and value in memory, which are let go with
+//! the last shelf that has them. A clone of a shelf also has its list of rows; `with` and `without` make a list of their
+//! own.
 //!
 //! `AllocError` says that memory, or one more owner in a full count, was refused, and nothing else. The calls that need
 //! no memory have no such answer.

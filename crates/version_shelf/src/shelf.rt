@@ -14,7 +14,7 @@ use std::sync::Arc;
 const MOST_ROWS: usize = 262_144;
 
 /// One version of an ordered map of at most 262,144 rows, which is never changed. A reader has the same rows for as
-/// long as it keeps the shelf; a writer pays for the rows of the shelf that it makes.
+/// long as it keeps the shelf; a writer pays for the list of rows of the shelf that it makes.
 #[derive(Drop)]
 pub struct Shelf<K: Ord, V> {
     alloc: Global,
@@ -78,7 +78,8 @@ impl<K: Ord + Clone, V: Clone> Shelf<K, V> {
     }
 
     /// The shelf with this row, in the place of the row that has the key, if there is one. The caller sees to it that
-    /// there is room, also for a key that stands, and that clones of keys and of values equal them.
+    /// there is room, also for a key that stands, and that clones of keys and of values equal them, whether rows are copied
+    /// or, as here, shared.
     pub fn with(&self, key: K, value: V) -> Result<Shelf<K, V>, AllocError>
         requires room { HasRoom self.now }
         requires keys { ClonesEqual K.is_clone }

@@ -92,7 +92,7 @@ pub fn are_hit(mark: &Mark, changes: &Changes) -> bool {
         .any(|write| is_hit(mark.named(), write))
 }
 
-/// A whole entry.
+/// An entry: all that isn't the same in two entries of one number here, or in all of them.
 fn entry_text(alloc: Global, entry: &Entry) -> Result<String, Fail> {
     let (number, revision) = (number_of(entry.id()), entry.revision());
     let (parent, identity) = (
@@ -123,7 +123,7 @@ fn bundle_text(alloc: Global, bundle: &Bundle) -> Result<String, Fail> {
     Ok(format!(in alloc; " {domain} {sequence}")?)
 }
 
-/// What a version reads at a mark, row by row, each whole.
+/// What a version reads at a mark, row by row: all in which rows of these tests differ.
 pub fn read_text(alloc: Global, version: &Version, mark: &Mark) -> Result<String, Fail> {
     let reading = version.read(mark)?;
     let mut text = String::new(alloc);
@@ -181,7 +181,7 @@ impl Listed {
         Ok(())
     }
 
-    /// The rows that a mark names, each whole, in the order of the numbers of ids, which are 1 to 6.
+    /// The rows that a mark names, told likewise, in the order of the numbers of ids, which are 1 to 6.
     pub fn text(&self, alloc: Global, mark: &Mark) -> Result<String, Fail> {
         let named = mark.named();
         let mut text = String::new(alloc);

@@ -82,10 +82,13 @@ fn told(alloc: Global, version: &Version, mark: &Mark) -> Result<String, Fail> {
     Ok(text)
 }
 
-/// The same of the version's clone.
+/// The same of the version's clone at the mark's clone, which has to name the same.
 fn told_by_clone(alloc: Global, version: &Version, mark: &Mark) -> Result<String, Fail> {
-    let copy = version.clone()?;
-    told(alloc, &copy, mark)
+    let (copy, copied_mark) = (version.clone()?, mark.clone()?);
+    if copied_mark.named().clone()? != *mark.named() {
+        return Err(Fail::from("a clone that names something else"));
+    }
+    told(alloc, &copy, &copied_mark)
 }
 
 fn told_count(alloc: Global, version: &Version) -> Result<String, Fail> {

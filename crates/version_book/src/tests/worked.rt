@@ -78,6 +78,10 @@ READS 9: children /a => 2.1 3.1
 drop_bundle d1 delete
 READS 10: entry 3 =>
 COUNT 10 => 3 0 0 at 10
+CLONE 7: entry 3 => 3.0
+CLONE 7: children /a => 1.0 2.0 3.0
+CLONE 7: users d2 => 2.0 3.0
+CLONE 7: expiring 8 => 1.0 2.0 5.0
 ";
 
 /// Agents and bundles, and whether what they read is unchanged.
@@ -103,6 +107,8 @@ SAME 5 4: agent /spire/agent/m => no
 SAME 5 0: agent /spire/agent/m => yes
 COUNT 4 => 0 1 1 at 4
 COUNT 5 => 0 0 1 at 5
+CLONE 4: agent /spire/agent/m => agent 1
+CLONE 4: bundle d1 => bundle 1
 ";
 
 /// What is created and then deleted again leaves all marks as they were; what is written in place doesn't.
@@ -139,6 +145,8 @@ create 1 /a /x 4
 SAME 7 5: entry 1 => no
 SAME 7 2: children /a => no
 SAME 6 0: children /a => yes
+READS 3: children /a => 1.0 2.0
+READS 5: children /a => 1.1
 ";
 
 #[test]
