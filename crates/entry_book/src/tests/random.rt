@@ -4,7 +4,7 @@
 ghost use Rattle.std.specs.Prelude.{◌≡◌, ◌<◌};
 
 use super::making::{API, Draft, N1, N2, SERVER, Said, WEB, ops};
-use super::rows::{BookRows, answers, is_lawful, rows_of};
+use super::rows::{BookRows, answers, are_children_listed, bits, is_lawful, rows_of};
 use super::search::{bit, ends, has_cycle, is_alias};
 use super::told::{number_of, run, small_book};
 use crate::{
@@ -20,7 +20,8 @@ pub const AGENTS: [&str; 2] = [N1, N2];
 /// The trust domains of the bundles, and the server's own.
 pub const DOMAINS: [&str; 4] = ["d100", "d101", "d102", "ex.org"];
 
-const PARENTS: [&str; 5] = [N1, N2, SERVER, WEB, API];
+/// The parents of the entries.
+pub const PARENTS: [&str; 5] = [N1, N2, SERVER, WEB, API];
 
 const IDENTITIES: [&str; 3] = [WEB, API, N2];
 
@@ -91,12 +92,16 @@ fn question(state: &mut u64) -> Said {
     }
 }
 
-/// One to three operations, one batch in four being a query.
+/// One to three operations, one batch in four being a query; one in four of the others asks at its end what an agent is
+/// authorised for.
 fn batch(alloc: Global, state: &mut u64) -> Result<Vec<Said>, Fail> {
     let asks = below(state, 4) == 0;
     let mut said = Vec::new(alloc);
     for _ in 0..below(state, 3).wrapping_add(1) {
         said.push(if asks { question(state) } else { change(state) })?;
+    }
+    if !asks && below(state, 4) == 0 {
+        said.push(Said::Authorised(agent(state)))?;
     }
     Ok(said)
 }
@@ -110,7 +115,8 @@ struct Counts {
     cycles: u64,
     held: u64,
     not_held: u64,
-    unused: u64,
+    authorised: u64,
+    restricted: u64,
     deleted: u64,
     dissociated: u64,
     trusted: u64,
@@ -124,7 +130,8 @@ const NOTHING: Counts = Counts {
     cycles: 0,
     held: 0,
     not_held: 0,
-    unused: 0,
+    authorised: 0,
+    restricted: 0,
     deleted: 0,
     dissociated: 0,
     trusted: 0,
@@ -150,27 +157,26 @@ fn kind(reason: &OpRefusal) -> usize
     }
 }
 
-fn count_changes(replies: &[OpReply], counts: &mut Counts) {
-    for reply in replies {
-        match reply {
-            OpReply::Pruned(ids) => add(&mut counts.pruned, !ids.as_slice().is_empty()),
-            OpReply::Dropped(deleted, dissociated) => {
-                let none_deleted = deleted.as_slice().is_empty();
-                let none_dissociated = dissociated.as_slice().is_empty();
-                add(&mut counts.deleted, !none_deleted);
-                add(&mut counts.dissociated, !none_dissociated);
-                add(&mut counts.unused, none_deleted && none_dissociated);
+fn count_changes(said: &[Said], replies: &[OpReply], counts: &mut Counts) {
+    for (op, reply) in said.iter().zip(replies) {
+        match (op, reply) {
+            (_, OpReply::Pruned(ids)) => add(&mut counts.pruned, !ids.as_slice().is_empty()),
+            (Said::DropBundle(_, mode), OpReply::Dropped(deleted, dissociated)) => {
+                add(&mut counts.restricted, *mode == DropMode::Restrict);
+                add(&mut counts.deleted, !deleted.as_slice().is_empty());
+                add(&mut counts.dissociated, !dissociated.as_slice().is_empty());
             }
+            (_, OpReply::Entries(_)) => add(&mut counts.authorised, true),
             _ => {}
         }
     }
 }
 
-fn count(reply: &Reply, counts: &mut Counts) {
+fn count(said: &[Said], reply: &Reply, counts: &mut Counts) {
     match &reply.outcome {
         Outcome::Committed(replies) => {
             add(&mut counts.committed, true);
-            count_changes(replies.as_slice(), counts);
+            count_changes(said, replies.as_slice(), counts);
         }
         Outcome::Answered(_) => add(&mut counts.answered, true),
         Outcome::Refused(Refusal::OfOp(_, reason)) => {
@@ -187,26 +193,12 @@ fn each_came(counts: &Counts) -> bool {
         && counts.cycles != 0
         && counts.held != 0
         && counts.not_held != 0
-        && counts.unused != 0
+        && counts.authorised != 0
+        && counts.restricted != 0
         && counts.deleted != 0
         && counts.dissociated != 0
         && counts.trusted != 0
         && counts.pruned != 0
-}
-
-/// The bits of the entries; none where they aren't in order, each once.
-fn bits(entries: &[Entry]) -> Option<u64> {
-    let mut all = 0;
-    let mut last = 0;
-    for entry in entries {
-        let number = number_of(entry.id());
-        if number <= last {
-            return None;
-        }
-        last = number;
-        all |= bit(entry);
-    }
-    Some(all)
 }
 
 /// Is the bundle's domain named by one of these entries?
@@ -233,6 +225,33 @@ fn is_trust(shown: &[Bundle], rows: &BookRows, ends: u64) -> bool {
         }
     }
     count == shown.len()
+}
+
+/// Is what the batch was answered of agents what a search finds in these rows, those of the book that came out?
+fn are_right(said: &[Said], reply: &Reply, rows: &BookRows) -> bool {
+    let replies = match &reply.outcome {
+        Outcome::Committed(replies) | Outcome::Answered(replies) => replies.as_slice(),
+        Outcome::Refused(_) => &[],
+    };
+    said.iter().zip(replies).all(|(op, reply)| match (op, reply) {
+        (Said::Authorised(text), OpReply::Entries(entries)) => {
+            bits(entries.as_slice()) == Some(ends_of(rows, text))
+        }
+        (Said::Trust(text), OpReply::Bundles(bundles)) => {
+            is_trust(bundles.as_slice(), rows, ends_of(rows, text))
+        }
+        _ => true,
+    })
+}
+
+/// The bits of the entries in which a chain for the agent ends; none where there is no such agent.
+fn ends_of(rows: &BookRows, text: &str) -> u64 {
+    for agent in &rows.agents {
+        if agent.id.get().as_str() == text {
+            return ends(rows, agent);
+        }
+    }
+    0
 }
 
 /// Is the agent told the entries in which a chain for it ends, and the bundles that they name?
@@ -288,9 +307,12 @@ fn random_batches_keep_the_book_lawful_and_agents_told(rt: HostRuntime) -> Resul
     for _ in 0..1000 {
         let said = batch(alloc, &mut state)?;
         let made = Batch::new(book.domain(), ops(alloc, &said)?)?;
-        count(&run(&mut book, &made)?, &mut counts);
+        let reply = run(&mut book, &made)?;
+        count(&said, &reply, &mut counts);
         let rows = rows_of(alloc, &mut book)?;
         assert!(rt; is_lawful(&rows, book.place()));
+        assert!(rt; are_children_listed(alloc, &mut book, &rows)?);
+        assert!(rt; are_right(&said, &reply, &rows));
         for agent in &rows.agents {
             let text = name_of(agent);
             assert!(rt; is_told(alloc, &mut book, &rows, agent, text, &mut counts)?);

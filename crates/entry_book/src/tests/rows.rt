@@ -3,8 +3,9 @@
 ghost use Rattle.std.specs.Prelude.{◌≡◌};
 
 use super::making::{Said, ops};
-use super::random::{AGENTS, DOMAINS};
-use super::told::run;
+use super::random::{AGENTS, DOMAINS, PARENTS};
+use super::search::bit;
+use super::told::{number_of, run};
 use crate::{Agent, Batch, Bundle, Entry, OpReply, Outcome, PlainBook, Sequence};
 use std::alloc::Global;
 use std::test::Fail;
@@ -40,7 +41,20 @@ pub fn answers(
     }
 }
 
-/// The rows, each asked for by its key.
+/// Is this row, where there is one, of the key that was asked for?
+fn is_of_its_key(op: &Said, reply: &OpReply) -> bool {
+    match (op, reply) {
+        (Said::Show(number), OpReply::EntryShown(Some(entry))) => number_of(entry.id()) == *number,
+        (Said::ShowAgent(text), OpReply::AgentShown(Some(agent))) => agent.id.get().as_str()
+            == *text,
+        (Said::ShowBundle(text), OpReply::BundleShown(Some(bundle))) => {
+            bundle.domain.get().as_str() == *text
+        }
+        _ => true,
+    }
+}
+
+/// The rows, each asked for by its key, and each of its key.
 pub fn rows_of(alloc: Global, book: &mut PlainBook) -> Result<BookRows, Fail>
     ensures { book.new.domain ≡ book.old.domain }
 {
@@ -55,7 +69,11 @@ pub fn rows_of(alloc: Global, book: &mut PlainBook) -> Result<BookRows, Fail>
         said.push(Said::ShowBundle(domain))?;
     }
     let mut rows = empty(alloc);
-    for reply in answers(alloc, book, &said)?.as_slice() {
+    let replies = answers(alloc, book, &said)?;
+    for (op, reply) in said.iter().zip(replies.as_slice()) {
+        if !is_of_its_key(op, reply) {
+            return Err(Fail::from("a row of another key"));
+        }
         match reply {
             OpReply::EntryShown(Some(entry)) => rows.entries.push(entry.clone()?)?,
             OpReply::AgentShown(Some(agent)) => rows.agents.push(agent.clone()?)?,
@@ -64,6 +82,60 @@ pub fn rows_of(alloc: Global, book: &mut PlainBook) -> Result<BookRows, Fail>
         }
     }
     Ok(rows)
+}
+
+/// The bits of the entries; none where they aren't in order, each once.
+pub fn bits(entries: &[Entry]) -> Option<u64> {
+    let mut all = 0;
+    let mut last = 0;
+    for entry in entries {
+        let number = number_of(entry.id());
+        if number <= last {
+            return None;
+        }
+        last = number;
+        all |= bit(entry);
+    }
+    Some(all)
+}
+
+/// The bits of the entries of a parent; none where they aren't in order, each once, or one is of another parent.
+fn bits_of_children(parent: &str, reply: &OpReply) -> Option<u64> {
+    let OpReply::Entries(entries) = reply else {
+        return None;
+    };
+    let are_of_it = entries
+        .as_slice()
+        .iter()
+        .all(|entry| entry.parent().get().as_str() == parent);
+    if are_of_it {
+        bits(entries.as_slice())
+    } else {
+        None
+    }
+}
+
+/// The children of each parent stand in order, each once and under its own parent, and all of them are the entries.
+pub fn are_children_listed(
+    alloc: Global,
+    book: &mut PlainBook,
+    rows: &BookRows,
+) -> Result<bool, Fail>
+    ensures { book.new.domain ≡ book.old.domain }
+{
+    let mut said = Vec::new(alloc);
+    for parent in PARENTS {
+        said.push(Said::Children(parent))?;
+    }
+    let replies = answers(alloc, book, &said)?;
+    let mut all = 0;
+    for (parent, reply) in PARENTS.iter().zip(replies.as_slice()) {
+        let Some(found) = bits_of_children(parent, reply) else {
+            return Ok(false);
+        };
+        all |= found;
+    }
+    Ok(bits(rows.entries.as_slice()) == Some(all))
 }
 
 fn is_similar(one: &Entry, other: &Entry) -> bool {
