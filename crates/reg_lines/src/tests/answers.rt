@@ -59,9 +59,6 @@ pub fn answer_on(
             printed(alloc, &refusal)
         }
         Ok(request) => {
-            if book.place() > 64 {
-                return Err(Fail::from("too many batches"));
-            }
             let reply = book.run(&request.batch)?;
             let line = CallReply {
                 call,

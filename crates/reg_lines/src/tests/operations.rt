@@ -151,6 +151,7 @@ const AGENTS_AND_BUNDLES: &str = r#"
 # set_agent
 {"ops":[{"op":"set_agent","selectors":["u:2","a!:y","u:1","a:x","u:2"],"agent":"spiffe://ex.org/spire/agent/n1"}]} => 1; set_agent "spiffe://ex.org/spire/agent/n1" ["a:x","a!:y","u:1","u:2"]
 {"ops":[{"op":"set_agent","selectors":["\u00e9:1","z:1"],"agent":"spiffe://ex.org/spire/agent/n1"}]} => 1; set_agent "spiffe://ex.org/spire/agent/n1" ["z:1","é:1"]
+{"ops":[{"op":"set_agent","selectors":["𐀀:1","～:1"],"agent":"spiffe://ex.org/spire/agent/n1"}]} => 1; set_agent "spiffe://ex.org/spire/agent/n1" ["～:1","𐀀:1"]
 {"ops":[{"op":"set_agent","agent":"spiffe://ex.org/spire/agent/n1","selectors":[]}]} => 1; set_agent "spiffe://ex.org/spire/agent/n1" []
 {"ops":[{"op":"set_agent","agent":"spiffe://ex.org/spire/agent/n1","selectors":null}]} => {"code":"L5","field":"selectors","line":1,"op":0}
 

@@ -166,9 +166,6 @@ fn reply_with_hint(alloc: Global) -> Result<Reply, Fail> {
     let mut ops = Sequence::empty(alloc);
     ops.push(Op::Create(Shared::of(alloc, new)?))?;
     let batch = Batch::new(book.domain(), ops)?;
-    if book.place() > 64 {
-        return Err(Fail::from("too many batches"));
-    }
     Ok(book.run(&batch)?)
 }
 

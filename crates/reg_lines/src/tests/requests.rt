@@ -118,6 +118,7 @@ true => {"code":"L4","line":1}
 {"ops":[{"op":"set_agent","agent":"spiffe://ex.org/spire/agent/n1","selectors":null}]} => {"code":"L5","field":"selectors","line":1,"op":0}
 {"ops":[{"op":"set_agent","agent":"spiffe://ex.org/spire/agent/n1","selectors":"x:1"}]} => {"code":"L5","field":"selectors","line":1,"op":0}
 {"ops":[{"op":"set_agent","agent":"spiffe://ex.org/spire/agent/n1","selectors":{}}]} => {"code":"L5","field":"selectors","line":1,"op":0}
+{"ops":[{"op":"set_agent","agent":null,"selectors":[]}]} => {"code":"L5","field":"agent","line":1,"op":0}
 {"ops":[{"op":"set_agent","agent":false,"selectors":[]}]} => {"code":"L5","field":"agent","line":1,"op":0}
 {"ops":[{"op":"set_agent","agent":"spiffe://a:80/x","selectors":[7]}]} => {"code":"I5","field":"agent","line":1,"op":0}
 {"ops":[{"op":"set_agent","agent":"spiffe://ex.org/spire/agent/n1","selectors":["unix",7]}]} => {"code":"S2","field":"selectors","line":1,"op":0}
