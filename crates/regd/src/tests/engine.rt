@@ -34,13 +34,14 @@ fn run_with(
     Ok(plain(alloc, domain, seed, &mut input, &mut output))
 }
 
-/// What the engine of `ex.org` with the first seed answers to these bytes.
-pub fn answers(alloc: Global, bytes: &[u8]) -> Result<Vec<u8>, Fail> {
-    answers_with(alloc, "ex.org", FIRST_SEED, bytes)
+/// What the engine of `ex.org` with the first seed answers to these bytes, in lines that are compact.
+pub fn answers(rt: &impl Abort, alloc: Global, bytes: &[u8]) -> Result<Vec<u8>, Fail> {
+    answers_with(rt, alloc, "ex.org", FIRST_SEED, bytes)
 }
 
 /// The same of the engine of another trust domain, or with another seed.
 pub fn answers_with(
+    rt: &impl Abort,
     alloc: Global,
     domain: &str,
     seed: [u8; 32],
@@ -48,14 +49,17 @@ pub fn answers_with(
 ) -> Result<Vec<u8>, Fail> {
     let mut giver = Giver::new(bytes, Pace::All, Trouble::NONE);
     let mut taker = Taker::new(alloc, Pace::All, Trouble::NONE);
-    match run_with(alloc, domain, seed, &mut giver, &mut taker)? {
-        Ok(()) => Ok(taker.bytes),
-        Err(_) => Err(Fail::from("the run failed")),
-    }
+    let ended = run_with(alloc, domain, seed, &mut giver, &mut taker)?;
+    compact_bytes(rt, alloc, ended, taker)
 }
 
-/// What a run of these words of a command line answers to these bytes.
-pub fn answers_of_words(alloc: Global, words: &[&str], bytes: &[u8]) -> Result<Vec<u8>, Fail> {
+/// What a run of these words of a command line answers to these bytes, in lines that are compact.
+pub fn answers_of_words(
+    rt: &impl Abort,
+    alloc: Global,
+    words: &[&str],
+    bytes: &[u8],
+) -> Result<Vec<u8>, Fail> {
     let settings = Settings::from_words(alloc, words)
         .ok()
         .ok_or("no settings")?;
@@ -65,10 +69,21 @@ pub fn answers_of_words(alloc: Global, words: &[&str], bytes: &[u8]) -> Result<V
     let mut output = Output::new(Counted::new(&mut taker));
     let ended = run_plain(alloc, settings, &mut input, &mut output);
     drop(output);
-    match ended {
-        Ok(()) => Ok(taker.bytes),
-        Err(_) => Err(Fail::from("the run failed")),
-    }
+    compact_bytes(rt, alloc, ended, taker)
+}
+
+/// What a run that ended well has written; each of its lines is compact.
+fn compact_bytes(
+    rt: &impl Abort,
+    alloc: Global,
+    ended: Result<(), Fault>,
+    taker: Taker,
+) -> Result<Vec<u8>, Fail> {
+    let Ok(()) = ended else {
+        return Err(Fail::from("the run failed"));
+    };
+    are_compact(rt, alloc, str::from_utf8(&taker.bytes)?)?;
+    Ok(taker.bytes)
 }
 
 /// A run's input, and the output that it has to give.
@@ -121,13 +136,13 @@ pub fn are_answered_with(
     text: &str,
 ) -> Result<(), Fail> {
     let table = Table::of(alloc, text)?;
-    let got = answers_with(alloc, domain, seed, table.asked.as_bytes())?;
+    let got = answers_with(rt, alloc, domain, seed, table.asked.as_bytes())?;
     assert_eq!(rt; str::from_utf8(&got)?, table.wanted.as_str());
-    are_compact(rt, alloc, table.wanted.as_str())
+    Ok(())
 }
 
 /// Each line is the text that `serde_json` writes of the value that it reads there.
-pub fn are_compact(rt: &impl Abort, alloc: Global, lines: &str) -> Result<(), Fail> {
+fn are_compact(rt: &impl Abort, alloc: Global, lines: &str) -> Result<(), Fail> {
     for line in lines.lines() {
         let value = Value::from_str(alloc, line)?;
         assert_eq!(rt; value.to_string(alloc)?.as_str(), line);

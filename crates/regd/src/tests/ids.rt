@@ -85,7 +85,7 @@ fn words_give_the_domain_and_the_seed_of_a_run(rt: HostRuntime) -> Result<(), Fa
         "b.org",
     ];
     let table = Table::of(rt.alloc(), OF_WORDS)?;
-    let got = answers_of_words(rt.alloc(), &words, table.asked.as_bytes())?;
+    let got = answers_of_words(&rt, rt.alloc(), &words, table.asked.as_bytes())?;
     assert_eq!(rt; str::from_utf8(&got)?, table.wanted.as_str());
     Ok(())
 }

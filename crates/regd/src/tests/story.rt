@@ -32,15 +32,17 @@ the partner leaves: the bundle is in use, so its drop is refused, but it may tak
 {"call":10,"place":5,"replies":[{"deleted":[],"dissociated":["cb0f29a0-48e3-4569-92c6-533e32ee7aed"]}],"result":"committed"}
 {"ops":[{"op":"show","id":"cb0f29a0-48e3-4569-92c6-533e32ee7aed"},{"op":"trust","agent":"spiffe://ex.org/spire/agent/b"}]}
 {"call":11,"place":5,"replies":[{"entry":{"domains":[],"expiry":0,"hint":"","id":"cb0f29a0-48e3-4569-92c6-533e32ee7aed","identity":"spiffe://ex.org/pay","parent":"spiffe://ex.org/node/build","revision":1,"selectors":["unix:uid:1001"]}},{"bundles":[]}],"result":"answered"}
-a workload for a time, and what has expired is pruned
-{"ops":[{"op":"create","parent":"spiffe://ex.org/node/rack-1","identity":"spiffe://ex.org/migrate","selectors":["unix:uid:1002"],"hint":"until the move is done","expiry":1700000000}]}
-{"call":12,"place":6,"replies":[{"entry":{"domains":[],"expiry":1700000000,"hint":"until the move is done","id":"29b72176-9ce6-4e43-9571-33b074d839d5","identity":"spiffe://ex.org/migrate","parent":"spiffe://ex.org/node/rack-1","revision":0,"selectors":["unix:uid:1002"]}}],"result":"committed"}
+two workloads for a time: each is pruned once it has expired
+{"ops":[{"op":"create","parent":"spiffe://ex.org/node/rack-1","identity":"spiffe://ex.org/migrate","selectors":["unix:uid:1002"],"hint":"until the move is done","expiry":1700000000},{"op":"create","parent":"spiffe://ex.org/node/rack-1","identity":"spiffe://ex.org/audit","selectors":["unix:uid:1003"],"expiry":1700086400}]}
+{"call":12,"place":6,"replies":[{"entry":{"domains":[],"expiry":1700000000,"hint":"until the move is done","id":"29b72176-9ce6-4e43-9571-33b074d839d5","identity":"spiffe://ex.org/migrate","parent":"spiffe://ex.org/node/rack-1","revision":0,"selectors":["unix:uid:1002"]}},{"entry":{"domains":[],"expiry":1700086400,"hint":"","id":"31ed1f28-510a-4b45-ace1-0a1f4b794d6f","identity":"spiffe://ex.org/audit","parent":"spiffe://ex.org/node/rack-1","revision":0,"selectors":["unix:uid:1003"]}}],"result":"committed"}
 {"ops":[{"op":"prune","before":1700000000}]}
 {"call":13,"place":7,"replies":[{"pruned":[]}],"result":"committed"}
 {"ops":[{"op":"prune","before":1700000001}]}
 {"call":14,"place":8,"replies":[{"pruned":["29b72176-9ce6-4e43-9571-33b074d839d5"]}],"result":"committed"}
+{"ops":[{"op":"prune","before":1700086401}]}
+{"call":15,"place":9,"replies":[{"pruned":["31ed1f28-510a-4b45-ace1-0a1f4b794d6f"]}],"result":"committed"}
 {"ops":[{"op":"authorised","agent":"spiffe://ex.org/spire/agent/a"}]}
-{"call":15,"place":8,"replies":[{"entries":[{"domains":[],"expiry":0,"hint":"","id":"76b8e0ad-a0f1-4d90-805d-6ae55386bd28","identity":"spiffe://ex.org/node/rack-1","parent":"spiffe://ex.org/spire/server","revision":0,"selectors":["rack:1"]},{"domains":[],"expiry":0,"hint":"","id":"9f07e7be-5551-487a-98ba-977c732d080d","identity":"spiffe://ex.org/web/log","parent":"spiffe://ex.org/web","revision":0,"selectors":["unix:path:/usr/bin/log"]},{"domains":[],"expiry":0,"hint":"","id":"da41597c-5157-488d-b724-e03fb8d84a37","identity":"spiffe://ex.org/web","parent":"spiffe://ex.org/node/rack-1","revision":0,"selectors":["unix:uid:1000"]}]}],"result":"answered"}
+{"call":16,"place":9,"replies":[{"entries":[{"domains":[],"expiry":0,"hint":"","id":"76b8e0ad-a0f1-4d90-805d-6ae55386bd28","identity":"spiffe://ex.org/node/rack-1","parent":"spiffe://ex.org/spire/server","revision":0,"selectors":["rack:1"]},{"domains":[],"expiry":0,"hint":"","id":"9f07e7be-5551-487a-98ba-977c732d080d","identity":"spiffe://ex.org/web/log","parent":"spiffe://ex.org/web","revision":0,"selectors":["unix:path:/usr/bin/log"]},{"domains":[],"expiry":0,"hint":"","id":"da41597c-5157-488d-b724-e03fb8d84a37","identity":"spiffe://ex.org/web","parent":"spiffe://ex.org/node/rack-1","revision":0,"selectors":["unix:uid:1000"]}]}],"result":"answered"}
 "#;
 
 #[test]
