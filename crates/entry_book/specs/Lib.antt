@@ -9,7 +9,6 @@ pub mod Laws
 pub mod Limits
 pub mod Ops
 pub mod Order
-pub mod Performed
 pub mod Rows
 pub mod Runs
 pub mod Worked

@@ -176,7 +176,7 @@ fn is_agent_path(id: &SpiffeId) -> bool
 }
 
 /// Is this the ID of the trust domain's server?
-pub(crate) fn is_server(domain: &TrustDomain, id: &SpiffeId) -> bool
+pub fn is_server(domain: &TrustDomain, id: &SpiffeId) -> bool
     ensures { result ≡ bytes_eq id.now (server_text domain.now) }
 {
     let Some(rest) = id.as_str().as_bytes().strip_prefix(b"spiffe://") else {

@@ -140,7 +140,7 @@ impl Entry {
     }
 
     /// Is a revision expected that isn't the entry's?
-    pub(crate) fn is_stale(&self, expected: Option<u64>) -> bool
+    pub fn is_stale(&self, expected: Option<u64>) -> bool
         ensures { result ≡ is_stale expected self.now }
     {
         match expected {
@@ -150,7 +150,7 @@ impl Entry {
     }
 
     /// Does the entry expire before a moment, in seconds since the epoch?
-    pub(crate) fn expires_before(&self, moment: u64) -> bool
+    pub fn expires_before(&self, moment: u64) -> bool
         ensures { result ≡ expires_before moment self.now }
     {
         let expiry = self.expiry();
@@ -158,7 +158,7 @@ impl Entry {
     }
 
     /// Does the entry name the trust domain?
-    pub(crate) fn names(&self, domain: &TrustDomain) -> bool
+    pub fn names(&self, domain: &TrustDomain) -> bool
         ensures { result ≡ names domain.now self.now }
     {
         self.domains().contains(domain)

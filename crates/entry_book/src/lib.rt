@@ -1,10 +1,9 @@
 //! What is a registration book, and what does a batch of operations do to it?
 //!
 //! The book of a server has three sets of rows: entries, agents and trust bundles. A batch of operations is all or
-//! nothing. This crate says what that means, in `specs/`, and has the plain book whose contract is this meaning; each
-//! later representation of a book is proved to answer the same.
+//! nothing. This crate says in `specs/` what that means. It has the types that books and batches are made of, and
+//! proves the laws of the definitions. A crate with a book, such as `plain_book`, is proved to answer what they say.
 //!
-//! - [`PlainBook`]: a registration book for one thread. It stands for the list of all its books so far.
 //! - [`Batch`]: 1 to 64 operations for the book of one trust domain, none with a fault. [`BatchRefusal`] and
 //!   [`OpFault`] tell why a list of operations is none.
 //! - [`Op`]: one operation; [`NewEntry`], what a caller gives of an entry, and [`DropMode`], what becomes of the entries
@@ -14,6 +13,7 @@
 //! - [`Entry`], [`Agent`], [`Bundle`]: the rows. A copy of a row copies no text.
 //! - [`Shared`], [`Sequence`], [`Text`], [`DomainSet`]: what rows are made of, seen by contracts as a value, a list,
 //!   bytes and a set.
+//! - [`is_server`]: whether an ID is that of a trust domain's server.
 //! - [`laws`]: what holds of every book, such as that each book that can be reached is lawful.
 //!
 //! `docs/BOOK.md` tells the rules.
@@ -21,41 +21,30 @@
 
 mod agent;
 mod batch;
-mod book;
 mod bundle;
 mod check;
 mod domains;
 mod entry;
-mod expired;
 mod fault;
-mod find;
 pub mod laws;
 mod limit;
 mod mode;
 mod op;
-mod ops;
-mod plain_book;
 mod reply;
-mod row;
-mod run;
 mod sequence;
 mod shared;
-#[cfg(test)]
-mod tests;
 mod text;
-mod users;
-mod worklist;
 
 pub use agent::Agent;
 pub use batch::Batch;
 pub use bundle::Bundle;
+pub use check::is_server;
 pub use domains::DomainSet;
 pub use entry::{Entry, NewEntry};
 pub use fault::{BatchRefusal, OpFault};
 pub use limit::Limit;
 pub use mode::DropMode;
 pub use op::Op;
-pub use plain_book::PlainBook;
 pub use reply::{OpRefusal, OpReply, Outcome, Refusal, Reply};
 pub use sequence::Sequence;
 pub use shared::Shared;

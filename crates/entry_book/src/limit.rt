@@ -2,9 +2,6 @@
 
 ghost use Rattle.std.specs.Prelude.{◌≡◌};
 ghost use Rattle.entry_book.specs.Codes.{limit_code};
-ghost use Rattle.entry_book.specs.Limits.{limit_passed};
-
-use crate::book::Book;
 
 /// Why a batch of changes is too much for the books: there are too many of them already, or the new one would be too
 /// large. The first that holds, in this order.
@@ -32,23 +29,4 @@ impl Limit {
             Limit::Bundles => "W5",
         }
     }
-}
-
-/// The first limit that is passed by a book that is to follow the one at this place.
-pub(crate) fn limit_passed(place: u64, book: &Book) -> Option<Limit>
-    ensures { result ≡ limit_passed place book.now }
-{
-    if place > 65_535 {
-        return Some(Limit::History);
-    }
-    if book.entry_count() > 16_384 {
-        return Some(Limit::Entries);
-    }
-    if book.agent_count() > 4_096 {
-        return Some(Limit::Agents);
-    }
-    if book.bundle_count() > 1_024 {
-        return Some(Limit::Bundles);
-    }
-    None
 }

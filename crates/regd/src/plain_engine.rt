@@ -10,7 +10,8 @@ ghost use Rattle.regd.specs.Answers.{Answers, AnswersBatch, AnswersLine, start};
 
 use crate::faults::Fault;
 use crate::settings::Settings;
-use entry_book::{Batch, PlainBook};
+use entry_book::Batch;
+use plain_book::PlainBook;
 use reg_lines::{
     CallReply, Ids, Input, Line, LineRefusal, Output, Sink, Source, flush_before_waiting,
     most_lines, print_line, read_request,

@@ -1,0 +1,6 @@
+pub mod Answered
+pub mod Copies
+pub mod Flags
+pub mod Kept
+pub mod Reached
+pub mod Running

@@ -1,0 +1,76 @@
+-- A run that goes on, operation by operation.
+use Rattle.std.proofs.Common.{◌≡◌, ℕ, zero, suc, ◌+◌, ◌<◌, List, [], ◌∷◌, ◌++◌, length, get_or, drop, None, Result, Ok, Err, IfOk, refl, sym, ap, subst, ◌∙◌, append_assoc, arith}
+use Rattle.std.specs.List.{AllByRecursion}
+use Rattle.std.proofs.lemmas.List.{at_drop_more}
+use Rattle.entry_book.specs.declared.op.Op.{Op}
+use Rattle.entry_book.specs.declared.reply.OpReply.{OpReply}
+use Rattle.entry_book.specs.declared.reply.OpRefusal.{OpRefusal}
+use Rattle.plain_book.specs.declared.run.BatchRun.TheVariants.{Accepted, RefusedAt}
+use Rattle.entry_book.specs.Rows.{Bytes}
+use Rattle.entry_book.specs.Book.{Book}
+use Rattle.entry_book.specs.Writes.{after}
+use Rattle.entry_book.specs.Ops.{Answer, Done, op_of}
+use Rattle.entry_book.specs.Batches.{IsMadeFor, IsProperOp, op_fault}
+use Rattle.entry_book.specs.Lawful.{Lawful}
+use Rattle.entry_book.specs.Runs.{RunResult, onto, then_run, run}
+use Rattle.plain_book.specs.Performed.{performed, resumed}
+use Rattle.entry_book.proofs.Changed.{after-append}
+use Rattle.entry_book.proofs.Faults.{no_fault}
+use Rattle.entry_book.proofs.Keeps.{op_keeps}
+
+-- ---- the operations of a batch on a lawful book
+
+all_at : {X : Type 0} (P : X → Type 0) (xs : List X) (n : ℕ) (x : X) → AllByRecursion P xs → n < length xs → x ≡ get_or xs n x → P x
+all_at P [] n x h l e = absurd (omega arith)
+all_at P (y ∷ ys) zero x h l e = subst P (sym e) h.0
+all_at P (y ∷ ys) (suc n) x h l e = all_at P ys n x h.1 (omega arith) e
+
+abbrev same_answer : {X E : Type 0} → Result X E → Result X E → Type 0
+same_answer a b = a ≡ b
+
+ok_is : {X E : Type 0} (x y : X) → same_answer {X = X} {E = E} (Ok x) (Ok y) → x ≡ y
+ok_is x y e = cc
+
+accepted_is : (own : Bytes) (m : ℕ) (o : Answer) (reply : OpReply) (b c : Book) → IfOk o (λ d. Lawful own m (after d.writes b)) → Ok (reply, c) ≡ performed o b → Lawful own m c
+accepted_is own m (Ok d) reply b c h e = let q = ok_is (reply, c) (d.reply, after d.writes b) e in subst (Lawful own m) (sym (ap (λ t. t.1) q)) h
+accepted_is own m (Err r) reply b c h e = cc
+
+-- an operation that is accepted leaves a lawful book
+pub keeps_at : (own : Bytes) (ops : List Op) (m n : ℕ) (op : Op) (reply : OpReply) (b c : Book) → IsMadeFor own (record { domain = own; ops = ops }) → Lawful own (m + n) b → n < length ops → op ≡ get_or ops n op → Ok (reply, c) ≡ performed (op_of own op b) b → Lawful own (m + (n + 1)) c
+keeps_at own ops m n op reply b c made l k e h =
+    let proper = all_at IsProperOp ops n op made.proper k e in
+    let faultless = all_at (λ op. op_fault own op ≡ None) ops n op (no_fault own ops made.no_fault).2 k e in
+    let q : m + n + 1 ≡ m + (n + 1) = omega arith in
+    subst (λ t. Lawful own t c) q (accepted_is own (m + n + 1) (op_of own op b) reply b c (op_keeps own (m + n) op b proper faultless l) h)
+
+-- ---- what the run comes to
+
+-- an accepted operation more
+onto_more : (n : ℕ) (replies : List OpReply) (b : Book) (d : Done) (r : RunResult) → resumed n replies b (onto d r) ≡ resumed (n + 1) (replies ++ d.reply ∷ []) (after d.writes b) r
+onto_more n replies b d (Ok t) = ap (λ l. Accepted l (after (d.writes ++ t.writes) b)) (sym (append_assoc replies (d.reply ∷ []) t.replies)) ∙ ap (Accepted ((replies ++ d.reply ∷ []) ++ t.replies)) (after-append d.writes t.writes b)
+onto_more n replies b d (Err s) = let q : n + (s.op + 1) ≡ n + 1 + s.op = omega arith in ap (λ m. RefusedAt m s.reason) q
+
+then_more : (n : ℕ) (replies : List OpReply) (b c : Book) (o : Answer) (f : Done → RunResult) (reply : OpReply) (g : Book → RunResult) → ((d : Done) → f d ≡ g (after d.writes b)) → Ok (reply, c) ≡ performed o b → resumed n replies b (then_run o f) ≡ resumed (n + 1) (replies ++ reply ∷ []) c (g c)
+then_more n replies b c (Ok d) f reply g h e =
+    let q = ok_is (reply, c) (d.reply, after d.writes b) e in
+    let r : d.reply ≡ reply = sym (ap (λ t. t.0) q) in
+    let k : after d.writes b ≡ c = sym (ap (λ t. t.1) q) in
+    ap (λ x. resumed n replies b (onto d x)) (h d) ∙ (onto_more n replies b d (g (after d.writes b)) ∙ (ap (λ x. resumed (n + 1) (replies ++ x ∷ []) (after d.writes b) (g (after d.writes b))) r ∙ ap (λ x. resumed (n + 1) (replies ++ reply ∷ []) x (g x)) k))
+then_more n replies b c (Err r) f reply g h e = cc
+
+pub goes_on : (domain : Bytes) (ops : List Op) (n : ℕ) (op : Op) (replies : List OpReply) (reply : OpReply) (b c : Book) → n < length ops → op ≡ get_or ops n op → Ok (reply, c) ≡ performed (op_of domain op b) b → resumed n replies b (run domain (drop n ops) b) ≡ resumed (n + 1) (replies ++ reply ∷ []) c (run domain (drop (n + 1) ops) c)
+goes_on domain ops n op replies reply b c l e h =
+    at_drop_more (λ l. resumed n replies b (run domain l b)) ops n op l
+    ∙ (ap (λ x. resumed n replies b (run domain (x ∷ drop (n + 1) ops) b)) (sym e)
+    ∙ then_more n replies b c (op_of domain op b) (λ d. run domain (drop (n + 1) ops) (after d.writes b)) reply (λ x. run domain (drop (n + 1) ops) x) (λ d. refl) h)
+
+-- a refused operation
+then_stop : (n : ℕ) (replies : List OpReply) (b : Book) (o : Answer) (f : Done → RunResult) (r : OpRefusal) → Err r ≡ performed o b → resumed n replies b (then_run o f) ≡ RefusedAt n r
+then_stop n replies b (Ok d) f r e = cc
+then_stop n replies b (Err s) f r e = let q : n + 0 ≡ n = omega arith in let k : s ≡ r = cc in ap (λ m. RefusedAt m s) q ∙ ap (RefusedAt n) k
+
+pub stops : (domain : Bytes) (ops : List Op) (n : ℕ) (op : Op) (replies : List OpReply) (b : Book) (r : OpRefusal) → n < length ops → op ≡ get_or ops n op → Err r ≡ performed (op_of domain op b) b → resumed n replies b (run domain (drop n ops) b) ≡ RefusedAt n r
+stops domain ops n op replies b r l e h =
+    at_drop_more (λ l. resumed n replies b (run domain l b)) ops n op l
+    ∙ (ap (λ x. resumed n replies b (run domain (x ∷ drop (n + 1) ops) b)) (sym e)
+    ∙ then_stop n replies b (op_of domain op b) (λ d. run domain (drop (n + 1) ops) (after d.writes b)) r h)

@@ -1,0 +1,70 @@
+//! What does one operation do to the book that it finds?
+
+ghost use Rattle.std.specs.Prelude.{◌≡◌, IfOk};
+ghost use Rattle.entry_book.specs.Ops.{op_of};
+ghost use Rattle.plain_book.specs.Performed.{CanGrow, performed};
+
+mod authorised;
+mod children;
+mod create;
+mod delete;
+mod drop_agent;
+mod drop_bundle;
+mod prune;
+mod put;
+mod set_agent;
+mod set_bundle;
+mod show;
+mod show_agent;
+mod show_bundle;
+mod trust;
+mod update;
+
+use crate::book::Book;
+use authorised::authorised;
+use children::children;
+use create::create;
+use delete::delete;
+use drop_agent::drop_agent;
+use drop_bundle::drop_bundle;
+use entry_book::{Op, OpRefusal, OpReply};
+use prune::prune;
+use set_agent::set_agent;
+use set_bundle::set_bundle;
+use show::show;
+use show_agent::show_agent;
+use show_bundle::show_bundle;
+use spiffe_name::TrustDomain;
+use std::alloc::{AllocError, Global};
+use trust::trust;
+use update::update;
+
+/// The operation's reply and the book after it, or why it is refused, in the book of a trust domain. The outer error
+/// is want of memory.
+pub(crate) fn perform(
+    alloc: Global,
+    own: &TrustDomain,
+    op: &Op,
+    book: &Book,
+) -> Result<Result<(OpReply, Book), OpRefusal>, AllocError>
+    requires counts { CanGrow book.now }
+    ensures { IfOk result
+        (λ answer. answer ≡ performed (op_of own.now op.now book.now) book.now) }
+{
+    match op {
+        Op::Create(new) => create(alloc, new, book),
+        Op::Update(new, expected) => update(alloc, new, *expected, book),
+        Op::Delete(id, expected) => delete(alloc, id, *expected, book),
+        Op::Show(id) => show(id, book),
+        Op::ShowAgent(id) => show_agent(id.get(), book),
+        Op::ShowBundle(domain) => show_bundle(domain.get(), book),
+        Op::Children(parent) => children(alloc, parent.get(), book),
+        Op::Authorised(agent) => authorised(alloc, own, agent.get(), book),
+        Op::Trust(agent) => trust(alloc, own, agent.get(), book),
+        Op::Prune(moment) => prune(alloc, *moment, book),
+        Op::SetAgent(agent) => set_agent(alloc, agent, book),
+        Op::DropAgent(id) => drop_agent(alloc, id.get(), book),
+        Op::SetBundle(domain, text) => set_bundle(alloc, domain, text, book),
+        Op::DropBundle(domain, mode) => drop_bundle(alloc, domain, *mode, book),
+    }
+}

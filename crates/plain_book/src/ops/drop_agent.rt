@@ -1,0 +1,26 @@
+//! `drop_agent`: removes an agent.
+
+ghost use Rattle.std.specs.Prelude.{◌≡◌, IfOk};
+ghost use Rattle.entry_book.specs.Book.{agent_at};
+ghost use Rattle.entry_book.specs.Ops.{agent_dropped, for_agent};
+ghost use Rattle.plain_book.specs.Performed.{performed};
+
+use crate::book::Book;
+use entry_book::{OpRefusal, OpReply};
+use spiffe_name::SpiffeId;
+use std::alloc::{AllocError, Global};
+
+/// Refused where there is no such agent.
+pub(crate) fn drop_agent(
+    alloc: Global,
+    id: &SpiffeId,
+    book: &Book,
+) -> Result<Result<(OpReply, Book), OpRefusal>, AllocError>
+    ensures { IfOk result (λ answer. answer ≡ performed (for_agent (agent_at id.now book.now) agent_dropped) book.now) }
+{
+    let Some(agent) = book.agent(id) else {
+        return Ok(Err(OpRefusal::NoAgent));
+    };
+    let after = book.without_agent(alloc, agent)?;
+    Ok(Ok((OpReply::Agent(agent.clone()?), after)))
+}

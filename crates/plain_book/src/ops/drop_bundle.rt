@@ -1,0 +1,83 @@
+//! `drop_bundle`: removes the bundle of a trust domain; the mode says what becomes of the entries that name it.
+
+ghost use Rattle.std.specs.Prelude.{◌≡◌, IfOk};
+ghost use Rattle.entry_book.specs.Book.{bundle_at, users_of};
+ghost use Rattle.entry_book.specs.Ops.{drop_in, drop_over};
+ghost use Rattle.plain_book.specs.Performed.{CanGrow, performed};
+
+use crate::book::Book;
+use entry_book::{Bundle, DropMode, OpRefusal, OpReply, Sequence, Shared};
+use spiffe_name::TrustDomain;
+use std::alloc::{AllocError, Global};
+
+/// Refused where there is no such bundle, and then, as the mode says, where it is in use.
+pub(crate) fn drop_bundle(
+    alloc: Global,
+    domain: &Shared<TrustDomain>,
+    mode: DropMode,
+    book: &Book,
+) -> Result<Result<(OpReply, Book), OpRefusal>, AllocError>
+    requires counts { CanGrow book.now }
+    ensures { IfOk result (λ answer. answer ≡ performed
+        (drop_over (bundle_at domain.now book.now) domain.now mode book.now) book.now) }
+{
+    let Some(bundle) = book.bundle(domain.get()) else {
+        return Ok(Err(OpRefusal::NoBundle(domain.clone()?)));
+    };
+    match mode {
+        DropMode::Restrict => restrict(alloc, bundle, book),
+        DropMode::Delete => delete_users(alloc, bundle, book),
+        DropMode::Dissociate => free_users(alloc, bundle, book),
+    }
+}
+
+/// Refused where an entry names the bundle's domain.
+fn restrict(
+    alloc: Global,
+    bundle: &Bundle,
+    book: &Book,
+) -> Result<Result<(OpReply, Book), OpRefusal>, AllocError>
+    ensures { IfOk result (λ answer. answer ≡ performed
+        (drop_in DropMode.Restrict (users_of bundle.now.domain book.now) bundle.now) book.now) }
+{
+    if book.user(bundle.domain.get()).is_some() {
+        return Ok(Err(OpRefusal::BundleInUse));
+    }
+    let after = book.without_bundle(alloc, bundle)?;
+    let none = OpReply::Dropped(Sequence::empty(alloc), Sequence::empty(alloc));
+    Ok(Ok((none, after)))
+}
+
+/// Removes the entries that name the bundle's domain too.
+fn delete_users(
+    alloc: Global,
+    bundle: &Bundle,
+    book: &Book,
+) -> Result<Result<(OpReply, Book), OpRefusal>, AllocError>
+    ensures { IfOk result (λ answer. answer ≡ performed
+        (drop_in DropMode.Delete (users_of bundle.now.domain book.now) bundle.now) book.now) }
+{
+    let domain = bundle.domain.get();
+    let deleted = book.users(alloc, domain)?;
+    let rest = book.without_users(alloc, domain)?;
+    let after = rest.without_bundle(alloc, bundle)?;
+    Ok(Ok((OpReply::Dropped(deleted, Sequence::empty(alloc)), after)))
+}
+
+/// Dissociates the entries that name the bundle's domain.
+fn free_users(
+    alloc: Global,
+    bundle: &Bundle,
+    book: &Book,
+) -> Result<Result<(OpReply, Book), OpRefusal>, AllocError>
+    requires counts { CanGrow book.now }
+    ensures { IfOk result (λ answer. answer ≡ performed
+        (drop_in DropMode.Dissociate (users_of bundle.now.domain book.now) bundle.now) book.now) }
+{
+    let domain = bundle.domain.get();
+    let dissociated = book.users(alloc, domain)?;
+    let freed = book.with_users_freed(alloc, domain)?;
+    let after = freed.without_bundle(alloc, bundle)?;
+    let reply = OpReply::Dropped(Sequence::empty(alloc), dissociated);
+    Ok(Ok((reply, after)))
+}

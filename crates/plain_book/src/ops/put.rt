@@ -1,0 +1,35 @@
+//! An entry that is put into the book, by `create` or by `update`.
+
+ghost use Rattle.std.specs.Prelude.{◌≡◌, IfOk};
+ghost use Rattle.entry_book.specs.Rows.{at_revision};
+ghost use Rattle.entry_book.specs.Book.{entry_at};
+ghost use Rattle.entry_book.specs.Ops.{put_beside, similar};
+ghost use Rattle.plain_book.specs.Performed.{performed};
+
+use crate::book::Book;
+use entry_book::{Entry, NewEntry, OpRefusal, OpReply, Shared};
+use std::alloc::{AllocError, Global};
+
+/// Puts the entry, at this revision, in the place of the one of its id. Refused, in this order, where another entry is
+/// similar, and where a domain has no bundle.
+pub(crate) fn put_beside(
+    alloc: Global,
+    new: &Shared<NewEntry>,
+    revision: u64,
+    book: &Book,
+) -> Result<Result<(OpReply, Book), OpRefusal>, AllocError>
+    ensures { IfOk result (λ answer. answer ≡ performed
+        (put_beside (similar (at_revision revision new.now) book.now) (entry_at new.now.id book.now)
+        (at_revision revision new.now) book.now) book.now) }
+{
+    let given = new.get();
+    if let Some(other) = book.similar(given) {
+        return Ok(Err(OpRefusal::Similar(*other.id())));
+    }
+    if let Some(domain) = book.lacking(&given.domains) {
+        return Ok(Err(OpRefusal::NoBundle(domain.clone()?)));
+    }
+    let entry = Entry::at_revision(new, revision)?;
+    let after = book.with_entry(alloc, entry.clone()?)?;
+    Ok(Ok((OpReply::Entry(entry), after)))
+}

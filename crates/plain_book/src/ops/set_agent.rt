@@ -1,0 +1,21 @@
+//! `set_agent`: adds an agent, or replaces the one of its id.
+
+ghost use Rattle.std.specs.Prelude.{◌≡◌, IfOk};
+ghost use Rattle.entry_book.specs.Ops.{agent_set};
+ghost use Rattle.plain_book.specs.Performed.{performed};
+
+use crate::book::Book;
+use entry_book::{Agent, OpRefusal, OpReply};
+use std::alloc::{AllocError, Global};
+
+/// Never refused.
+pub(crate) fn set_agent(
+    alloc: Global,
+    agent: &Agent,
+    book: &Book,
+) -> Result<Result<(OpReply, Book), OpRefusal>, AllocError>
+    ensures { IfOk result (λ answer. answer ≡ performed (agent_set agent.now book.now) book.now) }
+{
+    let after = book.with_agent(alloc, agent.clone()?)?;
+    Ok(Ok((OpReply::Agent(agent.clone()?), after)))
+}

@@ -1,0 +1,35 @@
+//! `set_bundle`: adds the bundle of a trust domain, or replaces its text at its next sequence.
+
+ghost use Rattle.std.specs.Prelude.{◌≡◌, IfOk};
+ghost use Rattle.entry_book.specs.Book.{bundle_at};
+ghost use Rattle.entry_book.specs.Ops.{bundle_set};
+ghost use Rattle.plain_book.specs.Performed.{CanGrow, performed};
+
+use crate::book::Book;
+use entry_book::{Bundle, OpRefusal, OpReply, Shared, Text};
+use spiffe_name::TrustDomain;
+use std::alloc::{AllocError, Global};
+
+/// Never refused.
+pub(crate) fn set_bundle(
+    alloc: Global,
+    domain: &Shared<TrustDomain>,
+    text: &Shared<Text>,
+    book: &Book,
+) -> Result<Result<(OpReply, Book), OpRefusal>, AllocError>
+    requires counts { CanGrow book.now }
+    ensures { IfOk result (λ answer. answer ≡ performed
+        (bundle_set domain.now text.now (bundle_at domain.now book.now)) book.now) }
+{
+    let sequence = match book.bundle(domain.get()) {
+        None => 0,
+        Some(old) => old.sequence + 1,
+    };
+    let bundle = Bundle {
+        domain: domain.clone()?,
+        text: text.clone()?,
+        sequence,
+    };
+    let after = book.with_bundle(alloc, bundle.clone()?)?;
+    Ok(Ok((OpReply::Bundle(bundle), after)))
+}

@@ -1,0 +1,23 @@
+//! `show`: asks for an entry.
+
+ghost use Rattle.std.specs.Prelude.{◌≡◌, IfOk, []};
+ghost use Rattle.entry_book.specs.Book.{entry_at};
+ghost use Rattle.entry_book.specs.Ops.{done};
+ghost use Rattle.plain_book.specs.Performed.{performed};
+
+use crate::book::Book;
+use entry_book::{OpRefusal, OpReply};
+use std::alloc::AllocError;
+use uuid::Uuid;
+
+/// Never refused.
+pub(crate) fn show(id: &Uuid, book: &Book) -> Result<Result<(OpReply, Book), OpRefusal>, AllocError>
+    ensures { IfOk result (λ answer. answer ≡ performed
+        (done (OpReply.EntryShown (entry_at id.now book.now)) []) book.now) }
+{
+    let shown = match book.entry(id) {
+        Some(row) => Some(row.clone()?),
+        None => None,
+    };
+    Ok(Ok((OpReply::EntryShown(shown), book.clone()?)))
+}
