@@ -1,0 +1,200 @@
+//! Which lists of operations are a batch, at each boundary.
+
+use crate::making::{
+    BARE, FOREIGN, N1, SERVER, WEB, agent, domain, domains, id, new_entry, selectors, text, uuid,
+};
+use entry_book::{Batch, BatchRefusal, DropMode, NewEntry, Op, Sequence, Shared};
+use spiffe_name::{Failure, TrustDomain};
+use std::alloc::Global;
+use std::process::Abort;
+use std::test::Fail;
+
+/// The code of a batch's refusal and the index at fault, or the empty text and the count of a copy's operations.
+fn fault(alloc: Global, ops: Sequence<Op>) -> Result<(&'static str, usize), Fail> {
+    let domain = TrustDomain::parse(alloc, "ex.org")?;
+    match Batch::new(&domain, ops) {
+        Ok(batch) => Ok(("", batch.clone()?.ops().len())),
+        Err(Failure::Refused(refusal)) => Ok((refusal.code(), refusal.op().unwrap_or(99))),
+        Err(Failure::NoMemory) => Err(Fail::from("no memory")),
+    }
+}
+
+/// Is this the code of the batch of this one operation?
+fn check(rt: &impl Abort, alloc: Global, op: Op, code: &str) -> Result<(), Fail> {
+    let mut ops = Sequence::empty(alloc);
+    ops.push(op)?;
+    assert_eq!(rt; fault(alloc, ops)?.0, code);
+    Ok(())
+}
+
+fn create(alloc: Global, new: NewEntry) -> Result<Op, Fail> {
+    Ok(Op::Create(Shared::of(alloc, new)?))
+}
+
+fn update(alloc: Global, new: NewEntry) -> Result<Op, Fail> {
+    Ok(Op::Update(Shared::of(alloc, new)?, None))
+}
+
+fn authorised(alloc: Global, agent: &str) -> Result<Op, Fail> {
+    Ok(Op::Authorised(id(alloc, agent)?))
+}
+
+fn set_bundle(alloc: Global, of: &str, length: usize) -> Result<Op, Fail> {
+    let of = domain(alloc, of)?;
+    Ok(Op::SetBundle(of, text(alloc, length)?))
+}
+
+fn drop_bundle(alloc: Global, of: &str) -> Result<Op, Fail> {
+    Ok(Op::DropBundle(domain(alloc, of)?, DropMode::Delete))
+}
+
+#[test]
+fn a_batch_has_1_to_64_operations(rt: HostRuntime) -> Result<(), Fail> {
+    for (count, fault_of_count) in [
+        (0, ("B1", 99)),
+        (1, ("", 1)),
+        (64, ("", 64)),
+        (65, ("B2", 99)),
+    ] {
+        let mut ops = Sequence::empty(rt.alloc());
+        for _ in 0..count {
+            ops.push(authorised(rt.alloc(), N1)?)?;
+        }
+        assert_eq!(rt; fault(rt.alloc(), ops)?, fault_of_count);
+    }
+    assert_eq!(rt; BatchRefusal::TooManyOps.op(), None);
+    Ok(())
+}
+
+#[test]
+fn the_first_operations_least_fault_is_told(rt: HostRuntime) -> Result<(), Fail> {
+    let alloc = rt.alloc();
+    let mut faulty = new_entry(alloc, N1, SERVER)?;
+    faulty.hint = text(alloc, 1025)?;
+    faulty.selectors = selectors(alloc, 0)?;
+    let mut ops = Sequence::empty(alloc);
+    ops.push(authorised(alloc, N1)?)?;
+    ops.push(create(alloc, faulty)?)?;
+    ops.push(authorised(alloc, FOREIGN)?)?;
+    assert_eq!(rt; fault(alloc, ops)?, ("B5", 1));
+    Ok(())
+}
+
+#[test]
+fn only_batches_of_questions_are_queries(rt: HostRuntime) -> Result<(), Fail> {
+    let alloc = rt.alloc();
+    let own = TrustDomain::parse(alloc, "ex.org")?;
+    for (op, is_question) in [
+        (create(alloc, new_entry(alloc, N1, WEB)?)?, false),
+        (update(alloc, new_entry(alloc, N1, WEB)?)?, false),
+        (Op::Delete(uuid(), None), false),
+        (Op::Show(uuid()), true),
+        (Op::ShowAgent(id(alloc, N1)?), true),
+        (Op::ShowBundle(domain(alloc, "ex.org")?), true),
+        (Op::Children(id(alloc, N1)?), true),
+        (authorised(alloc, N1)?, true),
+        (Op::Trust(id(alloc, N1)?), true),
+        (Op::Prune(0), false),
+        (Op::SetAgent(agent(alloc, N1, 0)?), false),
+        (Op::DropAgent(id(alloc, N1)?), false),
+        (set_bundle(alloc, "d100", 0)?, false),
+        (drop_bundle(alloc, "d100")?, false),
+    ] {
+        assert_eq!(rt; op.is_question(), is_question);
+        let mut ops = Sequence::empty(alloc);
+        ops.push(authorised(alloc, N1)?)?;
+        ops.push(op)?;
+        let batch = Batch::new(&own, ops)?.clone()?;
+        assert_eq!(rt; batch.is_query(), is_question);
+        assert_eq!(rt; batch.domain().as_str(), "ex.org");
+    }
+    Ok(())
+}
+
+#[test]
+fn ids_of_entries_at_their_boundaries(rt: HostRuntime) -> Result<(), Fail> {
+    let cases = [
+        (N1, WEB, ""),
+        (SERVER, WEB, ""),
+        (FOREIGN, WEB, "B3"),
+        (N1, FOREIGN, "B3"),
+        ("spiffe://ex.org.b/x", BARE, "B3"),
+        (BARE, WEB, "B4"),
+        (N1, BARE, "B4"),
+        (N1, SERVER, "B5"),
+        (N1, "spiffe://ex.org/spire/server/x", ""),
+        (N1, "spiffe://ex.org/spire", ""),
+    ];
+    for (parent, identity, code) in cases {
+        let op = create(rt.alloc(), new_entry(rt.alloc(), parent, identity)?)?;
+        check(&rt, rt.alloc(), op, code)?;
+    }
+    Ok(())
+}
+
+#[test]
+fn ids_of_agents_at_their_boundaries(rt: HostRuntime) -> Result<(), Fail> {
+    let alloc = rt.alloc();
+    let cases = [
+        (N1, ""),
+        ("spiffe://ex.org/spire/agent/n/1", ""),
+        (FOREIGN, "B3"),
+        ("spiffe://ex.org/spire/agent", "B10"),
+        ("spiffe://ex.org/spire/agents/n1", "B10"),
+        ("spiffe://ex.org/x/spire/agent/n1", "B10"),
+        (BARE, "B10"),
+    ];
+    for (text, code) in cases {
+        check(&rt, alloc, authorised(alloc, text)?, code)?;
+        check(&rt, alloc, Op::SetAgent(agent(alloc, text, 0)?), code)?;
+        check(&rt, alloc, Op::ShowAgent(id(alloc, text)?), code)?;
+        check(&rt, alloc, Op::Trust(id(alloc, text)?), code)?;
+        check(&rt, alloc, Op::DropAgent(id(alloc, text)?), code)?;
+    }
+    Ok(())
+}
+
+#[test]
+fn parents_and_bundles_at_their_boundaries(rt: HostRuntime) -> Result<(), Fail> {
+    let alloc = rt.alloc();
+    for (op, code) in [
+        (Op::Children(id(alloc, N1)?), ""),
+        (Op::Children(id(alloc, SERVER)?), ""),
+        (Op::Children(id(alloc, FOREIGN)?), "B3"),
+        (Op::Children(id(alloc, BARE)?), "B4"),
+        (Op::ShowBundle(domain(alloc, "ex.org")?), ""),
+        (set_bundle(alloc, "ex.org", 65537)?, "B11"),
+        (set_bundle(alloc, "d100", 65536)?, ""),
+        (set_bundle(alloc, "d100", 65537)?, "B12"),
+        (drop_bundle(alloc, "ex.org")?, "B11"),
+        (drop_bundle(alloc, "d100")?, ""),
+    ] {
+        check(&rt, alloc, op, code)?;
+    }
+    Ok(())
+}
+
+#[test]
+fn counts_at_their_boundaries(rt: HostRuntime) -> Result<(), Fail> {
+    let alloc = rt.alloc();
+    for (selector_count, domain_count, hint, code) in [
+        (0, 0, 0, "B6"),
+        (1, 0, 0, ""),
+        (16, 8, 1024, ""),
+        (17, 9, 1025, "B6"),
+        (16, 9, 1025, "B7"),
+        (16, 8, 1025, "B8"),
+    ] {
+        let mut new = new_entry(alloc, N1, WEB)?;
+        new.selectors = selectors(alloc, selector_count)?;
+        new.domains = domains(alloc, domain_count)?;
+        new.hint = text(alloc, hint)?;
+        let new = Shared::of(alloc, new)?;
+        check(&rt, alloc, Op::Create(new.clone()?), code)?;
+        check(&rt, alloc, Op::Update(new, None), code)?;
+    }
+    for (count, code) in [(0, ""), (64, ""), (65, "B6")] {
+        check(&rt, alloc, Op::SetAgent(agent(alloc, N1, count)?), code)?;
+    }
+    Ok(())
+}

@@ -1,0 +1,16 @@
+//! Each law can be called.
+
+use entry_book::laws;
+
+#[test]
+fn the_laws_can_be_called() {
+    laws::membership();
+    laws::authorised_entries();
+    laws::effects();
+    laws::runs();
+    laws::faults();
+    laws::histories();
+    laws::lawful_books();
+    laws::worked_books();
+    laws::worked_batches();
+}

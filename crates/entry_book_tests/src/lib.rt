@@ -1,0 +1,16 @@
+//! Which lists of operations are refused as a batch, at each boundary, and do the public calls of `entry_book` answer?
+//!
+//! The crate has tests alone, over the public calls of `entry_book`:
+//!
+//! - `batches`: batches and their refusals; `rows`: what rows are made of; `laws`: each law is called.
+//! - `making`: entries, and the parts of operations.
+#![tactic(auto)]
+
+#[cfg(test)]
+mod batches;
+#[cfg(test)]
+mod laws;
+#[cfg(test)]
+mod making;
+#[cfg(test)]
+mod rows;

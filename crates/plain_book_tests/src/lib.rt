@@ -1,0 +1,22 @@
+//! Does a plain book keep the rules of a book, over random batches?
+//!
+//! The crate has tests alone, over the public calls of `plain_book`:
+//!
+//! - `random`: random batches of a few names. Each book that comes out is lawful, and each agent is told what a search
+//!   finds: `rows` reads all rows of a book and judges them, `search` looks for chains by their length.
+//! - `worked`: what a small book answers, batch after batch.
+//! - `making`: operations, made of a few words; `told`: what a book answers, in short.
+#![tactic(auto)]
+
+#[cfg(test)]
+mod making;
+#[cfg(test)]
+mod random;
+#[cfg(test)]
+mod rows;
+#[cfg(test)]
+mod search;
+#[cfg(test)]
+mod told;
+#[cfg(test)]
+mod worked;

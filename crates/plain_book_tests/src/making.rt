@@ -1,0 +1,165 @@
+//! Operations, made of a few words.
+
+use entry_book::{Agent, DomainSet, DropMode, NewEntry, Op, Sequence, Shared, Text};
+use spiffe_name::{Selector, SelectorSet, SpiffeId, TrustDomain};
+use std::alloc::Global;
+use std::test::Fail;
+use uuid::Uuid;
+
+pub const N1: &str = "spiffe://ex.org/spire/agent/n1";
+
+pub const N2: &str = "spiffe://ex.org/spire/agent/n2";
+
+pub const SERVER: &str = "spiffe://ex.org/spire/server";
+
+pub const WEB: &str = "spiffe://ex.org/web";
+
+pub const API: &str = "spiffe://ex.org/api";
+
+/// An entry to be made: the last byte of its id, its IDs, how many selectors and domains it has, and its expiry.
+#[derive(Clone, Copy)]
+pub struct Draft {
+    pub number: u8,
+    pub parent: &'static str,
+    pub identity: &'static str,
+    pub selectors: u32,
+    pub domains: u32,
+    pub expiry: u64,
+}
+
+/// An operation to be made. A bundle's text is told by its length, an agent's selectors by their count.
+#[derive(Clone, Copy)]
+pub enum Said {
+    Create(Draft),
+    Update(Draft, Option<u64>),
+    Delete(u8, Option<u64>),
+    Show(u8),
+    ShowAgent(&'static str),
+    ShowBundle(&'static str),
+    Children(&'static str),
+    Authorised(&'static str),
+    Trust(&'static str),
+    Prune(u64),
+    SetAgent(&'static str, u32),
+    DropAgent(&'static str),
+    SetBundle(&'static str, usize),
+    DropBundle(&'static str, DropMode),
+}
+
+pub fn drafted(number: u8, parent: &'static str, identity: &'static str) -> Draft {
+    Draft {
+        number,
+        parent,
+        identity,
+        selectors: 1,
+        domains: 0,
+        expiry: 99,
+    }
+}
+
+pub fn create(number: u8, identity: &'static str) -> Said {
+    Said::Create(drafted(number, N1, identity))
+}
+
+/// The UUID whose last byte is this one, all others being 0.
+fn uuid_of(number: u8) -> Uuid {
+    Uuid::from_u64_pair(0, u64::from(number))
+}
+
+fn id(alloc: Global, text: &str) -> Result<Shared<SpiffeId>, Fail> {
+    Ok(Shared::of(alloc, SpiffeId::parse(alloc, text)?)?)
+}
+
+fn numbered(alloc: Global, start: &str, number: u32) -> Result<String, Fail> {
+    let shifted = number.wrapping_add(100);
+    Ok(format!(in alloc; "{start}{shifted}")?)
+}
+
+/// So many selectors.
+fn selectors(alloc: Global, count: u32) -> Result<Shared<SelectorSet>, Fail> {
+    let mut selectors = Vec::new(alloc);
+    for n in 0..count {
+        let text = numbered(alloc, "u:", n)?;
+        selectors.push(Selector::parse(alloc, text.as_str())?)?;
+    }
+    Ok(Shared::of(alloc, SelectorSet::of(selectors)?)?)
+}
+
+/// So many trust domains, the first one `d100`.
+fn domains(alloc: Global, count: u32) -> Result<DomainSet, Fail> {
+    let mut domains = Vec::new(alloc);
+    for n in 0..count {
+        let text = numbered(alloc, "d", n)?;
+        domains.push(TrustDomain::parse(alloc, text.as_str())?)?;
+    }
+    Ok(DomainSet::of(alloc, domains)?)
+}
+
+/// A text of so many bytes.
+fn text(alloc: Global, length: usize) -> Result<Shared<Text>, Fail> {
+    let mut text = String::new(alloc);
+    for _ in 0..length {
+        text.push_str("h")?;
+    }
+    Ok(Shared::of(alloc, Text::of(text))?)
+}
+
+fn new_entry(alloc: Global, draft: Draft) -> Result<Shared<NewEntry>, Fail> {
+    let parent = id(alloc, draft.parent)?;
+    let identity = id(alloc, draft.identity)?;
+    let selectors = selectors(alloc, draft.selectors)?;
+    let hint = text(alloc, 0)?;
+    let domains = domains(alloc, draft.domains)?;
+    let new = NewEntry {
+        id: uuid_of(draft.number),
+        parent,
+        identity,
+        selectors,
+        hint,
+        domains,
+        expiry: draft.expiry,
+    };
+    Ok(Shared::of(alloc, new)?)
+}
+
+fn agent(alloc: Global, text: &str, count: u32) -> Result<Agent, Fail> {
+    let selectors = selectors(alloc, count)?;
+    Ok(Agent {
+        id: id(alloc, text)?,
+        selectors,
+    })
+}
+
+fn domain(alloc: Global, text: &str) -> Result<Shared<TrustDomain>, Fail> {
+    Ok(Shared::of(alloc, TrustDomain::parse(alloc, text)?)?)
+}
+
+fn op(alloc: Global, said: Said) -> Result<Op, Fail> {
+    match said {
+        Said::Create(draft) => Ok(Op::Create(new_entry(alloc, draft)?)),
+        Said::Update(draft, expected) => Ok(Op::Update(new_entry(alloc, draft)?, expected)),
+        Said::Delete(number, expected) => Ok(Op::Delete(uuid_of(number), expected)),
+        Said::Show(number) => Ok(Op::Show(uuid_of(number))),
+        Said::ShowAgent(agent) => Ok(Op::ShowAgent(id(alloc, agent)?)),
+        Said::ShowBundle(of) => Ok(Op::ShowBundle(domain(alloc, of)?)),
+        Said::Children(parent) => Ok(Op::Children(id(alloc, parent)?)),
+        Said::Authorised(agent) => Ok(Op::Authorised(id(alloc, agent)?)),
+        Said::Trust(agent) => Ok(Op::Trust(id(alloc, agent)?)),
+        Said::Prune(moment) => Ok(Op::Prune(moment)),
+        Said::SetAgent(text, count) => Ok(Op::SetAgent(agent(alloc, text, count)?)),
+        Said::DropAgent(agent) => Ok(Op::DropAgent(id(alloc, agent)?)),
+        Said::SetBundle(of, length) => {
+            let text = text(alloc, length)?;
+            Ok(Op::SetBundle(domain(alloc, of)?, text))
+        }
+        Said::DropBundle(of, mode) => Ok(Op::DropBundle(domain(alloc, of)?, mode)),
+    }
+}
+
+pub fn ops(alloc: Global, said: &[Said]) -> Result<Sequence<Op>, Fail> {
+    let mut ops = Sequence::empty(alloc);
+    for one in said {
+        ops.push(op(alloc, *one)?)?;
+    }
+    Ok(ops)
+}
