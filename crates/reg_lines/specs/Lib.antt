@@ -3,7 +3,6 @@ pub mod Lines
 pub mod Stream
 pub mod Json
 pub mod Runs
-pub mod Numbered
 pub mod Codes
 pub mod Ids
 pub mod Fields

@@ -1,3 +1,5 @@
+//! How is a reader or a writer of std a source or a sink?
+
 use crate::sink::{Sink, SinkFailed};
 use crate::source::{Source, SourceFailed};
 use std::io::{ErrorKind, Read, Write};

@@ -1,3 +1,5 @@
+//! Which bytes have come from a source and were not taken yet, and do they hold a whole line?
+
 ghost use Rattle.std.specs.Prelude.{◌≡◌, ◌==◌, ◌≤◌, length, take, position, false, MatchOption};
 ghost use Rattle.reg_lines.specs.Lines.{has_lf, IsWhole};
 

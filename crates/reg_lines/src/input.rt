@@ -1,3 +1,5 @@
+//! Which line of a source comes next, and is it held already?
+
 use crate::held::Held;
 use crate::line::Line;
 use crate::source::{Source, SourceFailed};

@@ -60,6 +60,3 @@ pub use source::{Source, SourceFailed};
 pub use text::print_text;
 pub use values::printed_law;
 pub use waiting::flush_before_waiting;
-
-#[cfg(test)]
-mod tests;

@@ -1,3 +1,5 @@
+//! How much of a line is kept, and how many lines of an input are read?
+
 ghost use Rattle.std.specs.Prelude.{◌≡◌, ◌<◌, ◌^◌};
 ghost use Rattle.reg_lines.specs.Lines.{most_lines};
 

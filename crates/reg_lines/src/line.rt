@@ -1,3 +1,5 @@
+//! Which bytes of a line are kept?
+
 ghost use Rattle.std.specs.Prelude.{◌≡◌, take};
 
 use crate::limits::KEPT_BYTES;

@@ -1,3 +1,5 @@
+//! What are the lines of bytes?
+
 ghost use Rattle.reg_lines.specs.Lines.{LinesJoin, LinesAreLines, OnlyLinesJoin};
 
 /// What the lines of bytes are: joined they give the bytes, each ends with its only LF but for a last

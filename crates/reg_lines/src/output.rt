@@ -1,3 +1,5 @@
+//! Which bytes are on their way to a sink, and has a call of it failed?
+
 ghost use Rattle.std.specs.Prelude.{◌≡◌, ◌+◌, ◌<◌, ◌^◌, is_ok, if◌then◌else◌};
 ghost use Rattle.reg_lines.specs.Stream.{SendsAll};
 

@@ -1,3 +1,5 @@
+//! How is a value printed as one JSON text, without taking memory?
+
 ghost use Rattle.std.specs.Prelude.{ℕ, List, decimal, string_bytes, ◌++◌, codes};
 ghost use Rattle.reg_lines.specs.Json.{comma, items_json, list_json, option_json, text_json};
 ghost use Rattle.reg_lines.specs.Stream.{Puts};

@@ -1,3 +1,5 @@
+//! Where do bytes go?
+
 ghost use Rattle.std.specs.Prelude.{◌≡◌, ◌+◌, ◌<◌, ◌≤◌, ◌^◌, ℕ, List, Option, IfOk, is_ok, if◌then◌else◌, length};
 ghost use Rattle.std.specs.Io.KnownBytes.{Keeps, WriteAppends};
 

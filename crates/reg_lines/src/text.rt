@@ -1,3 +1,5 @@
+//! How is a text printed as a JSON string?
+
 ghost use Rattle.std.specs.Prelude.{◌≡◌, ◌+◌, ◌<◌, position, IsTrue};
 ghost use Rattle.std.specs.List.{flat_map};
 ghost use Rattle.reg_lines.specs.Json.{escaped, needs_escape, hex_digit, text_json};

@@ -1,3 +1,5 @@
+//! When are replies flushed?
+
 ghost use Rattle.std.specs.Prelude.{◌≡◌, ◌⊎◌, [], IsTrue};
 ghost use Rattle.reg_lines.specs.Stream.{Puts};
 

@@ -1,6 +1,5 @@
 //! Command lines and what is told of them, word for word.
 
-mod devices;
 mod engine;
 mod ids;
 mod limits;

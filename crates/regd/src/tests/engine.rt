@@ -1,6 +1,5 @@
 //! The engine over memory: what a run answers, and tables of what it has to answer.
 
-use super::devices::{Giver, Pace, Taker, Trouble};
 use crate::{Fault, Settings, plain, run_plain};
 use reg_lines::{Counted, Input, Output};
 use serde_json::Value;
@@ -8,6 +7,7 @@ use spiffe_name::TrustDomain;
 use std::alloc::Global;
 use std::process::Abort;
 use std::test::Fail;
+use test_devices::{Giver, Pace, Taker, Trouble};
 
 /// The seed that is taken where none is given.
 pub const FIRST_SEED: [u8; 32] = [0; 32];

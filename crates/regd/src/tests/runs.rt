@@ -1,13 +1,11 @@
 //! Whole runs of the engine over memory, and over devices that are slow or fail.
 
-use super::devices::{Giver, Pace, Taker, Trouble};
 use super::engine::{Table, are_answered, run};
 use crate::Fault;
 use std::alloc::Global;
 use std::process::Abort;
 use std::test::Fail;
-
-const PACES: [Pace; 3] = [Pace::All, Pace::Line, Pace::Byte];
+use test_devices::{Giver, Pace, Taker, Trouble};
 
 /// A run that meets every operation, with an id that is drawn.
 const EVERY_OPERATION: &str = r#"
@@ -41,8 +39,8 @@ fn every_operation_is_answered(rt: HostRuntime) -> Result<(), Fail> {
 #[test]
 fn slow_devices_change_nothing(rt: HostRuntime) -> Result<(), Fail> {
     let table = Table::of(rt.alloc(), EVERY_OPERATION)?;
-    for from in PACES {
-        for to in PACES {
+    for from in Pace::EACH {
+        for to in Pace::EACH {
             let mut giver = Giver::new(table.asked.as_bytes(), from, Trouble::NONE);
             let mut taker = Taker::new(rt.alloc(), to, Trouble::NONE);
             assert_eq!(rt; run(rt.alloc(), &mut giver, &mut taker)?, Ok(()));
@@ -56,34 +54,46 @@ fn slow_devices_change_nothing(rt: HostRuntime) -> Result<(), Fail> {
     Ok(())
 }
 
-/// At a failed read every reply to a whole line so far is out; what was written is a beginning of the whole text.
+/// How many lines these bytes end.
+fn count_of_lines(bytes: &[u8]) -> usize {
+    bytes.iter().filter(|byte| **byte == b'\n').count()
+}
+
+/// How many lines were read of this text: once it has ended, its last part is one, too.
+fn lines_read(text: &str, giver: &Giver<'_>) -> usize {
+    let read = text.len().saturating_sub(giver.rest.len());
+    let whole = count_of_lines(text.as_bytes().split_at(read.min(text.len())).0);
+    if giver.has_ended {
+        return whole.saturating_add(1);
+    }
+    whole
+}
+
+/// At a failed read the reply to each line so far is out, and nothing else. The last part has no LF.
 #[test]
 fn each_failing_read_ends_the_run(rt: HostRuntime) -> Result<(), Fail> {
-    let table = Table::of(rt.alloc(), EVERY_OPERATION)?;
-    for pace in PACES {
+    let mut table = Table::of(rt.alloc(), EVERY_OPERATION)?;
+    table.asked.push_str(r#"{"ops":[]}"#)?;
+    table
+        .wanted
+        .push_str("{\"code\":\"L3\",\"line\":5}\n")?;
+    for pace in Pace::EACH {
         for call in 1..5_000u64 {
-            let trouble = Trouble {
-                failing: call,
-                interrupted: 0,
-            };
+            let trouble = Trouble::failing_at(call);
             let mut giver = Giver::new(table.asked.as_bytes(), pace, trouble);
             let mut taker = Taker::new(rt.alloc(), Pace::All, Trouble::NONE);
             let ended = run(rt.alloc(), &mut giver, &mut taker)?;
             if giver.calls < call {
                 assert_eq!(rt; ended, Ok(()));
+                assert_eq!(rt; taker.bytes.as_slice(), table.wanted.as_bytes());
                 break;
             }
             assert_eq!(rt; ended, Err(Fault::Input), "{pace:?} {call}");
-            let read = table.asked.len().saturating_sub(giver.rest.len());
-            let lines = table
-                .asked
-                .as_bytes()
-                .split_at(read.min(table.asked.len()))
-                .0;
-            let count = lines.iter().filter(|byte| **byte == b'\n').count();
-            let out = taker.bytes.iter().filter(|byte| **byte == b'\n').count();
-            assert_eq!(rt; out, count, "{pace:?} {call}");
-            assert!(rt; table.wanted.as_bytes().starts_with(taker.bytes.as_slice()));
+            let out = taker.bytes.as_slice();
+            let lines = lines_read(table.asked.as_str(), &giver);
+            assert_eq!(rt; count_of_lines(out), lines, "{pace:?} {call}");
+            assert!(rt; out.is_empty() || out.ends_with(b"\n"), "{pace:?} {call}");
+            assert!(rt; table.wanted.as_bytes().starts_with(out));
         }
     }
     Ok(())
@@ -99,15 +109,12 @@ fn fail_each_write(
 ) -> Result<(), Fail> {
     let table = Table::of(alloc, text)?;
     for call in 1..5_000u64 {
-        let trouble = Trouble {
-            failing: call,
-            interrupted: 0,
-        };
         let mut giver = Giver::new(table.asked.as_bytes(), from, Trouble::NONE);
-        let mut taker = Taker::new(alloc, to, trouble);
+        let mut taker = Taker::new(alloc, to, Trouble::failing_at(call));
         let ended = run(alloc, &mut giver, &mut taker)?;
         if taker.calls < call {
             assert_eq!(rt; ended, Ok(()));
+            assert_eq!(rt; taker.bytes.as_slice(), table.wanted.as_bytes());
             return Ok(());
         }
         assert_eq!(rt; ended, Err(Fault::Output), "{from:?} {to:?} {call}");
@@ -119,7 +126,7 @@ fn fail_each_write(
 
 #[test]
 fn each_failing_write_ends_the_run(rt: HostRuntime) -> Result<(), Fail> {
-    for from in PACES {
+    for from in Pace::EACH {
         fail_each_write(&rt, rt.alloc(), EVERY_OPERATION, from, Pace::All)?;
         fail_each_write(&rt, rt.alloc(), EVERY_OPERATION, from, Pace::Line)?;
         fail_each_write(&rt, rt.alloc(), REFUSED_AND_ANSWERED, from, Pace::Byte)?;
@@ -130,16 +137,15 @@ fn each_failing_write_ends_the_run(rt: HostRuntime) -> Result<(), Fail> {
 #[test]
 fn replies_are_out_before_the_next_read_and_not_line_by_line(rt: HostRuntime) -> Result<(), Fail> {
     let table = Table::of(rt.alloc(), EVERY_OPERATION)?;
-    // a terminal gives a line at a time, and gets a flush before each read
+    // a terminal gives a line at a time, and gets a flush before each read: there are four lines and the end
     let mut giver = Giver::new(table.asked.as_bytes(), Pace::Line, Trouble::NONE);
     let mut taker = Taker::new(rt.alloc(), Pace::All, Trouble::NONE);
     assert_eq!(rt; run(rt.alloc(), &mut giver, &mut taker)?, Ok(()));
-    assert!(rt; taker.flushes >= 4);
+    assert_eq!(rt; (giver.calls, taker.calls, taker.flushes), (5, 10, 6));
     // a file gives all lines at once, and gets their replies at once
     let mut giver = Giver::new(table.asked.as_bytes(), Pace::All, Trouble::NONE);
     let mut taker = Taker::new(rt.alloc(), Pace::All, Trouble::NONE);
     assert_eq!(rt; run(rt.alloc(), &mut giver, &mut taker)?, Ok(()));
-    let writes = taker.calls.saturating_sub(taker.flushes);
-    assert_eq!(rt; writes, 1);
+    assert_eq!(rt; (giver.calls, taker.calls, taker.flushes), (2, 4, 3));
     Ok(())
 }

@@ -1,8 +1,10 @@
-use super::answers::{answer, answers, answers_in_a_row, new_book, printed, without_memory};
-use crate::CallReply;
+//! What is printed for each reply and each refusal?
+
+use crate::answers::{answer, answers, answers_in_a_row, new_book, printed, without_memory};
 use entry_book::{
     Batch, DomainSet, NewEntry, Op, OpRefusal, Outcome, Refusal, Reply, Sequence, Shared, Text,
 };
+use reg_lines::CallReply;
 use spiffe_name::{Selector, SelectorSet, SpiffeId, TrustDomain};
 use std::alloc::Global;
 use std::test::Fail;

@@ -1,7 +1,11 @@
+//! What is a line answered on a plain book, and what is printed for a value?
+
 ghost use Rattle.std.specs.Prelude.{◌≡◌};
 
-use crate::{CallReply, Counted, Ids, LineRefusal, Output, PrintJson, print_line, read_request};
-use entry_book::PlainBook;
+use plain_book::PlainBook;
+use reg_lines::{
+    CallReply, Counted, Ids, LineRefusal, Output, PrintJson, print_line, read_request,
+};
 use serde_json::Value;
 use spiffe_name::{Failure, TrustDomain};
 use std::alloc::Global;
@@ -10,7 +14,7 @@ use std::test::Fail;
 
 /// The printed line of a value, without its LF. It is the text that `serde_json` writes of the
 /// value that it reads there.
-pub fn printed<T: PrintJson>(alloc: Global, value: &T) -> Result<String, Fail> {
+pub(crate) fn printed<T: PrintJson>(alloc: Global, value: &T) -> Result<String, Fail> {
     let mut bytes = Vec::new(alloc);
     let mut output = Output::new(Counted::new(&mut bytes));
     print_line(value, &mut output);
@@ -31,19 +35,19 @@ pub fn printed<T: PrintJson>(alloc: Global, value: &T) -> Result<String, Fail> {
 }
 
 /// The ids of the seed of zeros.
-pub fn new_ids() -> Ids {
+pub(crate) fn new_ids() -> Ids {
     Ids::of_seed([0; 32])
 }
 
 /// A book of `ex.org` with nothing in it.
-pub fn new_book(alloc: Global) -> Result<PlainBook, Fail> {
+pub(crate) fn new_book(alloc: Global) -> Result<PlainBook, Fail> {
     let domain = TrustDomain::parse(alloc, "ex.org")?;
     Ok(PlainBook::new(alloc, domain)?)
 }
 
 /// The printed answer to a line: the reply of the book to its batch, or its refusal. Want of memory is an error, so
 /// that no table has to know of it.
-pub fn answer_on(
+pub(crate) fn answer_on(
     alloc: Global,
     book: &mut PlainBook,
     ids: &mut Ids,
@@ -70,20 +74,20 @@ pub fn answer_on(
 }
 
 /// The printed answer to a line on a book with nothing in it.
-pub fn answer(alloc: Global, line: &[u8], number: u64) -> Result<String, Fail> {
+pub(crate) fn answer(alloc: Global, line: &[u8], number: u64) -> Result<String, Fail> {
     let mut book = new_book(alloc)?;
     answer_on(alloc, &mut book, &mut new_ids(), line, number, 1)
 }
 
 /// A text with an LF at its end.
-pub fn line_of(alloc: Global, text: &str) -> Result<Vec<u8>, Fail> {
+pub(crate) fn line_of(alloc: Global, text: &str) -> Result<Vec<u8>, Fail> {
     let mut line = Vec::from_slice(alloc, text.as_bytes())?;
     line.push(b'\n')?;
     Ok(line)
 }
 
 /// Each line of the table is a request line and what it is answered on a book with nothing in it.
-pub fn answers(rt: &impl Abort, alloc: Global, table: &str) -> Result<(), Fail> {
+pub(crate) fn answers(rt: &impl Abort, alloc: Global, table: &str) -> Result<(), Fail> {
     for case in table.lines() {
         if let Some((text, want)) = case.split_once(" => ") {
             let line = line_of(alloc, text)?;
@@ -94,7 +98,7 @@ pub fn answers(rt: &impl Abort, alloc: Global, table: &str) -> Result<(), Fail> 
 }
 
 /// The same on one book, with the lines and the calls counted from 1.
-pub fn answers_in_a_row(rt: &impl Abort, alloc: Global, table: &str) -> Result<(), Fail> {
+pub(crate) fn answers_in_a_row(rt: &impl Abort, alloc: Global, table: &str) -> Result<(), Fail> {
     let mut book = new_book(alloc)?;
     let mut ids = new_ids();
     let mut count = 0u64;
@@ -110,7 +114,7 @@ pub fn answers_in_a_row(rt: &impl Abort, alloc: Global, table: &str) -> Result<(
 }
 
 /// A line for which memory was wanting.
-pub fn without_memory(line: u64) -> LineRefusal {
+pub(crate) fn without_memory(line: u64) -> LineRefusal {
     LineRefusal {
         line,
         failure: Failure::NoMemory,

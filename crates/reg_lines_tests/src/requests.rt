@@ -1,4 +1,6 @@
-use super::spelled::{spells, spells_with};
+//! Which fault of a line is told, and which operations do lines spell?
+
+use crate::spelled::{spells, spells_with};
 use std::test::Fail;
 
 /// Lines, and what each spells.

@@ -3,9 +3,9 @@ use Rattle.std.specs.Prelude.{codes, decimal}
 use Rattle.std.proofs.lemmas.Bool.{false≢true}
 use Rattle.std.proofs.lemmas.Grind.{common_steps}
 use Rattle.std.proofs.lemmas.Result.{on_ok_weaker}
-use Rattle.reg_lines.specs.Numbered.{numbered}
+use Rattle.reg_lines_tests.specs.Numbered.{numbered}
 use Rattle.reg_lines.proofs.RunLemmas.{RunsFrom-start, RunsFrom-flush, RunsFrom-more, AppendsRun-so_far, AppendsRun-at_end, AppendsRun-at_most, AppendsRunFront-of}
-use Rattle.reg_lines.proofs.tests.engine.number_lines.Goals as goal
+use Rattle.reg_lines_tests.proofs.engine.number_lines.Goals as goal
 
 answers : (s : ℕ) (l : List ℕ) → (next : ℕ) × (reply : List ℕ) × numbered s l next reply
 answers s l = (s + 1, decimal (s + 1) ++ codes ":" ++ l, (refl, refl))

@@ -1,14 +1,18 @@
+//! How are the lines of an input numbered? It is the least engine over the bytes, proved as each engine is.
+
 ghost use Rattle.std.specs.Prelude.{◌≡◌, ◌+◌, ◌<◌, ◌≤◌, ◌^◌, ◌⊎◌, ℕ, [], ◌++◌, codes, decimal, OnOk, IfOk, IfErr, IfSome, IsTrue};
 ghost use Rattle.reg_lines.specs.Runs.{AppendsRun, AppendsRunFront, TakesLines, lines_kept};
-ghost use Rattle.reg_lines.specs.Numbered.{numbered};
+ghost use Rattle.reg_lines_tests.specs.Numbered.{numbered};
 ghost use Rattle.reg_lines.specs.Stream.{Puts};
 
-use crate::{Counted, Input, Line, Output, Sink, Source, flush_before_waiting, print_number};
+use reg_lines::{
+    Counted, Input, Line, Output, Sink, Source, flush_before_waiting, print_number,
+};
 use std::alloc::Global;
 
 /// Why the engine ended early.
 #[derive(Clone, Copy, Debug, PartialEq, Eq)]
-pub enum Ended {
+pub(crate) enum Ended {
     Input,
     Output,
 }
@@ -34,7 +38,7 @@ fn finish<W: Sink>(output: &mut Output<W>) -> Result<(), Ended>
 }
 
 /// Writes each line behind its number.
-pub fn number_lines<R: Source, W: Sink>(
+pub(crate) fn number_lines<R: Source, W: Sink>(
     input: &mut Input<R>,
     output: &mut Output<W>,
     line: &mut Line,
@@ -69,7 +73,7 @@ pub fn number_lines<R: Source, W: Sink>(
 }
 
 /// The same over memory, where all bytes are known.
-pub fn number_text(alloc: Global, text: &[u8], line: &mut Line, most: u64) -> Result<Vec<u8>, Ended>
+pub(crate) fn number_text(alloc: Global, text: &[u8], line: &mut Line, most: u64) -> Result<Vec<u8>, Ended>
     requires { most < 2 ^ 63 }
     ensures { IfOk result (λ v. AppendsRun numbered 0 (lines_kept most text.now) (Some []) (Some v.items)) }
 {

@@ -1,4 +1,6 @@
-use super::answers::{answer, line_of};
+//! Which bytes are a line, and which lines are a JSON text?
+
+use crate::answers::{answer, line_of};
 use std::alloc::Global;
 use std::test::Fail;
 

@@ -1,7 +1,7 @@
 use Rattle.std.proofs.Common.{◌≡◌, ◌≤◌}
-use Rattle.reg_lines.specs.Numbered.{numbered}
+use Rattle.reg_lines_tests.specs.Numbered.{numbered}
 use Rattle.reg_lines.proofs.RunLemmas.{RunsFrom}
-use Rattle.reg_lines.proofs.tests.engine.number_lines.Given as goal
+use Rattle.reg_lines_tests.proofs.engine.number_lines.Given as goal
 
 abbrev pub invariant-loop-index : goal.invariant-loop-index
 invariant-loop-index g l = record {

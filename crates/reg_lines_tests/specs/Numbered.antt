@@ -1,4 +1,4 @@
--- The engine that the tests run: each line is answered by its number and itself.
+-- The engine that runs over bytes: each line is answered by its number and itself.
 use Rattle.std.specs.Prelude.{◌≡◌, ℕ, ◌+◌, List, ◌++◌, codes, decimal}
 
 abbrev pub numbered : ℕ → List ℕ → ℕ → List ℕ → Type 0

@@ -1,6 +1,8 @@
-use super::answers::{line_of, new_ids, printed};
-use crate::{Ids, read_request};
+//! Which operations does a line spell, in a text that tables tell?
+
+use crate::answers::{line_of, new_ids, printed};
 use entry_book::{NewEntry, Op};
+use reg_lines::{Ids, read_request};
 use spiffe_name::{Failure, TrustDomain};
 use std::alloc::Global;
 use std::process::Abort;
@@ -80,7 +82,7 @@ fn op_text(alloc: Global, op: &Op) -> Result<String, Fail> {
 
 /// What a line spells in the trust domain `ex.org`: how often it may be tried, and its operations; or the printed
 /// refusal. Want of memory is an error, so that no table has to know of it.
-pub fn spelled(alloc: Global, ids: &mut Ids, line: &[u8], number: u64) -> Result<String, Fail> {
+pub(crate) fn spelled(alloc: Global, ids: &mut Ids, line: &[u8], number: u64) -> Result<String, Fail> {
     let domain = TrustDomain::parse(alloc, "ex.org")?;
     let request = match read_request(alloc, &domain, ids, line, number) {
         Ok(request) => request,
@@ -100,7 +102,7 @@ pub fn spelled(alloc: Global, ids: &mut Ids, line: &[u8], number: u64) -> Result
 }
 
 /// Each line of the table is a request line and what it spells. Each is read with the first ids of the seed of zeros.
-pub fn spells(rt: &impl Abort, alloc: Global, table: &str) -> Result<(), Fail> {
+pub(crate) fn spells(rt: &impl Abort, alloc: Global, table: &str) -> Result<(), Fail> {
     for case in table.lines() {
         if let Some((text, want)) = case.split_once(" => ") {
             let line = line_of(alloc, text)?;
@@ -112,7 +114,7 @@ pub fn spells(rt: &impl Abort, alloc: Global, table: &str) -> Result<(), Fail> {
 }
 
 /// The same with what the lines before left of the ids; the lines are counted from 1.
-pub fn spells_in_a_row(rt: &impl Abort, alloc: Global, table: &str) -> Result<(), Fail> {
+pub(crate) fn spells_in_a_row(rt: &impl Abort, alloc: Global, table: &str) -> Result<(), Fail> {
     let mut ids = new_ids();
     let mut count = 0u64;
     for case in table.lines() {
@@ -134,7 +136,7 @@ fn with_pieces(alloc: Global, text: &str, count: usize, piece: &str) -> Result<S
 
 /// The same where each `*` of a line stands for the first piece, so many times, and each `*` of what it spells for the
 /// second.
-pub fn spells_with(
+pub(crate) fn spells_with(
     rt: &impl Abort,
     alloc: Global,
     table: &str,

@@ -1,5 +1,7 @@
-use super::spelled::{spelled, spells_in_a_row};
-use crate::Ids;
+//! Which lines draw an id, and which id do they get?
+
+use crate::spelled::{spelled, spells_in_a_row};
+use reg_lines::Ids;
 use std::test::Fail;
 
 /// Lines read one after another with the ids of the seed of zeros, and what each spells.

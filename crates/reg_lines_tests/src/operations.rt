@@ -1,5 +1,7 @@
-use super::answers::new_ids;
-use super::spelled::{spelled, spells, spells_with};
+//! Which keys has each operation, and what do they spell?
+
+use crate::answers::new_ids;
+use crate::spelled::{spelled, spells, spells_with};
 use std::alloc::Global;
 use std::test::Fail;
 

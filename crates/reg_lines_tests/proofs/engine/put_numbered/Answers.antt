@@ -1,5 +1,5 @@
 use Rattle.reg_lines.proofs.Puts.{Puts-then}
-use Rattle.reg_lines.proofs.tests.engine.put_numbered.Goals as goal
+use Rattle.reg_lines_tests.proofs.engine.put_numbered.Goals as goal
 
 pub returns : goal.returns
 returns g c = Puts-then _ _ _ _ _ (Puts-then _ _ _ _ _ c.print_number.ensures c.put.ensures) c.put-2.ensures

@@ -1,0 +1,118 @@
+//! Are the lines of bytes read, and bytes written, over memory and over devices that are interrupted or full?
+
+ghost use Rattle.std.specs.Prelude.{◌<◌, ◌^◌};
+
+use crate::engine::{Ended, number_lines, number_text};
+use reg_lines::{Counted, Input, KEPT_BYTES, Line, Output};
+use std::alloc::{AllocError, Global};
+use std::test::Fail;
+use test_devices::{Giver, Pace, Taker, Trouble};
+
+const TEXT: &[u8] = b"one\n\ntwo\r\nthree\nlast";
+
+const NUMBERED: &[u8] = b"1:one\n2:\n3:two\r\n4:three\n5:last";
+
+/// Runs the engine over these devices.
+fn run(
+    alloc: Global,
+    giver: &mut Giver<'_>,
+    taker: &mut Taker,
+    most: u32,
+) -> Result<Result<(), Ended>, AllocError> {
+    let mut line = Line::new(alloc)?;
+    let mut input = Input::new(Counted::new(giver));
+    let mut output = Output::new(Counted::new(taker));
+    Ok(number_lines(&mut input, &mut output, &mut line, u64::from(most)))
+}
+
+#[test]
+fn memory_never_fails(rt: HostRuntime) -> Result<(), Fail> {
+    let mut line = Line::new(rt.alloc())?;
+    let numbered = number_text(rt.alloc(), TEXT, &mut line, 100)
+        .ok()
+        .ok_or("a failure")?;
+    assert_eq!(rt; numbered.as_slice(), NUMBERED);
+    Ok(())
+}
+
+#[test]
+fn lines_after_the_last_one_are_left(rt: HostRuntime) -> Result<(), Fail> {
+    let mut giver = Giver::new(TEXT, Pace::Byte, Trouble::NONE);
+    let mut taker = Taker::new(rt.alloc(), Pace::All, Trouble::NONE);
+    assert_eq!(rt; run(rt.alloc(), &mut giver, &mut taker, 2)?, Ok(()));
+    assert_eq!(rt; taker.bytes.as_slice(), b"1:one\n2:\n".as_slice());
+    assert_eq!(rt; giver.rest, b"two\r\nthree\nlast".as_slice());
+    Ok(())
+}
+
+#[test]
+fn an_interrupted_call_is_made_again(rt: HostRuntime) -> Result<(), Fail> {
+    for call in 1..60u64 {
+        let mut giver = Giver::new(TEXT, Pace::Byte, Trouble::interrupted_at(call));
+        let mut taker = Taker::new(rt.alloc(), Pace::Byte, Trouble::interrupted_at(call));
+        assert_eq!(rt; run(rt.alloc(), &mut giver, &mut taker, 100)?, Ok(()));
+        assert_eq!(rt; taker.bytes.as_slice(), NUMBERED, "call {call}");
+    }
+    Ok(())
+}
+
+#[test]
+fn a_writer_that_takes_nothing_has_failed(rt: HostRuntime) -> Result<(), Fail> {
+    let mut full = [0u8; 5];
+    let mut giver = Giver::new(TEXT, Pace::All, Trouble::NONE);
+    let mut line = Line::new(rt.alloc())?;
+    let mut input = Input::new(Counted::new(&mut giver));
+    let mut output = Output::new(Counted::new(full.as_mut_slice()));
+    let ended = number_lines(&mut input, &mut output, &mut line, 100);
+    assert_eq!(rt; ended, Err(Ended::Output));
+    drop(output);
+    assert_eq!(rt; full, *b"1:one");
+    Ok(())
+}
+
+/// Reads a long line of letters, and answers how much of it is kept and what comes next.
+fn long_line(alloc: Global, len: usize) -> Result<(usize, bool), Fail>
+    requires { len < 2 ^ 32 }
+{
+    let mut text = vec![in alloc; b'x'; len]?;
+    text.extend_from_slice(b"\nnext")?;
+    let mut line = Line::new(alloc)?;
+    let mut input = Input::new(Counted::new(text.as_slice()));
+    input.read_line(&mut line).ok().ok_or("a failed read")?;
+    let kept = line.as_bytes().len();
+    input.read_line(&mut line).ok().ok_or("a failed read")?;
+    Ok((kept, line.as_bytes() == b"next".as_slice()))
+}
+
+#[test]
+fn of_a_long_line_the_front_is_kept_and_the_rest_passed_over(rt: HostRuntime) -> Result<(), Fail> {
+    for (len, kept) in [
+        (1_048_575, 1_048_576),
+        (1_048_576, KEPT_BYTES),
+        (1_048_577, KEPT_BYTES),
+        (1_100_000, KEPT_BYTES),
+    ] {
+        assert_eq!(rt; long_line(rt.alloc(), len)?, (kept, true), "{len} bytes");
+    }
+    Ok(())
+}
+
+#[test]
+fn bytes_come_out_in_order_past_the_edge_of_the_buffer(rt: HostRuntime) -> Result<(), Fail> {
+    let mut bytes = Vec::new(rt.alloc());
+    for index in 0..20_000u32 {
+        bytes.push((index % 251) as u8)?;
+    }
+    for len in [1, 7, 4_000, 8_191, 8_192, 8_193, 20_000] {
+        let mut taker = Taker::new(rt.alloc(), Pace::All, Trouble::NONE);
+        let mut output = Output::new(Counted::new(&mut taker));
+        for piece in bytes.chunks(len) {
+            output.put(piece);
+        }
+        output.flush();
+        assert!(rt; !output.has_failed());
+        drop(output);
+        assert_eq!(rt; taker.bytes.as_slice(), bytes.as_slice(), "pieces of {len}");
+    }
+    Ok(())
+}

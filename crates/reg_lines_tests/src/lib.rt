@@ -1,0 +1,31 @@
+//! What do lines spell, what is printed, and how do bytes come in and go out?
+//!
+//! The crate has tests alone, over the public calls of `reg_lines`: what their clauses leave open, and each call once where
+//! it succeeds. Runs over devices that are slow or fail are tests of `regd`.
+//!
+//! - `frames`, `requests`, `operations` and `ids`: what lines spell, told in the words of `spelled`.
+//! - `texts` and `replies`: what is printed, by `answers`, which runs a plain book on lines.
+//! - `bytes`: lines of memory, of devices that are interrupted, and of one that is full, by the engine of `engine`. What it
+//!   answers stands in `specs/Numbered.antt`.
+#![tactic(auto)]
+
+#[cfg(test)]
+mod answers;
+#[cfg(test)]
+mod bytes;
+#[cfg(test)]
+mod engine;
+#[cfg(test)]
+mod frames;
+#[cfg(test)]
+mod ids;
+#[cfg(test)]
+mod operations;
+#[cfg(test)]
+mod replies;
+#[cfg(test)]
+mod requests;
+#[cfg(test)]
+mod spelled;
+#[cfg(test)]
+mod texts;

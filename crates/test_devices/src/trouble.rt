@@ -1,0 +1,46 @@
+//! At which of its calls does a device fail?
+
+use std::io;
+use std::io::ErrorKind;
+
+/// What happens at the call of a number, counted from 1: it fails or is interrupted.
+#[derive(Clone, Copy, Debug)]
+pub struct Trouble {
+    failing: u64,
+    interrupted: u64,
+}
+
+impl Trouble {
+    /// No call fails.
+    pub const NONE: Trouble = Trouble {
+        failing: 0,
+        interrupted: 0,
+    };
+
+    /// The call of this number fails.
+    pub fn failing_at(call: u64) -> Trouble {
+        Trouble {
+            failing: call,
+            interrupted: 0,
+        }
+    }
+
+    /// The call of this number is interrupted.
+    pub fn interrupted_at(call: u64) -> Trouble {
+        Trouble {
+            failing: 0,
+            interrupted: call,
+        }
+    }
+
+    /// What becomes of the call of this number.
+    pub(crate) fn meet(self, call: u64) -> io::Result<()> {
+        if call == self.failing {
+            return Err(io::Error::from(ErrorKind::Other));
+        }
+        if call == self.interrupted {
+            return Err(io::Error::from(ErrorKind::Interrupted));
+        }
+        Ok(())
+    }
+}
