@@ -27,6 +27,3 @@ pub use selector_set::SelectorSet;
 pub use selectors::Selector;
 pub use spiffe_id::SpiffeId;
 pub use trust_domain::TrustDomain;
-
-#[cfg(test)]
-mod tests;

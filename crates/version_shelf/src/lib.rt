@@ -5,7 +5,7 @@
 //! its rows, each a key with its value, in strictly ascending order of keys; the words that the contracts use stand in
 //! `specs/Shelf.antt`. [`Rows`] are the rows between two bounds, one after another.
 //!
-//! What a call costs at a shelf of n rows:
+//! What a call costs at most at a shelf of n rows, where log2 n is rounded up:
 //!
 //! | Call | Comparisons of keys | Copies of keys and values | Memory |
 //! |---|---|---|---|
@@ -36,6 +36,3 @@ mod vector;
 
 pub use rows::Rows;
 pub use shelf::Shelf;
-
-#[cfg(test)]
-mod tests;

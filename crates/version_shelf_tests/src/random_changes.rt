@@ -2,9 +2,9 @@
 
 ghost use Rattle.std.specs.Prelude.{◌<◌};
 
-use crate::Shelf;
 use std::process::Abort;
 use std::test::Fail;
+use version_shelf::Shelf;
 
 const KEYS: u64 = 40;
 

@@ -1,13 +1,10 @@
-//! Shelves at the kinds of key and value that the versions of a book have, and one shelf against a plain list.
+//! Shelves at the kinds of key and value that the versions of a book have.
 
-mod keys;
-mod random_changes;
-
-use crate::Shelf;
-use keys::{IdText, Part, SharedNumber};
+use crate::keys::{IdText, Part, SharedNumber};
 use std::alloc::{AllocError, Global};
 use std::process::Abort;
 use std::test::Fail;
+use version_shelf::Shelf;
 
 type Ids = Shelf<Part<IdText>, u64>;
 

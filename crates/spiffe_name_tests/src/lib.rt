@@ -1,0 +1,18 @@
+//! Are the names that `spiffe_name` accepts and refuses those of the SPIFFE-ID specification, at each boundary?
+//!
+//! The crate has tests alone, over the public calls of `spiffe_name`:
+//!
+//! - `ids`: IDs and trust domains.
+//! - `selectors`: selectors.
+//! - `selector_sets`: sets of selectors.
+//! - `long_texts`: the long texts that these tests read.
+#![tactic(auto)]
+
+#[cfg(test)]
+mod ids;
+#[cfg(test)]
+mod long_texts;
+#[cfg(test)]
+mod selector_sets;
+#[cfg(test)]
+mod selectors;

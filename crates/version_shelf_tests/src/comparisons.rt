@@ -1,0 +1,197 @@
+//! How many comparisons and copies of keys and values does each call make?
+
+ghost use Rattle.std.specs.Prelude.{Some, refl, nat_eq, ◌≡◌, ◌≤◌};
+ghost use Rattle.std.specs.Cmp.{nat_cmp_total, nat_eq_equiv, partial_equiv_from_equiv, partial_order_from_agreeing_total, unsigned_ties};
+ghost use Rattle.std.specs.Ordering.{nat_cmp};
+
+use std::alloc::AllocError;
+use std::cell::Cell;
+use std::cmp::Ordering;
+use std::marker::Model;
+use std::process::Abort;
+use std::test::Fail;
+use version_shelf::Shelf;
+
+/// What was done with numbers since it was last asked.
+#[derive(Drop)]
+struct Counts {
+    comparisons: Cell<u64>,
+    copies: Cell<u64>,
+}
+
+impl Counts {
+    fn new() -> Counts {
+        Counts {
+            comparisons: Cell::new(0),
+            copies: Cell::new(0),
+        }
+    }
+
+    fn number(&self, value: u64) -> Counted<'_> {
+        Counted {
+            value,
+            counts: self,
+        }
+    }
+
+    fn comparisons(&self) -> u64 {
+        self.comparisons.replace(0)
+    }
+
+    fn copies(&self) -> u64 {
+        self.copies.replace(0)
+    }
+}
+
+fn count_one(cell: &Cell<u64>) {
+    cell.set(cell.get().wrapping_add(1));
+}
+
+/// A number whose comparisons and copies are counted, seen as the number.
+#[derive(Drop)]
+struct Counted<'a> {
+    value: u64,
+    counts: &'a Counts,
+}
+
+impl<'a> Model for Counted<'a> {
+    ghost use Rattle.std.specs.Prelude.{ℕ};
+
+    ghost Value = { ℕ };
+
+    ghost view = { λ counted. counted.value };
+}
+
+impl<'a> Clone for Counted<'a> {
+    ghost is_clone = { λ original copy. copy ≡ original };
+
+    fn clone(&self) -> Result<Counted<'a>, AllocError> {
+        count_one(&self.counts.copies);
+        Ok(Counted {
+            value: self.value,
+            counts: self.counts,
+        })
+    }
+}
+
+impl<'a> PartialEq for Counted<'a> {
+    ghost eq = { nat_eq };
+
+    ghost laws = { partial_equiv_from_equiv nat_eq_equiv };
+
+    fn eq(&self, other: &Counted<'a>) -> bool {
+        count_one(&self.counts.comparisons);
+        self.value == other.value
+    }
+}
+
+impl<'a> Eq for Counted<'a> {
+    ghost laws = { nat_eq_equiv };
+}
+
+impl<'a> PartialOrd for Counted<'a> {
+    ghost partial_cmp = { λ a b. Some (nat_cmp a b) };
+
+    ghost laws = { partial_order_from_agreeing_total nat_cmp nat_cmp_total (λ a b. refl) unsigned_ties };
+
+    fn partial_cmp(&self, other: &Counted<'a>) -> Option<Ordering> {
+        Some(self.cmp(other))
+    }
+}
+
+impl<'a> Ord for Counted<'a> {
+    ghost cmp = { nat_cmp };
+
+    ghost total = { nat_cmp_total };
+
+    ghost matches_partial_cmp = { λ a b. refl };
+
+    ghost matches_eq = { unsigned_ties };
+
+    fn cmp(&self, other: &Counted<'a>) -> Ordering {
+        count_one(&self.counts.comparisons);
+        self.value.cmp(&other.value)
+    }
+}
+
+type CountedShelf<'a> = Shelf<Counted<'a>, Counted<'a>>;
+
+/// The logarithm of the number of rows to the base 2, rounded up; 0 where there are none.
+fn log2_rounded_up(rows: usize) -> u64
+    ensures { result ≤ 64 }
+{
+    if rows < 2 {
+        0
+    } else {
+        u64::from((rows - 1).ilog2()) + 1
+    }
+}
+
+/// Every key of the shelf and every number beside one is sought, alone and as a bound.
+fn assert_reads_are_cheap<'a>(rt: &impl Abort, shelf: &CountedShelf<'a>, counts: &'a Counts) {
+    let rows = shelf.len();
+    let log2 = log2_rounded_up(rows);
+    assert!(rt; shelf.has_room());
+    assert_eq!(rt; counts.comparisons(), 0, "len and has_room");
+    for value in 0..2 * rows as u64 + 1 {
+        let key = counts.number(value);
+        assert_eq!(rt; shelf.get(&key).is_some(), value % 2 == 1);
+        let made = counts.comparisons();
+        assert!(rt; made <= log2 + 2, "get: {made} at {value} of {rows} rows");
+        assert_eq!(rt; made > 0, rows > 0);
+        let lo = counts.number(value / 2);
+        for (lo, hi) in [(&lo, &key), (&key, &lo)] {
+            let walk = shelf.range(lo, hi);
+            let made = counts.comparisons();
+            assert!(rt;
+                made <= 2 * log2 + 2,
+                "range: {made} at {value} of {rows} rows"
+            );
+            assert!(rt; walk.count() <= rows);
+            assert_eq!(rt; counts.comparisons(), 0, "rows of a range");
+        }
+    }
+}
+
+/// Every key of the shelf and every number beside one is set and removed.
+fn assert_changes_are_cheap<'a>(
+    rt: &impl Abort,
+    shelf: &CountedShelf<'a>,
+    counts: &'a Counts,
+) -> Result<(), Fail> {
+    let rows = shelf.len();
+    let log2 = log2_rounded_up(rows);
+    let same = shelf.clone()?;
+    assert_eq!(rt; same.len(), rows);
+    assert_eq!(rt; counts.comparisons(), 0, "clone");
+    for value in 0..2 * rows as u64 + 1 {
+        assert!(rt; shelf.has_room());
+        let more = shelf.with(counts.number(value), counts.number(0))?;
+        let made = counts.comparisons();
+        assert!(rt; made <= log2 + 2, "with: {made} at {value} of {rows} rows");
+        assert_eq!(rt; more.len(), rows + usize::from(value % 2 == 0));
+        let fewer = shelf.without(&counts.number(value))?;
+        let made = counts.comparisons();
+        assert!(rt;
+            made <= log2 + 2,
+            "without: {made} at {value} of {rows} rows"
+        );
+        assert_eq!(rt; fewer.len() + usize::from(value % 2 == 1), rows);
+    }
+    Ok(())
+}
+
+#[test]
+fn calls_compare_no_more_than_the_head_says_and_copy_nothing(rt: HostRuntime) -> Result<(), Fail> {
+    let counts = Counts::new();
+    let mut shelf = Shelf::new(rt.alloc());
+    for row in 0..70 {
+        assert_reads_are_cheap(&rt, &shelf, &counts);
+        assert_changes_are_cheap(&rt, &shelf, &counts)?;
+        assert!(rt; shelf.has_room());
+        shelf = shelf.with(counts.number(2 * row + 1), counts.number(row))?;
+        counts.comparisons();
+    }
+    assert_eq!(rt; counts.copies(), 0);
+    Ok(())
+}

@@ -1,0 +1,21 @@
+//! Does a `version_shelf` read as a plain map does, old versions too, at the prices that its head names?
+//!
+//! The crate has tests alone, over the public calls of `version_shelf`:
+//!
+//! - `kinds_of_keys`: the kinds of key and value that the versions of a book have.
+//! - `random_changes`: one shelf against a plain list, through random changes.
+//! - `equal_keys`: keys that differ and that the order calls equal.
+//! - `comparisons`: how many comparisons and copies of keys each call makes.
+//! - `keys`: keys and values for these tests.
+#![tactic(auto)]
+
+#[cfg(test)]
+mod comparisons;
+#[cfg(test)]
+mod equal_keys;
+#[cfg(test)]
+mod keys;
+#[cfg(test)]
+mod kinds_of_keys;
+#[cfg(test)]
+mod random_changes;
