@@ -34,6 +34,10 @@ use Rattle.entry_book.specs.Lawful.{Lawful}
 abbrev pub WithinIsContains : Type 0
 WithinIsContains = (xs : List Bytes) (x : Bytes) → Within xs x ↔ Contains xs x
 
+-- rows in order with the same members are one list
+abbrev pub OneList : {X : Type 0} → (X → Bytes) → Type 0
+OneList {X} key = (xs ys : List X) → Ascending key xs → Ascending key ys → ((x : X) → Within xs x ↔ Within ys x) → xs ≡ ys
+
 -- ---- authorised entries
 
 -- the authorised entries are those in which some chain for the agent ends
@@ -265,3 +269,7 @@ LawfulHistory = (own : Bytes) (books : List Book) → IsHistory own books → (n
 -- so is each book that a plain book stands for
 abbrev pub AllLawful : Type 0
 AllLawful = (state : PlainState) (books : List Book) → Stands state books → (n : ℕ) (b : Book) → slice_get books n ≡ Some b → Lawful state.domain (64 * n) b
+
+-- a batch that is accepted on a book lawful as book n leaves a book lawful as book n + 1
+abbrev pub BatchKeeps : Type 0
+BatchKeeps = (own : Bytes) (batch : Batch) (n : ℕ) (b : Book) → IsMadeFor own batch → Lawful own (64 * n) b → IfOk (run batch.domain batch.ops b) (λ t. Lawful own (64 * (n + 1)) (after t.writes b))

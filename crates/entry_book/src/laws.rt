@@ -3,12 +3,16 @@
 //! Each function does nothing. What it ensures is a law of the definitions, stated in `specs/Laws.antt`; a caller
 //! that calls it may rest on the law.
 
-ghost use Rattle.entry_book.specs.Laws.{AliasIsHeld, AllLawful, AllWithinLimits, AuthorisedEffect, AuthorisedInOrder, ChangesCommit, ChildIsAuthorised, ChildrenEffect, CommitAdds, CountOfBooks, CreateEffect, DeleteEffect, DropAgentEffect, DropBundleEffect, EndsOfChains, FirstFault, FullRefused, HeldIsAuthorised, HistoryBounded, HistoryGoesOn, LawfulHistory, NoFault, NoOpsRefused, NoneIsPassed, OneMore, OneMoreCommits, OpRefuses, OthersDontMatter, OthersLeave, PruneEffect, QueriesAnswered, QueriesOnlyAsk, QueryWrites, RunFits, RunGoesOn, RunKeeps, RunOfNone, RunReplies, RunStops, SetAgentEffect, SetBundleEffect, ShowAgentEffect, ShowBundleEffect, ShowEffect, TooManyRefused, TrustEffect, UpdateEffect, WithinIsContains, WritesOnce};
+ghost use Rattle.entry_book.specs.Laws.{AliasIsHeld, AllLawful, AllWithinLimits, AuthorisedEffect, AuthorisedInOrder, BatchKeeps, ChangesCommit, ChildIsAuthorised, ChildrenEffect, CommitAdds, CountOfBooks, CreateEffect, DeleteEffect, DropAgentEffect, DropBundleEffect, EndsOfChains, FirstFault, FullRefused, HeldIsAuthorised, HistoryBounded, HistoryGoesOn, LawfulHistory, NoFault, NoOpsRefused, NoneIsPassed, OneList, OneMore, OneMoreCommits, OpRefuses, OthersDontMatter, OthersLeave, PruneEffect, QueriesAnswered, QueriesOnlyAsk, QueryWrites, RunFits, RunGoesOn, RunKeeps, RunOfNone, RunReplies, RunStops, SetAgentEffect, SetBundleEffect, ShowAgentEffect, ShowBundleEffect, ShowEffect, TooManyRefused, TrustEffect, UpdateEffect, WithinIsContains, WritesOnce};
+ghost use Rattle.entry_book.specs.Rows.{agent_key, bundle_key, entry_key};
 ghost use Rattle.entry_book.specs.Worked.{AliasHeld, AliasHeldWithMore, AliasNotHeld, AliasNotHeldWithNone, AliasOfAnother, CycleIsAuthorised, EmptyRefuses, FirstBatches, FreedInOneBatch, NothingKept, PrunesBefore, SequencesCount, StaleDelete};
 
-/// To be within a list is to stand at some place of it.
+/// To be within a list is to stand at some place of it, and members and order make a list of rows.
 pub fn membership()
-    ensures { WithinIsContains }
+    ensures contains { WithinIsContains }
+    ensures entries { OneList entry_key }
+    ensures agents { OneList agent_key }
+    ensures bundles { OneList bundle_key }
 {}
 
 /// The authorised entries are the book's entries in which some chain for the agent ends, each once, in the order of
@@ -78,10 +82,12 @@ pub fn histories()
     ensures goes_on { HistoryGoesOn }
 {}
 
-/// Every book of a history is lawful, and so is every book that a plain book stands for.
+/// Every book of a history is lawful, and so is every book that a plain book stands for: an accepted batch keeps a book
+/// lawful.
 pub fn lawful_books()
     ensures history { LawfulHistory }
     ensures stands { AllLawful }
+    ensures batch { BatchKeeps }
 {}
 
 /// The worked books of `specs/Worked.antt`: a cycle of parents ends, and an alias is held by an agent that has all of
