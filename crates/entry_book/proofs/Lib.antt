@@ -16,6 +16,7 @@ pub mod Keeps
 pub mod Keys
 pub mod LawfulRows
 pub mod Listed
+pub mod NamedRows
 pub mod Once
 pub mod Present
 pub mod Replies

@@ -1,5 +1,5 @@
 -- The laws of the book. Each is a clause of a function of the module `laws`.
-use Rattle.std.specs.Prelude.{◌≡◌, ◌↔◌, ◌⊎◌, ℕ, ◌+◌, ◌*◌, ◌<◌, ◌≤◌, true, false, List, [], ◌∷◌, ◌++◌, length, Option, Some, None, Ok, Err, IfOk, MatchResult, slice_get, Contains, ⊤}
+use Rattle.std.specs.Prelude.{◌≡◌, ◌↔◌, ◌⊎◌, ℕ, ◌+◌, ◌*◌, ◌<◌, ◌≤◌, true, false, List, [], ◌∷◌, ◌++◌, length, map, Option, Some, None, Ok, Err, IfOk, MatchResult, slice_get, Contains, ⊤}
 use Rattle.std.specs.List.{AllByRecursion}
 use Rattle.spiffe_name.specs.Id.{server_text}
 use Rattle.entry_book.specs.declared.agent.Agent.{Agent}
@@ -19,6 +19,7 @@ use Rattle.entry_book.specs.Rows.{Bytes, Entry, entry_key, agent_key, bundle_key
 use Rattle.entry_book.specs.Order.{Within, Ascending}
 use Rattle.entry_book.specs.Book.{Book, AscendingBook}
 use Rattle.entry_book.specs.Writes.{Write, wrote_entry, wrote_agent, wrote_bundle, after, FitsBook, FitAll}
+use Rattle.entry_book.specs.NamedRows.{row_written, rows_named}
 use Rattle.entry_book.specs.Authorised.{authorised, EndsChain, Holds}
 use Rattle.entry_book.specs.Ops.{op_of}
 use Rattle.entry_book.specs.Runs.{Ran, Stop, run}
@@ -127,6 +128,10 @@ DifferentRows (w ∷ ws) = AllByRecursion (λ v. SameRow w v → ⊥) ws × Diff
 -- an operation writes each row once, so that each write finds its row as the operation found it
 abbrev pub WritesOnce : Type 0
 WritesOnce = (own : Bytes) (op : Op) (b : Book) → AscendingBook b → IfOk (op_of own op b) (λ d. DifferentRows d.writes × AllByRecursion (λ w. FitsBook w b) d.writes)
+
+-- an operation writes the rows that it names, in this order, and no other row
+abbrev pub WritesNamed : Type 0
+WritesNamed = (own : Bytes) (op : Op) (b : Book) → IfOk (op_of own op b) (λ d. map row_written d.writes ≡ rows_named op b)
 
 -- ---- the run of a batch
 

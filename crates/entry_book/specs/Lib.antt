@@ -7,6 +7,7 @@ pub mod History
 pub mod Lawful
 pub mod Laws
 pub mod Limits
+pub mod NamedRows
 pub mod Ops
 pub mod Order
 pub mod Rows

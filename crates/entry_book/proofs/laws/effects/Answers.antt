@@ -2,6 +2,7 @@ use Rattle.entry_book.proofs.EffectsOfBundles.{drop_bundle_effect}
 use Rattle.entry_book.proofs.EffectsOfEntries.{create_effect, update_effect, delete_effect}
 use Rattle.entry_book.proofs.EffectsOfQuestions.{show_effect, show_agent_effect, show_bundle_effect, children_effect, authorised_effect, trust_effect}
 use Rattle.entry_book.proofs.EffectsOfRows.{prune_effect, set_agent_effect, drop_agent_effect, set_bundle_effect}
+use Rattle.entry_book.proofs.NamedRows.{writes_named}
 use Rattle.entry_book.proofs.Once.{writes_once}
 use Rattle.entry_book.proofs.laws.effects.Goals as goal
 
@@ -49,3 +50,6 @@ returns-clause-drop_bundle c = drop_bundle_effect
 
 pub returns-clause-once : goal.returns-clause-once
 returns-clause-once c = writes_once
+
+pub returns-clause-named : goal.returns-clause-named
+returns-clause-named c = writes_named
