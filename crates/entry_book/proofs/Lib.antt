@@ -1,6 +1,7 @@
 pub mod Aliases
 pub mod Chains
 pub mod Changed
+pub mod Determined
 pub mod EffectsOfBundles
 pub mod EffectsOfEntries
 pub mod EffectsOfQuestions

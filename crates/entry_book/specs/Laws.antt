@@ -21,7 +21,7 @@ use Rattle.entry_book.specs.Book.{Book, AscendingBook}
 use Rattle.entry_book.specs.Writes.{Write, wrote_entry, wrote_agent, wrote_bundle, after, FitsBook, FitAll}
 use Rattle.entry_book.specs.NamedRows.{row_written, rows_named}
 use Rattle.entry_book.specs.Authorised.{authorised, EndsChain, Holds}
-use Rattle.entry_book.specs.Ops.{op_of}
+use Rattle.entry_book.specs.Ops.{Done, op_of}
 use Rattle.entry_book.specs.Runs.{Ran, Stop, run}
 use Rattle.entry_book.specs.Effects.{Creates, CreateRefused, Updates, UpdateRefused, Deletes, DeleteRefused, Shows, ListsChildren, ListsAuthorised, ListsTrust, LacksAgent, Prunes, SetsAgent, DropsAgent, SetsBundle, DropsBundle, DropBundleRefused}
 use Rattle.entry_book.specs.Limits.{limit_passed}
@@ -107,6 +107,27 @@ SetBundleEffect = (own : Bytes) (domain text : Bytes) (b : Book) → AscendingBo
 
 abbrev pub DropBundleEffect : Type 0
 DropBundleEffect = (own : Bytes) (domain : Bytes) (mode : DropMode) (b : Book) → AscendingBook b → MatchResult (op_of own (DropBundle domain mode) b) (DropsBundle domain mode b) (DropBundleRefused domain mode b)
+
+-- the effect of an operation on a book
+abbrev pub EffectOf : Bytes → Op → Book → Done → Type 0
+EffectOf own (Create e) b = Creates e b
+EffectOf own (Update e expected) b = Updates e expected b
+EffectOf own (Delete k expected) b = Deletes k expected b
+EffectOf own (Show k) b = Shows entry_key b.entries replied.EntryShown k
+EffectOf own (ShowAgent k) b = Shows agent_key b.agents replied.AgentShown k
+EffectOf own (ShowBundle k) b = Shows bundle_key b.bundles replied.BundleShown k
+EffectOf own (Children p) b = ListsChildren p b
+EffectOf own (Authorised k) b = ListsAuthorised (server_text own) k b
+EffectOf own (Trust k) b = ListsTrust (server_text own) k b
+EffectOf own (Prune moment) b = Prunes moment b
+EffectOf own (SetAgent a) b = SetsAgent a b
+EffectOf own (DropAgent k) b = DropsAgent k b
+EffectOf own (SetBundle domain text) b = SetsBundle domain text b
+EffectOf own (DropBundle domain mode) b = DropsBundle domain mode b
+
+-- the effect says it all: it has one reply, and one book after it
+abbrev pub OneAnswer : Type 0
+OneAnswer = (own : Bytes) (op : Op) (b : Book) → AscendingBook b → (c d : Done) → EffectOf own op b c → EffectOf own op b d → (c.reply ≡ d.reply) × (after c.writes b ≡ after d.writes b)
 
 -- two writes of one row
 abbrev pub SameRow : Write → Write → Type 0

@@ -1,3 +1,4 @@
+use Rattle.entry_book.proofs.Determined.{one_answer}
 use Rattle.entry_book.proofs.EffectsOfBundles.{drop_bundle_effect}
 use Rattle.entry_book.proofs.EffectsOfEntries.{create_effect, update_effect, delete_effect}
 use Rattle.entry_book.proofs.EffectsOfQuestions.{show_effect, show_agent_effect, show_bundle_effect, children_effect, authorised_effect, trust_effect}
@@ -47,6 +48,9 @@ returns-clause-set_bundle c = set_bundle_effect
 
 pub returns-clause-drop_bundle : goal.returns-clause-drop_bundle
 returns-clause-drop_bundle c = drop_bundle_effect
+
+pub returns-clause-determined : goal.returns-clause-determined
+returns-clause-determined c = one_answer
 
 pub returns-clause-once : goal.returns-clause-once
 returns-clause-once c = writes_once
