@@ -11,6 +11,7 @@ pub mod Faults
 pub mod Filters
 pub mod Fits
 pub mod Histories
+pub mod Ids
 pub mod InOrder
 pub mod Items
 pub mod Keeps
@@ -24,5 +25,6 @@ pub mod Replies
 pub mod Runs
 pub mod Servers
 pub mod Sets
+pub mod Unfaulted
 pub mod Verdicts
 pub mod WithinLimits

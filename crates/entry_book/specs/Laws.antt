@@ -15,7 +15,7 @@ use Rattle.entry_book.specs.declared.reply.OpRefusal.{OpRefusal}
 use Rattle.entry_book.specs.declared.reply.Outcome.TheVariants.{Committed, Answered, Refused}
 use Rattle.entry_book.specs.declared.reply.Refusal.TheVariants.{OfOp, Full}
 use Rattle.entry_book.specs.declared.reply.Reply.{Reply}
-use Rattle.entry_book.specs.Rows.{Bytes, Entry, entry_key, agent_key, bundle_key}
+use Rattle.entry_book.specs.Rows.{Bytes, Entry, entry_key, agent_key, bundle_key, IsProperEntry, IsProperAgent}
 use Rattle.entry_book.specs.Order.{Within, Ascending}
 use Rattle.entry_book.specs.Book.{Book, AscendingBook}
 use Rattle.entry_book.specs.Writes.{Write, wrote_entry, wrote_agent, wrote_bundle, after, FitsBook, FitAll}
@@ -25,7 +25,8 @@ use Rattle.entry_book.specs.Ops.{Done, op_of}
 use Rattle.entry_book.specs.Runs.{Ran, Stop, run}
 use Rattle.entry_book.specs.Effects.{Creates, CreateRefused, Updates, UpdateRefused, Deletes, DeleteRefused, Shows, ListsChildren, ListsAuthorised, ListsTrust, LacksAgent, Prunes, SetsAgent, DropsAgent, SetsBundle, DropsBundle, DropBundleRefused}
 use Rattle.entry_book.specs.Limits.{limit_passed}
-use Rattle.entry_book.specs.Batches.{Batch, IsMadeFor, IsProperOp, is_query, op_fault, batch_refusal}
+use Rattle.entry_book.specs.Batches.{Batch, IsMadeFor, IsProperOp, is_query, entry_fault, agent_fault, bundle_fault, op_fault, batch_refusal}
+use Rattle.entry_book.specs.Faultless.{FaultlessEntry, FaultlessAgent, FaultlessBundle, FaultlessOp}
 use Rattle.entry_book.specs.History.{PlainState, Stands, IsHistory, CommitAll, first_books, last_book, place_of, books_after, books_of, commits, reply_to}
 use Rattle.entry_book.specs.Lawful.{Lawful}
 
@@ -219,6 +220,19 @@ FirstFault = (domain : Bytes) (ops : List Op) (n : ℕ) (f : OpFault) → (batch
 -- a list that isn't refused has 1 to 64 operations, none of which has a fault
 abbrev pub NoFault : Type 0
 NoFault = (domain : Bytes) (ops : List Op) → (batch_refusal domain ops ≡ None) ↔ ((0 < length ops) × (length ops ≤ 64) × AllByRecursion (λ op. op_fault domain op ≡ None) ops)
+
+-- a new entry, an agent, a bundle and an operation have no fault where they are what the direct words say
+abbrev pub EntryFaults : Type 0
+EntryFaults = (own : Bytes) (e : NewEntry) → IsProperEntry e → (entry_fault own e ≡ None) ↔ FaultlessEntry own e
+
+abbrev pub AgentFaults : Type 0
+AgentFaults = (own : Bytes) (a : Agent) → IsProperAgent a → (agent_fault own a ≡ None) ↔ FaultlessAgent own a
+
+abbrev pub BundleFaults : Type 0
+BundleFaults = (own domain text : Bytes) → (bundle_fault own domain text ≡ None) ↔ FaultlessBundle own domain text
+
+abbrev pub OpFaults : Type 0
+OpFaults = (own : Bytes) (op : Op) → IsProperOp op → (op_fault own op ≡ None) ↔ FaultlessOp own op
 
 -- ---- histories
 

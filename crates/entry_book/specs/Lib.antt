@@ -3,6 +3,7 @@ pub mod Batches
 pub mod Book
 pub mod Codes
 pub mod Effects
+pub mod Faultless
 pub mod History
 pub mod Lawful
 pub mod Laws

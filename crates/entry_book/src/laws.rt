@@ -3,7 +3,7 @@
 //! Each function does nothing. What it ensures is a law of the definitions, stated in `specs/Laws.antt`; a caller
 //! that calls it may rest on the law.
 
-ghost use Rattle.entry_book.specs.Laws.{AliasIsHeld, AllLawful, AllWithinLimits, AuthorisedEffect, AuthorisedInOrder, BatchKeeps, ChangesCommit, ChildIsAuthorised, ChildrenEffect, CommitAdds, CountOfBooks, CreateEffect, DeleteEffect, DropAgentEffect, DropBundleEffect, EndsOfChains, FirstFault, FullRefused, HeldIsAuthorised, HistoryBounded, HistoryGoesOn, LawfulHistory, NoFault, NoOpsRefused, NoneIsPassed, OneAnswer, OneList, OneMore, OneMoreCommits, OpRefuses, OthersDontMatter, OthersLeave, PruneEffect, QueriesAnswered, QueriesOnlyAsk, QueryWrites, RunFits, RunGoesOn, RunKeeps, RunOfNone, RunReplies, RunStops, SetAgentEffect, SetBundleEffect, ShowAgentEffect, ShowBundleEffect, ShowEffect, TooManyRefused, TrustEffect, UpdateEffect, WithinIsContains, WritesNamed, WritesOnce};
+ghost use Rattle.entry_book.specs.Laws.{AgentFaults, AliasIsHeld, AllLawful, AllWithinLimits, AuthorisedEffect, AuthorisedInOrder, BatchKeeps, BundleFaults, ChangesCommit, ChildIsAuthorised, ChildrenEffect, CommitAdds, CountOfBooks, CreateEffect, DeleteEffect, DropAgentEffect, DropBundleEffect, EndsOfChains, EntryFaults, FirstFault, FullRefused, HeldIsAuthorised, HistoryBounded, HistoryGoesOn, LawfulHistory, NoFault, NoOpsRefused, NoneIsPassed, OneAnswer, OneList, OneMore, OneMoreCommits, OpFaults, OpRefuses, OthersDontMatter, OthersLeave, PruneEffect, QueriesAnswered, QueriesOnlyAsk, QueryWrites, RunFits, RunGoesOn, RunKeeps, RunOfNone, RunReplies, RunStops, SetAgentEffect, SetBundleEffect, ShowAgentEffect, ShowBundleEffect, ShowEffect, TooManyRefused, TrustEffect, UpdateEffect, WithinIsContains, WritesNamed, WritesOnce};
 ghost use Rattle.entry_book.specs.Rows.{agent_key, bundle_key, entry_key};
 ghost use Rattle.entry_book.specs.Worked.{AliasHeld, AliasHeldWithMore, AliasNotHeld, AliasNotHeldWithNone, AliasOfAnother, CycleIsAuthorised, EmptyRefuses, FirstBatches, FreedInOneBatch, NothingKept, PrunesBefore, SequencesCount, StaleDelete};
 
@@ -59,12 +59,16 @@ pub fn runs()
     ensures keeps { RunKeeps }
 {}
 
-/// Which lists of operations are refused as a batch.
+/// Which lists of operations are refused as a batch, and what has no fault.
 pub fn faults()
     ensures no_ops { NoOpsRefused }
     ensures too_many { TooManyRefused }
     ensures first { FirstFault }
     ensures none { NoFault }
+    ensures entry { EntryFaults }
+    ensures agent { AgentFaults }
+    ensures bundle { BundleFaults }
+    ensures op { OpFaults }
 {}
 
 /// How the list of all books grows with the list of batches.
