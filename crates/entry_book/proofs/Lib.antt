@@ -25,6 +25,7 @@ pub mod Replies
 pub mod Runs
 pub mod Servers
 pub mod Sets
+pub mod Shapes
 pub mod Unfaulted
 pub mod Verdicts
 pub mod WithinLimits
