@@ -21,6 +21,7 @@ pub mod Listed
 pub mod NamedRows
 pub mod Once
 pub mod Present
+pub mod Refused
 pub mod Replies
 pub mod Runs
 pub mod Servers

@@ -126,9 +126,30 @@ EffectOf own (DropAgent k) b = DropsAgent k b
 EffectOf own (SetBundle domain text) b = SetsBundle domain text b
 EffectOf own (DropBundle domain mode) b = DropsBundle domain mode b
 
--- the effect says it all: it has one reply, and one book after it
-abbrev pub OneAnswer : Type 0
-OneAnswer = (own : Bytes) (op : Op) (b : Book) → AscendingBook b → (c d : Done) → EffectOf own op b c → EffectOf own op b d → (c.reply ≡ d.reply) × (after c.writes b ≡ after d.writes b)
+-- a refusal of an operation on a book
+abbrev pub RefusalOf : Op → Book → OpRefusal → Type 0
+RefusalOf (Create e) b = CreateRefused e b
+RefusalOf (Update e expected) b = UpdateRefused e expected b
+RefusalOf (Delete k expected) b = DeleteRefused k expected b
+RefusalOf (Show k) b = λ r. ⊥
+RefusalOf (ShowAgent k) b = λ r. ⊥
+RefusalOf (ShowBundle k) b = λ r. ⊥
+RefusalOf (Children p) b = λ r. ⊥
+RefusalOf (Authorised k) b = LacksAgent k b
+RefusalOf (Trust k) b = LacksAgent k b
+RefusalOf (Prune moment) b = λ r. ⊥
+RefusalOf (SetAgent a) b = λ r. ⊥
+RefusalOf (DropAgent k) b = LacksAgent k b
+RefusalOf (SetBundle domain text) b = λ r. ⊥
+RefusalOf (DropBundle domain mode) b = DropBundleRefused domain mode b
+
+-- the words settle the answer: an operation that has an effect is accepted, with that reply and that book after it
+abbrev pub AcceptedAsSaid : Type 0
+AcceptedAsSaid = (own : Bytes) (op : Op) (b : Book) (d : Done) → AscendingBook b → EffectOf own op b d → MatchResult (op_of own op b) (λ c. (c.reply ≡ d.reply) × (after c.writes b ≡ after d.writes b)) (λ r. ⊥)
+
+-- and on a lawful book an operation that has a refusal is refused, for that
+abbrev pub RefusedAsSaid : Type 0
+RefusedAsSaid = (own : Bytes) (most : ℕ) (op : Op) (b : Book) (r : OpRefusal) → Lawful own most b → RefusalOf op b r → op_of own op b ≡ Err r
 
 -- two writes of one row
 abbrev pub SameRow : Write → Write → Type 0

@@ -3,7 +3,7 @@
 //! Each function does nothing. What it ensures is a law of the definitions, stated in `specs/Laws.antt`; a caller
 //! that calls it may rest on the law.
 
-ghost use Rattle.entry_book.specs.Laws.{AgentFaults, AliasIsHeld, AllLawful, AllWithinLimits, AuthorisedEffect, AuthorisedInOrder, BatchKeeps, BundleFaults, ChangesCommit, ChildIsAuthorised, ChildrenEffect, CommitAdds, CountOfBooks, CreateEffect, DeleteEffect, DropAgentEffect, DropBundleEffect, EndsOfChains, EntryFaults, FirstFault, FullRefused, HeldIsAuthorised, HistoryBounded, HistoryGoesOn, LawfulHistory, NoFault, NoOpsRefused, NoneIsPassed, OneAnswer, OneList, OneMore, OneMoreCommits, OpFaults, OpRefuses, OthersDontMatter, OthersLeave, PruneEffect, QueriesAnswered, QueriesOnlyAsk, QueryWrites, RunFits, RunGoesOn, RunKeeps, RunOfNone, RunReplies, RunStops, SetAgentEffect, SetBundleEffect, ShowAgentEffect, ShowBundleEffect, ShowEffect, TooManyRefused, TrustEffect, UpdateEffect, WithinIsContains, WritesNamed, WritesOnce};
+ghost use Rattle.entry_book.specs.Laws.{AcceptedAsSaid, AgentFaults, AliasIsHeld, AllLawful, AllWithinLimits, AuthorisedEffect, AuthorisedInOrder, BatchKeeps, BundleFaults, ChangesCommit, ChildIsAuthorised, ChildrenEffect, CommitAdds, CountOfBooks, CreateEffect, DeleteEffect, DropAgentEffect, DropBundleEffect, EndsOfChains, EntryFaults, FirstFault, FullRefused, HeldIsAuthorised, HistoryBounded, HistoryGoesOn, LawfulHistory, NoFault, NoOpsRefused, NoneIsPassed, OneList, OneMore, OneMoreCommits, OpFaults, OpRefuses, OthersDontMatter, OthersLeave, PruneEffect, QueriesAnswered, QueriesOnlyAsk, QueryWrites, RefusedAsSaid, RunFits, RunGoesOn, RunKeeps, RunOfNone, RunReplies, RunStops, SetAgentEffect, SetBundleEffect, ShowAgentEffect, ShowBundleEffect, ShowEffect, TooManyRefused, TrustEffect, UpdateEffect, WithinIsContains, WritesNamed, WritesOnce};
 ghost use Rattle.entry_book.specs.Rows.{agent_key, bundle_key, entry_key};
 ghost use Rattle.entry_book.specs.Worked.{AliasHeld, AliasHeldWithMore, AliasNotHeld, AliasNotHeldWithNone, AliasOfAnother, CycleIsAuthorised, EmptyRefuses, FirstBatches, FreedInOneBatch, NothingKept, PrunesBefore, SequencesCount, StaleDelete};
 
@@ -26,8 +26,8 @@ pub fn authorised_entries()
     ensures others { OthersDontMatter }
 {}
 
-/// When each operation is refused, and which rows stand in the book after it. It writes the rows that it names, each
-/// once, and no other.
+/// When each operation is refused, what it replies, and which rows stand in the book after it, in direct words, and that
+/// these words settle the answer. It writes the rows that it names, each once, and no other.
 pub fn effects()
     ensures create { CreateEffect }
     ensures update { UpdateEffect }
@@ -43,7 +43,8 @@ pub fn effects()
     ensures drop_agent { DropAgentEffect }
     ensures set_bundle { SetBundleEffect }
     ensures drop_bundle { DropBundleEffect }
-    ensures determined { OneAnswer }
+    ensures accepted { AcceptedAsSaid }
+    ensures refused { RefusedAsSaid }
     ensures once { WritesOnce }
     ensures named { WritesNamed }
 {}
