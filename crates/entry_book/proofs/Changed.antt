@@ -130,21 +130,6 @@ gone_keyed e = tt
 freed_keyed : (domain : Bytes) (e : Entry) → IfSome (Some (dissociated domain e)) (λ x. x.id ≡ e.id)
 freed_keyed domain e = refl
 
-passing : (p : Entry → Bool) (b : Book) (e : Entry) → Within (filter p b.entries) e → Within b.entries e
-passing p b e w = (from_within_filter p b.entries e w).0
-
-pub removed_fit : (p : Entry → Bool) (b : Book) → AscendingBook b → FitAll (map removed (filter p b.entries)) b
-removed_fit p b a = rewritten_fits gone gone_keyed (filter p b.entries) b a.entries (ascending_filter entry_key p b.entries a.entries) (passing p b)
-
-pub freed_fit : (domain : Bytes) (p : Entry → Bool) (b : Book) → AscendingBook b → FitAll (map (freed domain) (filter p b.entries)) b
-freed_fit domain p b a = rewritten_fits (λ e. Some (dissociated domain e)) (freed_keyed domain) (filter p b.entries) b a.entries (ascending_filter entry_key p b.entries a.entries) (passing p b)
-
-pub removed_then_fit : (p : Entry → Bool) (d : Bundle) (b : Book) → AscendingBook b → Within b.bundles d → FitAll (map removed (filter p b.entries) ++ bundle_removed d ∷ []) b
-removed_then_fit p d b a w = rewritten_then_fits gone gone_keyed (filter p b.entries) d b a (ascending_filter entry_key p b.entries a.entries) (passing p b) w
-
-pub freed_then_fit : (domain : Bytes) (p : Entry → Bool) (d : Bundle) (b : Book) → AscendingBook b → Within b.bundles d → FitAll (map (freed domain) (filter p b.entries) ++ bundle_removed d ∷ []) b
-freed_then_fit domain p d b a w = rewritten_then_fits (λ e. Some (dissociated domain e)) (freed_keyed domain) (filter p b.entries) d b a (ascending_filter entry_key p b.entries a.entries) (passing p b) w
-
 -- an entry that none of those that pass has the id of doesn't pass, and an entry that doesn't pass has no id of theirs
 fails : (p : Entry → Bool) (b : Book) (x : Entry) → Within b.entries x → Untouched (filter p b.entries) x → p x ≡ false
 fails p b x w n = ⊎_elim (λ t. absurd (n x (within_filter p b.entries x w t) refl)) (λ t. t) (cases_Bool (p x))

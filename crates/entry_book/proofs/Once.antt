@@ -1,26 +1,22 @@
 -- The writes of one operation are of different rows, so each finds its row as the operation found it.
-use Rattle.std.proofs.Common.{◌≡◌, ◌≢◌, ℕ, ◌+◌, Bool, true, false, List, [], ◌∷◌, ◌++◌, Option, Some, None, Ok, Err, refl, sym, ap, ◌∙◌, inl, inr, ⊎_elim, IfSome, IfOk}
+use Rattle.std.proofs.Common.{◌≡◌, ◌≢◌, Bool, List, [], ◌∷◌, ◌++◌, Option, Some, None, refl, sym, ap, ◌∙◌, inl, inr, ⊎_elim, IfSome, IfOk}
 use Rattle.std.specs.Prelude.{filter, map, bytes_eq}
 use Rattle.std.specs.List.{AllByRecursion}
 use Rattle.std.proofs.lemmas.Bool.{cases_Bool}
-use Rattle.entry_book.specs.declared.agent.Agent.{Agent}
 use Rattle.entry_book.specs.declared.bundle.Bundle.{Bundle}
-use Rattle.entry_book.specs.declared.entry.NewEntry.{NewEntry}
-use Rattle.entry_book.specs.declared.mode.DropMode.{DropMode}
-use Rattle.entry_book.specs.declared.mode.DropMode.TheVariants as mode
 use Rattle.entry_book.specs.declared.op.Op.{Op}
-use Rattle.entry_book.specs.declared.op.Op.TheVariants.{Create, Update, Delete, Show, ShowAgent, ShowBundle, Children, Authorised, Trust, Prune, SetAgent, DropAgent, SetBundle, DropBundle}
-use Rattle.entry_book.specs.Rows.{Bytes, Entry, at_revision, entry_key, agent_key, bundle_key}
+use Rattle.entry_book.specs.Rows.{Bytes, Entry, entry_key, agent_key, bundle_key}
 use Rattle.entry_book.specs.Order.{Within, Ascending, with_row}
-use Rattle.entry_book.specs.Book.{Book, AscendingBook, entry_at, agent_at, bundle_at, names, users_of, expires_before, expired_before}
+use Rattle.entry_book.specs.Book.{Book, AscendingBook}
 use Rattle.entry_book.specs.Writes.{Change, Write, wrote_entry, wrote_agent, wrote_bundle, FitsRows, FitsBook, FitAll, after_write}
-use Rattle.entry_book.specs.Ops.{Answer, similar, lacking, put_named, put_beside, create_over, is_stale, update_when, update_over, delete_when, delete_over, for_agent, bundle_removed, dissociated, drop_in, drop_over, op_of}
+use Rattle.entry_book.specs.Ops.{Done, bundle_removed, op_of}
 use Rattle.entry_book.specs.Laws.{SameRow, DifferentRows}
 use Rattle.entry_book.proofs.Changed.{apart, rewritten}
 use Rattle.entry_book.proofs.Filters.{kept, filter-with_row}
-use Rattle.entry_book.proofs.Fits.{in_order, op_fits}
+use Rattle.entry_book.proofs.Fits.{in_order, shape_fits}
 use Rattle.entry_book.proofs.Keys.{without_none}
 use Rattle.entry_book.proofs.Sets.{All-more, ascending_filter, from_within_filter, text_is}
+use Rattle.entry_book.proofs.Shapes.{Shape, nothing, one_row, entries, entries_then, by_shape}
 
 -- ---- what a write leaves of the rows at another key
 
@@ -81,73 +77,14 @@ then_bundle f es d a = one_more (map (rewritten f) es) (bundle_removed d) (rewri
 
 -- ---- each operation
 
-abbrev OnceAnswer : Answer → Type 0
-OnceAnswer o = IfOk o (λ d. DifferentRows d.writes)
+shape_once : (op : Op) (b : Book) (d : Done) → AscendingBook b → Shape op b d → DifferentRows d.writes
+shape_once op b d a (nothing h n) = rw h tt
+shape_once op b d a (one_row w f h n) = rw h (tt, tt)
+shape_once op b d a (entries f k p h n) = rw h (rewritten_once f (filter p b.entries) (ascending_filter entry_key p b.entries a.entries))
+shape_once op b d a (entries_then f k p x w h n) = rw h (then_bundle f (filter p b.entries) x (ascending_filter entry_key p b.entries a.entries))
 
-named_once : (old : Option Entry) (e : Entry) (q : Option Bytes) → OnceAnswer (put_named q old e)
-named_once old e (Some d) = tt
-named_once old e None = (tt, tt)
-
-beside_once : (old : Option Entry) (e : Entry) (b : Book) (p : Option Entry) → OnceAnswer (put_beside p old e b)
-beside_once old e b (Some o) = tt
-beside_once old e b None = named_once old e (lacking e.domains b)
-
-create_once : (e : Entry) (b : Book) (o : Option Entry) → OnceAnswer (create_over o e b)
-create_once e b (Some o) = tt
-create_once e b None = beside_once None e b (similar e b)
-
-update_once_when : (e : NewEntry) (old : Entry) (b : Book) (stale : Bool) → OnceAnswer (update_when stale old e b)
-update_once_when e old b true = tt
-update_once_when e old b false = beside_once (Some old) (at_revision (old.revision + 1) e) b (similar (at_revision (old.revision + 1) e) b)
-
-update_once : (e : NewEntry) (expected : Option ℕ) (b : Book) (o : Option Entry) → OnceAnswer (update_over o e expected b)
-update_once e expected b None = tt
-update_once e expected b (Some old) = update_once_when e old b (is_stale expected old)
-
-delete_once_when : (e : Entry) (stale : Bool) → OnceAnswer (delete_when stale e)
-delete_once_when e true = tt
-delete_once_when e false = (tt, tt)
-
-delete_once : (expected : Option ℕ) (o : Option Entry) → OnceAnswer (delete_over o expected)
-delete_once expected None = tt
-delete_once expected (Some e) = delete_once_when e (is_stale expected e)
-
-read_once : (o : Option Agent) (f : Agent → Answer) → ((a : Agent) → OnceAnswer (f a)) → OnceAnswer (for_agent o f)
-read_once None f h = tt
-read_once (Some a) f h = h a
-
-restrict_once : (d : Bundle) (es : List Entry) → OnceAnswer (drop_in mode.Restrict es d)
-restrict_once d [] = (tt, tt)
-restrict_once d (e ∷ es) = tt
-
-mode_once : (m : DropMode) (d : Bundle) (es : List Entry) → Ascending entry_key es → OnceAnswer (drop_in m es d)
-mode_once mode.Restrict d es a = restrict_once d es
-mode_once mode.Delete d es a = then_bundle (λ e. None) es d a
-mode_once mode.Dissociate d es a = then_bundle (λ e. Some (dissociated d.domain e)) es d a
-
-drop_once : (domain : Bytes) (m : DropMode) (b : Book) → AscendingBook b → (o : Option Bundle) → OnceAnswer (drop_over o domain m b)
-drop_once domain m b a None = tt
-drop_once domain m b a (Some d) = mode_once m d (users_of d.domain b) (ascending_filter entry_key (names d.domain) b.entries a.entries)
-
-op_once : (own : Bytes) (op : Op) (b : Book) → AscendingBook b → OnceAnswer (op_of own op b)
-op_once own (Create e) b a = create_once (at_revision 0 e) b (entry_at e.id b)
-op_once own (Update e expected) b a = update_once e expected b (entry_at e.id b)
-op_once own (Delete k expected) b a = delete_once expected (entry_at k b)
-op_once own (Show k) b a = tt
-op_once own (ShowAgent k) b a = tt
-op_once own (ShowBundle k) b a = tt
-op_once own (Children p) b a = tt
-op_once own (Authorised k) b a = read_once (agent_at k b) _ (λ x. tt)
-op_once own (Trust k) b a = read_once (agent_at k b) _ (λ x. tt)
-op_once own (Prune moment) b a = rewritten_once (λ e. None) (expired_before moment b) (ascending_filter entry_key (expires_before moment) b.entries a.entries)
-op_once own (SetAgent x) b a = (tt, tt)
-op_once own (DropAgent k) b a = read_once (agent_at k b) _ (λ x. (tt, tt))
-op_once own (SetBundle domain text) b a = (tt, tt)
-op_once own (DropBundle domain m) b a = drop_once domain m b a (bundle_at domain b)
-
-both : (o : Answer) (b : Book) → AscendingBook b → OnceAnswer o → IfOk o (λ d. FitAll d.writes b) → IfOk o (λ d. DifferentRows d.writes × AllByRecursion (λ w. FitsBook w b) d.writes)
-both (Ok d) b a h f = (h, fit_as_found d.writes b a h f)
-both (Err r) b a h f = tt
+both : (op : Op) (b : Book) (d : Done) → AscendingBook b → Shape op b d → DifferentRows d.writes × AllByRecursion (λ w. FitsBook w b) d.writes
+both op b d a s = let n = shape_once op b d a s in (n, fit_as_found d.writes b a n (shape_fits op b d a s))
 
 pub writes_once : (own : Bytes) (op : Op) (b : Book) → AscendingBook b → IfOk (op_of own op b) (λ d. DifferentRows d.writes × AllByRecursion (λ w. FitsBook w b) d.writes)
-writes_once own op b a = both (op_of own op b) b a (op_once own op b a) (op_fits own op b a)
+writes_once own op b a = by_shape own op b (λ d. DifferentRows d.writes × AllByRecursion (λ w. FitsBook w b) d.writes) (λ d s. both op b d a s)

@@ -1,4 +1,4 @@
--- What each operation comes to, in direct words: when each refusal is due, and which rows stand in the book after. Laws of this crate say that the plain op does just this, on every book whose rows are in order.
+-- What each operation comes to, in direct words: when each refusal is due, and which rows stand in the book after. Laws of this crate say that the plain op does just this, on every book whose rows are in order, and that these words settle what it does.
 use Rattle.std.specs.Prelude.{◌≡◌, ◌≢◌, ◌⊎◌, ◌↔◌, ⊤, ℕ, ◌+◌, ◌<◌, not, List, [], ◌∷◌, ◌++◌, filter, map, Option, Some, None, bytes_eq}
 use Rattle.std.specs.List.{AllByRecursion}
 use Rattle.entry_book.specs.declared.agent.Agent.{Agent}

@@ -1,5 +1,5 @@
 -- The laws of the book. Each is a clause of a function of the module `laws`.
-use Rattle.std.specs.Prelude.{◌≡◌, ◌↔◌, ◌⊎◌, ℕ, ◌+◌, ◌*◌, ◌<◌, ◌≤◌, true, false, List, [], ◌∷◌, ◌++◌, length, Option, Some, None, Ok, Err, IfOk, MatchResult, slice_get, Contains, ⊤}
+use Rattle.std.specs.Prelude.{◌≡◌, ◌↔◌, ◌⊎◌, ℕ, ◌+◌, ◌*◌, ◌<◌, ◌≤◌, true, false, List, [], ◌∷◌, ◌++◌, length, map, Option, Some, None, Ok, Err, IfOk, MatchResult, slice_get, Contains, ⊤}
 use Rattle.std.specs.List.{AllByRecursion}
 use Rattle.spiffe_name.specs.Id.{server_text}
 use Rattle.entry_book.specs.declared.agent.Agent.{Agent}
@@ -15,16 +15,18 @@ use Rattle.entry_book.specs.declared.reply.OpRefusal.{OpRefusal}
 use Rattle.entry_book.specs.declared.reply.Outcome.TheVariants.{Committed, Answered, Refused}
 use Rattle.entry_book.specs.declared.reply.Refusal.TheVariants.{OfOp, Full}
 use Rattle.entry_book.specs.declared.reply.Reply.{Reply}
-use Rattle.entry_book.specs.Rows.{Bytes, Entry, entry_key, agent_key, bundle_key}
+use Rattle.entry_book.specs.Rows.{Bytes, Entry, entry_key, agent_key, bundle_key, IsProperEntry, IsProperAgent}
 use Rattle.entry_book.specs.Order.{Within, Ascending}
 use Rattle.entry_book.specs.Book.{Book, AscendingBook}
 use Rattle.entry_book.specs.Writes.{Write, wrote_entry, wrote_agent, wrote_bundle, after, FitsBook, FitAll}
+use Rattle.entry_book.specs.NamedRows.{row_written, rows_named}
 use Rattle.entry_book.specs.Authorised.{authorised, EndsChain, Holds}
-use Rattle.entry_book.specs.Ops.{op_of}
+use Rattle.entry_book.specs.Ops.{Done, op_of}
 use Rattle.entry_book.specs.Runs.{Ran, Stop, run}
 use Rattle.entry_book.specs.Effects.{Creates, CreateRefused, Updates, UpdateRefused, Deletes, DeleteRefused, Shows, ListsChildren, ListsAuthorised, ListsTrust, LacksAgent, Prunes, SetsAgent, DropsAgent, SetsBundle, DropsBundle, DropBundleRefused}
 use Rattle.entry_book.specs.Limits.{limit_passed}
-use Rattle.entry_book.specs.Batches.{Batch, IsMadeFor, IsProperOp, is_query, op_fault, batch_refusal}
+use Rattle.entry_book.specs.Batches.{Batch, IsMadeFor, IsProperOp, is_query, entry_fault, agent_fault, bundle_fault, op_fault, batch_refusal}
+use Rattle.entry_book.specs.Faultless.{FaultlessEntry, FaultlessAgent, FaultlessBundle, FaultlessOp}
 use Rattle.entry_book.specs.History.{PlainState, Stands, IsHistory, CommitAll, first_books, last_book, place_of, books_after, books_of, commits, reply_to}
 use Rattle.entry_book.specs.Lawful.{Lawful}
 
@@ -33,6 +35,10 @@ use Rattle.entry_book.specs.Lawful.{Lawful}
 -- to be within a list is to stand at some place of it
 abbrev pub WithinIsContains : Type 0
 WithinIsContains = (xs : List Bytes) (x : Bytes) → Within xs x ↔ Contains xs x
+
+-- rows in order with the same members are one list
+abbrev pub OneList : {X : Type 0} → (X → Bytes) → Type 0
+OneList {X} key = (xs ys : List X) → Ascending key xs → Ascending key ys → ((x : X) → Within xs x ↔ Within ys x) → xs ≡ ys
 
 -- ---- authorised entries
 
@@ -103,6 +109,48 @@ SetBundleEffect = (own : Bytes) (domain text : Bytes) (b : Book) → AscendingBo
 abbrev pub DropBundleEffect : Type 0
 DropBundleEffect = (own : Bytes) (domain : Bytes) (mode : DropMode) (b : Book) → AscendingBook b → MatchResult (op_of own (DropBundle domain mode) b) (DropsBundle domain mode b) (DropBundleRefused domain mode b)
 
+-- the effect of an operation on a book
+abbrev pub EffectOf : Bytes → Op → Book → Done → Type 0
+EffectOf own (Create e) b = Creates e b
+EffectOf own (Update e expected) b = Updates e expected b
+EffectOf own (Delete k expected) b = Deletes k expected b
+EffectOf own (Show k) b = Shows entry_key b.entries replied.EntryShown k
+EffectOf own (ShowAgent k) b = Shows agent_key b.agents replied.AgentShown k
+EffectOf own (ShowBundle k) b = Shows bundle_key b.bundles replied.BundleShown k
+EffectOf own (Children p) b = ListsChildren p b
+EffectOf own (Authorised k) b = ListsAuthorised (server_text own) k b
+EffectOf own (Trust k) b = ListsTrust (server_text own) k b
+EffectOf own (Prune moment) b = Prunes moment b
+EffectOf own (SetAgent a) b = SetsAgent a b
+EffectOf own (DropAgent k) b = DropsAgent k b
+EffectOf own (SetBundle domain text) b = SetsBundle domain text b
+EffectOf own (DropBundle domain mode) b = DropsBundle domain mode b
+
+-- a refusal of an operation on a book
+abbrev pub RefusalOf : Op → Book → OpRefusal → Type 0
+RefusalOf (Create e) b = CreateRefused e b
+RefusalOf (Update e expected) b = UpdateRefused e expected b
+RefusalOf (Delete k expected) b = DeleteRefused k expected b
+RefusalOf (Show k) b = λ r. ⊥
+RefusalOf (ShowAgent k) b = λ r. ⊥
+RefusalOf (ShowBundle k) b = λ r. ⊥
+RefusalOf (Children p) b = λ r. ⊥
+RefusalOf (Authorised k) b = LacksAgent k b
+RefusalOf (Trust k) b = LacksAgent k b
+RefusalOf (Prune moment) b = λ r. ⊥
+RefusalOf (SetAgent a) b = λ r. ⊥
+RefusalOf (DropAgent k) b = LacksAgent k b
+RefusalOf (SetBundle domain text) b = λ r. ⊥
+RefusalOf (DropBundle domain mode) b = DropBundleRefused domain mode b
+
+-- the words settle the answer: an operation that has an effect is accepted, with that reply and that book after it
+abbrev pub AcceptedAsSaid : Type 0
+AcceptedAsSaid = (own : Bytes) (op : Op) (b : Book) (d : Done) → AscendingBook b → EffectOf own op b d → MatchResult (op_of own op b) (λ c. (c.reply ≡ d.reply) × (after c.writes b ≡ after d.writes b)) (λ r. ⊥)
+
+-- and on a lawful book an operation that has a refusal is refused, for that
+abbrev pub RefusedAsSaid : Type 0
+RefusedAsSaid = (own : Bytes) (most : ℕ) (op : Op) (b : Book) (r : OpRefusal) → Lawful own most b → RefusalOf op b r → op_of own op b ≡ Err r
+
 -- two writes of one row
 abbrev pub SameRow : Write → Write → Type 0
 SameRow (wrote_entry c) (wrote_entry d) = c.key ≡ d.key
@@ -123,6 +171,10 @@ DifferentRows (w ∷ ws) = AllByRecursion (λ v. SameRow w v → ⊥) ws × Diff
 -- an operation writes each row once, so that each write finds its row as the operation found it
 abbrev pub WritesOnce : Type 0
 WritesOnce = (own : Bytes) (op : Op) (b : Book) → AscendingBook b → IfOk (op_of own op b) (λ d. DifferentRows d.writes × AllByRecursion (λ w. FitsBook w b) d.writes)
+
+-- an operation writes the rows that it names, in this order, and no other row
+abbrev pub WritesNamed : Type 0
+WritesNamed = (own : Bytes) (op : Op) (b : Book) → IfOk (op_of own op b) (λ d. map row_written d.writes ≡ rows_named op b)
 
 -- ---- the run of a batch
 
@@ -189,6 +241,19 @@ FirstFault = (domain : Bytes) (ops : List Op) (n : ℕ) (f : OpFault) → (batch
 -- a list that isn't refused has 1 to 64 operations, none of which has a fault
 abbrev pub NoFault : Type 0
 NoFault = (domain : Bytes) (ops : List Op) → (batch_refusal domain ops ≡ None) ↔ ((0 < length ops) × (length ops ≤ 64) × AllByRecursion (λ op. op_fault domain op ≡ None) ops)
+
+-- a new entry, an agent, a bundle and an operation have no fault where they are what the direct words say
+abbrev pub EntryFaults : Type 0
+EntryFaults = (own : Bytes) (e : NewEntry) → IsProperEntry e → (entry_fault own e ≡ None) ↔ FaultlessEntry own e
+
+abbrev pub AgentFaults : Type 0
+AgentFaults = (own : Bytes) (a : Agent) → IsProperAgent a → (agent_fault own a ≡ None) ↔ FaultlessAgent own a
+
+abbrev pub BundleFaults : Type 0
+BundleFaults = (own domain text : Bytes) → (bundle_fault own domain text ≡ None) ↔ FaultlessBundle own domain text
+
+abbrev pub OpFaults : Type 0
+OpFaults = (own : Bytes) (op : Op) → IsProperOp op → (op_fault own op ≡ None) ↔ FaultlessOp own op
 
 -- ---- histories
 
@@ -265,3 +330,7 @@ LawfulHistory = (own : Bytes) (books : List Book) → IsHistory own books → (n
 -- so is each book that a plain book stands for
 abbrev pub AllLawful : Type 0
 AllLawful = (state : PlainState) (books : List Book) → Stands state books → (n : ℕ) (b : Book) → slice_get books n ≡ Some b → Lawful state.domain (64 * n) b
+
+-- a batch that is accepted on a book lawful as book n leaves a book lawful as book n + 1
+abbrev pub BatchKeeps : Type 0
+BatchKeeps = (own : Bytes) (batch : Batch) (n : ℕ) (b : Book) → IsMadeFor own batch → Lawful own (64 * n) b → IfOk (run batch.domain batch.ops b) (λ t. Lawful own (64 * (n + 1)) (after t.writes b))

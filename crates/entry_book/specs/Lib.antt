@@ -3,10 +3,12 @@ pub mod Batches
 pub mod Book
 pub mod Codes
 pub mod Effects
+pub mod Faultless
 pub mod History
 pub mod Lawful
 pub mod Laws
 pub mod Limits
+pub mod NamedRows
 pub mod Ops
 pub mod Order
 pub mod Rows

@@ -3,12 +3,16 @@
 //! Each function does nothing. What it ensures is a law of the definitions, stated in `specs/Laws.antt`; a caller
 //! that calls it may rest on the law.
 
-ghost use Rattle.entry_book.specs.Laws.{AliasIsHeld, AllLawful, AllWithinLimits, AuthorisedEffect, AuthorisedInOrder, ChangesCommit, ChildIsAuthorised, ChildrenEffect, CommitAdds, CountOfBooks, CreateEffect, DeleteEffect, DropAgentEffect, DropBundleEffect, EndsOfChains, FirstFault, FullRefused, HeldIsAuthorised, HistoryBounded, HistoryGoesOn, LawfulHistory, NoFault, NoOpsRefused, NoneIsPassed, OneMore, OneMoreCommits, OpRefuses, OthersDontMatter, OthersLeave, PruneEffect, QueriesAnswered, QueriesOnlyAsk, QueryWrites, RunFits, RunGoesOn, RunKeeps, RunOfNone, RunReplies, RunStops, SetAgentEffect, SetBundleEffect, ShowAgentEffect, ShowBundleEffect, ShowEffect, TooManyRefused, TrustEffect, UpdateEffect, WithinIsContains, WritesOnce};
+ghost use Rattle.entry_book.specs.Laws.{AcceptedAsSaid, AgentFaults, AliasIsHeld, AllLawful, AllWithinLimits, AuthorisedEffect, AuthorisedInOrder, BatchKeeps, BundleFaults, ChangesCommit, ChildIsAuthorised, ChildrenEffect, CommitAdds, CountOfBooks, CreateEffect, DeleteEffect, DropAgentEffect, DropBundleEffect, EndsOfChains, EntryFaults, FirstFault, FullRefused, HeldIsAuthorised, HistoryBounded, HistoryGoesOn, LawfulHistory, NoFault, NoOpsRefused, NoneIsPassed, OneList, OneMore, OneMoreCommits, OpFaults, OpRefuses, OthersDontMatter, OthersLeave, PruneEffect, QueriesAnswered, QueriesOnlyAsk, QueryWrites, RefusedAsSaid, RunFits, RunGoesOn, RunKeeps, RunOfNone, RunReplies, RunStops, SetAgentEffect, SetBundleEffect, ShowAgentEffect, ShowBundleEffect, ShowEffect, TooManyRefused, TrustEffect, UpdateEffect, WithinIsContains, WritesNamed, WritesOnce};
+ghost use Rattle.entry_book.specs.Rows.{agent_key, bundle_key, entry_key};
 ghost use Rattle.entry_book.specs.Worked.{AliasHeld, AliasHeldWithMore, AliasNotHeld, AliasNotHeldWithNone, AliasOfAnother, CycleIsAuthorised, EmptyRefuses, FirstBatches, FreedInOneBatch, NothingKept, PrunesBefore, SequencesCount, StaleDelete};
 
-/// To be within a list is to stand at some place of it.
+/// To be within a list is to stand at some place of it, and members and order make a list of rows.
 pub fn membership()
-    ensures { WithinIsContains }
+    ensures contains { WithinIsContains }
+    ensures entries { OneList entry_key }
+    ensures agents { OneList agent_key }
+    ensures bundles { OneList bundle_key }
 {}
 
 /// The authorised entries are the book's entries in which some chain for the agent ends, each once, in the order of
@@ -22,7 +26,8 @@ pub fn authorised_entries()
     ensures others { OthersDontMatter }
 {}
 
-/// When each operation is refused, and which rows stand in the book after it. It writes each row once.
+/// When each operation is refused, what it replies, and which rows stand in the book after it, in direct words, and that
+/// these words settle the answer. It writes the rows that it names, each once, and no other.
 pub fn effects()
     ensures create { CreateEffect }
     ensures update { UpdateEffect }
@@ -38,7 +43,10 @@ pub fn effects()
     ensures drop_agent { DropAgentEffect }
     ensures set_bundle { SetBundleEffect }
     ensures drop_bundle { DropBundleEffect }
+    ensures accepted { AcceptedAsSaid }
+    ensures refused { RefusedAsSaid }
     ensures once { WritesOnce }
+    ensures named { WritesNamed }
 {}
 
 /// What the run of a batch's operations comes to.
@@ -52,12 +60,16 @@ pub fn runs()
     ensures keeps { RunKeeps }
 {}
 
-/// Which lists of operations are refused as a batch.
+/// Which lists of operations are refused as a batch, and what has no fault.
 pub fn faults()
     ensures no_ops { NoOpsRefused }
     ensures too_many { TooManyRefused }
     ensures first { FirstFault }
     ensures none { NoFault }
+    ensures entry { EntryFaults }
+    ensures agent { AgentFaults }
+    ensures bundle { BundleFaults }
+    ensures op { OpFaults }
 {}
 
 /// How the list of all books grows with the list of batches.
@@ -78,10 +90,12 @@ pub fn histories()
     ensures goes_on { HistoryGoesOn }
 {}
 
-/// Every book of a history is lawful, and so is every book that a plain book stands for.
+/// Every book of a history is lawful, and so is every book that a plain book stands for: an accepted batch keeps a book
+/// lawful.
 pub fn lawful_books()
     ensures history { LawfulHistory }
     ensures stands { AllLawful }
+    ensures batch { BatchKeeps }
 {}
 
 /// The worked books of `specs/Worked.antt`: a cycle of parents ends, and an alias is held by an agent that has all of

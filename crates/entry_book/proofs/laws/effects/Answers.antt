@@ -2,7 +2,9 @@ use Rattle.entry_book.proofs.EffectsOfBundles.{drop_bundle_effect}
 use Rattle.entry_book.proofs.EffectsOfEntries.{create_effect, update_effect, delete_effect}
 use Rattle.entry_book.proofs.EffectsOfQuestions.{show_effect, show_agent_effect, show_bundle_effect, children_effect, authorised_effect, trust_effect}
 use Rattle.entry_book.proofs.EffectsOfRows.{prune_effect, set_agent_effect, drop_agent_effect, set_bundle_effect}
+use Rattle.entry_book.proofs.NamedRows.{writes_named}
 use Rattle.entry_book.proofs.Once.{writes_once}
+use Rattle.entry_book.proofs.Refused.{accepted_as_said, refused_as_said}
 use Rattle.entry_book.proofs.laws.effects.Goals as goal
 
 pub returns-clause-create : goal.returns-clause-create
@@ -47,5 +49,14 @@ returns-clause-set_bundle c = set_bundle_effect
 pub returns-clause-drop_bundle : goal.returns-clause-drop_bundle
 returns-clause-drop_bundle c = drop_bundle_effect
 
+pub returns-clause-accepted : goal.returns-clause-accepted
+returns-clause-accepted c = accepted_as_said
+
+pub returns-clause-refused : goal.returns-clause-refused
+returns-clause-refused c = refused_as_said
+
 pub returns-clause-once : goal.returns-clause-once
 returns-clause-once c = writes_once
+
+pub returns-clause-named : goal.returns-clause-named
+returns-clause-named c = writes_named

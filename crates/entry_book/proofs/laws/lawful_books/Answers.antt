@@ -1,4 +1,4 @@
-use Rattle.entry_book.proofs.Histories.{all_lawful, lawful_history}
+use Rattle.entry_book.proofs.Histories.{all_lawful, batch_keeps, lawful_history}
 use Rattle.entry_book.proofs.laws.lawful_books.Goals as goal
 
 pub returns-clause-history : goal.returns-clause-history
@@ -6,3 +6,6 @@ returns-clause-history c = lawful_history
 
 pub returns-clause-stands : goal.returns-clause-stands
 returns-clause-stands c = all_lawful
+
+pub returns-clause-batch : goal.returns-clause-batch
+returns-clause-batch c = batch_keeps

@@ -1,7 +1,8 @@
-use Rattle.std.proofs.Common.{◌≡◌, ℕ, zero, suc, ◌<◌, List, [], ◌∷◌, length, get_or, inl, inr, ⊎_elim, arith}
+use Rattle.std.proofs.Common.{◌≡◌, ◌↔◌, ℕ, zero, suc, ◌<◌, List, [], ◌∷◌, length, get_or, inl, inr, ⊎_elim, arith}
 use Rattle.std.specs.List.{Contains}
-use Rattle.entry_book.specs.Rows.{Bytes}
-use Rattle.entry_book.specs.Order.{Within}
+use Rattle.entry_book.specs.Rows.{Bytes, entry_key, agent_key, bundle_key}
+use Rattle.entry_book.specs.Order.{Within, Ascending}
+use Rattle.entry_book.proofs.Sets.{same_sets}
 use Rattle.entry_book.proofs.laws.membership.Goals as goal
 
 contains : (xs : List Bytes) (x : Bytes) → Within xs x → Contains xs x
@@ -13,5 +14,17 @@ within [] x k l e = absurd (omega arith)
 within (y ∷ ys) x zero l e = inl e
 within (y ∷ ys) x (suc k) l e = inr (within ys x k (omega arith) e)
 
-pub returns : goal.returns
-returns c = λ xs x. (contains xs x, λ h. within xs x h.0 h.1 h.2)
+pub returns-clause-contains : goal.returns-clause-contains
+returns-clause-contains c = λ xs x. (contains xs x, λ h. within xs x h.0 h.1 h.2)
+
+one_list : {X : Type 0} (key : X → Bytes) (xs ys : List X) → Ascending key xs → Ascending key ys → ((x : X) → Within xs x ↔ Within ys x) → xs ≡ ys
+one_list key xs ys a b f = same_sets key xs ys a b (λ x. (f x).0) (λ x. (f x).1)
+
+pub returns-clause-entries : goal.returns-clause-entries
+returns-clause-entries c = one_list entry_key
+
+pub returns-clause-agents : goal.returns-clause-agents
+returns-clause-agents c = one_list agent_key
+
+pub returns-clause-bundles : goal.returns-clause-bundles
+returns-clause-bundles c = one_list bundle_key

@@ -1,0 +1,154 @@
+-- What has no fault is what the direct words say.
+use Rattle.std.proofs.Common.{◌≡◌, ◌≢◌, ◌↔◌, ℕ, ◌<◌, ◌≤◌, Bool, true, false, not, ◌||◌, cond, ◌==◌, List, [], ◌∷◌, length, Option, Some, None, refl, ap, arith}
+use Rattle.std.specs.Prelude.{⊤, bytes_eq, nat_lt}
+use Rattle.std.proofs.lemmas.Bool.{both_ways, false_from_ne_true}
+use Rattle.std.proofs.lemmas.Bool.Decides.{nat_tests}
+use Rattle.spiffe_name.specs.Id.{server_text}
+use Rattle.spiffe_name.specs.Selector.{SelectorPair}
+use Rattle.entry_book.specs.declared.agent.Agent.{Agent}
+use Rattle.entry_book.specs.declared.entry.NewEntry.{NewEntry}
+use Rattle.entry_book.specs.declared.fault.OpFault.{OpFault}
+use Rattle.entry_book.specs.declared.op.Op.{Op}
+use Rattle.entry_book.specs.declared.op.Op.TheVariants.{Create, Update, Delete, Show, ShowAgent, ShowBundle, Children, Authorised, Trust, Prune, SetAgent, DropAgent, SetBundle, DropBundle}
+use Rattle.entry_book.specs.Rows.{Bytes, IsId, IsProperEntry, IsProperAgent}
+use Rattle.entry_book.specs.Faultless.{IsIdOf, IsAgentIdOf, FaultlessEntry, FaultlessAgent, FaultlessBundle, FaultlessOp}
+use Rattle.entry_book.specs.Batches.{entry_fault, parent_fault, asked_fault, agent_fault, own_fault, bundle_fault, op_fault, is_outside, IsProperOp}
+use Rattle.entry_book.proofs.Ids.{not_false, id_of, from_id_of, agent_id_of, from_agent_id_of}
+use Rattle.entry_book.proofs.Sets.{text_is, text_same}
+
+-- ---- one line of a table
+
+passes : (b : Bool) (f : OpFault) (later : Option OpFault) → cond b (Some f) later ≡ None → (b ≡ false) × (later ≡ None)
+passes true f later h = cc
+passes false f later h = (refl, h)
+
+passed : (b : Bool) (f : OpFault) (later : Option OpFault) → b ≡ false → later ≡ None → cond b (Some f) later ≡ None
+passed b f later h k = rw h k
+
+neither : (a b : Bool) → (a || b) ≡ false → (a ≡ false) × (b ≡ false)
+neither true b h = cc
+neither false b h = (refl, h)
+
+not_either : (a b : Bool) → a ≡ false → b ≡ false → (a || b) ≡ false
+not_either a b h k = rw h k
+
+at_most : (m n : ℕ) → nat_lt m n ≡ false → n ≤ m
+at_most m n h = grind (arith, nat_tests)
+
+not_more : (m n : ℕ) → n ≤ m → nat_lt m n ≡ false
+not_more m n h = grind (arith, nat_tests)
+
+some : (x : SelectorPair) (xs : List SelectorPair) → (length (x ∷ xs) == 0) ≡ false
+some x xs = grind (arith, nat_tests)
+
+within : (xs : List SelectorPair) → is_outside xs ≡ false → (0 < length xs) × (length xs ≤ 16)
+within [] h = cc
+within (x ∷ xs) h = (omega arith, at_most 16 (length (x ∷ xs)) (neither _ _ h).1)
+
+not_outside : (xs : List SelectorPair) → 0 < length xs → length xs ≤ 16 → is_outside xs ≡ false
+not_outside [] s l = absurd (omega arith)
+not_outside (x ∷ xs) s l = not_either _ _ (some x xs) (not_more 16 (length (x ∷ xs)) l)
+
+differ : (x y : Bytes) → bytes_eq x y ≡ false → x ≢ y
+differ x y h = λ e. both_ways (bytes_eq x y) h (text_same x y e)
+
+told_apart : (x y : Bytes) → x ≢ y → bytes_eq x y ≡ false
+told_apart x y n = false_from_ne_true _ (λ t. n (text_is x y t))
+
+-- ---- an entry
+
+entry_none : (own : Bytes) (e : NewEntry) → IsId e.parent → IsId e.identity → entry_fault own e ≡ None → FaultlessEntry own e
+unfolding entry_fault
+entry_none own e p i h =
+    let a = passes _ _ _ h in
+    let foreign = neither _ _ a.0 in
+    let b = passes _ _ _ a.1 in
+    let bare = neither _ _ b.0 in
+    let c = passes _ _ _ b.1 in
+    let d = passes _ _ _ c.1 in
+    let selectors = within e.selectors d.0 in
+    let t = passes _ _ _ d.1 in
+    let u = passes _ _ _ t.1 in
+    record {
+      parent = id_of own e.parent p foreign.0 bare.0;
+      identity = id_of own e.identity i foreign.1 bare.1;
+      not_server = differ e.identity (server_text own) c.0;
+      some_selectors = selectors.0;
+      selectors = selectors.1;
+      domains = at_most 8 (length e.domains) t.0;
+      hint = at_most 1024 (length e.hint) u.0;
+    }
+
+none_entry : (own : Bytes) (e : NewEntry) → FaultlessEntry own e → entry_fault own e ≡ None
+unfolding entry_fault
+none_entry own e h =
+    let p = from_id_of own e.parent h.parent in
+    let i = from_id_of own e.identity h.identity in
+    passed _ _ _ (not_either _ _ p.0 i.0)
+    (passed _ _ _ (not_either _ _ p.1 i.1)
+    (passed _ _ _ (told_apart e.identity (server_text own) h.not_server)
+    (passed _ _ _ (not_outside e.selectors h.some_selectors h.selectors)
+    (passed _ _ _ (not_more 8 (length e.domains) h.domains)
+    (passed _ _ _ (not_more 1024 (length e.hint) h.hint) refl)))))
+
+pub entry_faults : (own : Bytes) (e : NewEntry) → IsProperEntry e → (entry_fault own e ≡ None) ↔ FaultlessEntry own e
+entry_faults own e p = (entry_none own e p.parent p.identity, none_entry own e)
+
+-- ---- a parent and an agent that are asked for
+
+parent_faults : (own id : Bytes) → IsId id → (parent_fault own id ≡ None) ↔ IsIdOf own id
+unfolding parent_fault
+parent_faults own id i = (
+  λ h. let a = passes _ _ _ h in let b = passes _ _ _ a.1 in id_of own id i a.0 b.0,
+  λ v. let r = from_id_of own id v in passed _ _ _ r.0 (passed _ _ _ r.1 refl),
+)
+
+asked_faults : (own id : Bytes) → IsId id → (asked_fault own id ≡ None) ↔ IsAgentIdOf own id
+unfolding asked_fault
+asked_faults own id i = (
+  λ h. let a = passes _ _ _ h in let b = passes _ _ _ a.1 in agent_id_of own id i a.0 (not_false _ b.0),
+  λ v. let r = from_agent_id_of own id v in passed _ _ _ r.0 (passed _ _ _ (ap not r.1) refl),
+)
+
+-- ---- an agent
+
+pub agent_faults : (own : Bytes) (a : Agent) → IsProperAgent a → (agent_fault own a ≡ None) ↔ FaultlessAgent own a
+unfolding agent_fault
+agent_faults own a p = (
+  λ h. let f = passes _ _ _ h in let s = passes _ _ _ f.1 in let n = passes _ _ _ s.1 in record { id = agent_id_of own a.id p.id f.0 (not_false _ n.0); selectors = at_most 64 (length a.selectors) s.0 },
+  λ v. let r = from_agent_id_of own a.id v.id in passed _ _ _ r.0 (passed _ _ _ (not_more 64 (length a.selectors) v.selectors) (passed _ _ _ (ap not r.1) refl)),
+)
+
+-- ---- a bundle
+
+own_faults : (own domain : Bytes) → (own_fault own domain ≡ None) ↔ (domain ≢ own)
+unfolding own_fault
+own_faults own domain = (λ h. differ domain own (passes _ _ _ h).0, λ n. passed _ _ _ (told_apart domain own n) refl)
+
+pub bundle_faults : (own domain text : Bytes) → (bundle_fault own domain text ≡ None) ↔ FaultlessBundle own domain text
+unfolding bundle_fault
+bundle_faults own domain text = (
+  λ h. let o = passes _ _ _ h in let t = passes _ _ _ o.1 in record { not_own = differ domain own o.0; short = at_most 65536 (length text) t.0 },
+  λ v. passed _ _ _ (told_apart domain own v.not_own) (passed _ _ _ (not_more 65536 (length text) v.short) refl),
+)
+
+-- ---- an operation
+
+never : {X : Type 0} (x : X) → (x ≡ x) ↔ ⊤
+never x = (λ e. tt, λ t. refl)
+
+pub op_faults : (own : Bytes) (op : Op) → IsProperOp op → (op_fault own op ≡ None) ↔ FaultlessOp own op
+op_faults own (Create e) p = entry_faults own e p
+op_faults own (Update e expected) p = entry_faults own e p
+op_faults own (Delete k expected) p = never None
+op_faults own (Show k) p = never None
+op_faults own (ShowAgent k) p = asked_faults own k p
+op_faults own (ShowBundle domain) p = never None
+op_faults own (Children parent) p = parent_faults own parent p
+op_faults own (Authorised k) p = asked_faults own k p
+op_faults own (Trust k) p = asked_faults own k p
+op_faults own (Prune moment) p = never None
+op_faults own (SetAgent a) p = agent_faults own a p
+op_faults own (DropAgent k) p = asked_faults own k p
+op_faults own (SetBundle domain text) p = bundle_faults own domain text
+op_faults own (DropBundle domain mode) p = own_faults own domain

@@ -1,0 +1,38 @@
+-- Which rows an operation names. A law of this crate says that an operation writes these rows, in this order, and no other.
+use Rattle.std.specs.Prelude.{List, [], ◌∷◌, ◌++◌, map}
+use Rattle.entry_book.specs.declared.op.Op.{Op}
+use Rattle.entry_book.specs.declared.op.Op.TheVariants.{Create, Update, Delete, Show, ShowAgent, ShowBundle, Children, Authorised, Trust, Prune, SetAgent, DropAgent, SetBundle, DropBundle}
+use Rattle.entry_book.specs.Rows.{Bytes, Entry}
+use Rattle.entry_book.specs.Book.{Book, users_of, expired_before}
+use Rattle.entry_book.specs.Writes.{Write, wrote_entry, wrote_agent, wrote_bundle}
+
+-- A row by its name: the entry of an id, the agent of an ID, or the bundle of a trust domain.
+pub data RowName : Type 0 where
+  entry_of : Bytes → RowName
+  agent_of : Bytes → RowName
+  bundle_of : Bytes → RowName
+
+abbrev pub row_written : Write → RowName
+row_written (wrote_entry c) = entry_of c.key
+row_written (wrote_agent c) = agent_of c.key
+row_written (wrote_bundle c) = bundle_of c.key
+
+abbrev pub entry_name : Entry → RowName
+entry_name e = entry_of e.id
+
+-- what a prune names is what has expired; a bundle that is dropped comes after the entries that name it, of which there are none where the drop is restricted
+abbrev pub rows_named : Op → Book → List RowName
+rows_named (Create e) b = entry_of e.id ∷ []
+rows_named (Update e expected) b = entry_of e.id ∷ []
+rows_named (Delete k expected) b = entry_of k ∷ []
+rows_named (Show k) b = []
+rows_named (ShowAgent k) b = []
+rows_named (ShowBundle domain) b = []
+rows_named (Children p) b = []
+rows_named (Authorised k) b = []
+rows_named (Trust k) b = []
+rows_named (Prune moment) b = map entry_name (expired_before moment b)
+rows_named (SetAgent a) b = agent_of a.id ∷ []
+rows_named (DropAgent k) b = agent_of k ∷ []
+rows_named (SetBundle domain text) b = bundle_of domain ∷ []
+rows_named (DropBundle domain mode) b = map entry_name (users_of domain b) ++ bundle_of domain ∷ []
