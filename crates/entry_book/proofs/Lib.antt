@@ -2,6 +2,7 @@ pub mod Aliases
 pub mod Chains
 pub mod Changed
 pub mod Determined
+pub mod DomainSets
 pub mod EffectsOfBundles
 pub mod EffectsOfEntries
 pub mod EffectsOfQuestions

@@ -112,6 +112,19 @@ pub record PlainState : Type 0 where
   pub newest : Book
   pub place : ℕ
 
+-- what a batch comes to on what is kept
+abbrev pub reply_on : Batch → PlainState → Reply
+reply_on batch state = reply_with state.place (verdict batch state.place state.newest)
+
+abbrev pub state_with : PlainState → Verdict → PlainState
+state_with state (refuses r) = state
+state_with state (answers replies) = state
+state_with state (adds replies b) = record state { newest = b; place = state.place + 1 }
+
+-- what is kept after it
+abbrev pub state_after : Batch → PlainState → PlainState
+state_after batch state = state_with state (verdict batch state.place state.newest)
+
 -- What is kept stands for the list of all books so far.
 pub record Stands (state : PlainState) (books : List Book) : Type 0 where
   pub count : length books ≡ state.place + 1

@@ -5,11 +5,15 @@ use Rattle.entry_book.specs.declared.limit.Limit.{Limit}
 use Rattle.entry_book.specs.declared.limit.Limit.TheVariants.{History, Entries, Agents, Bundles}
 use Rattle.entry_book.specs.Book.{Book}
 
--- the first limit that is passed by a book that is to follow the one at this place; the place is the count of batches committed so far
-abbrev pub limit_passed : ℕ → Book → Option Limit
-limit_passed place b =
+-- the first limit that is passed by a book of so many entries, agents and bundles that is to follow the one at this place; the place is the count of batches committed so far
+abbrev pub limit_over : ℕ → ℕ → ℕ → ℕ → Option Limit
+limit_over place entries agents bundles =
     refuse_if (nat_lt 65535 place) History (
-    refuse_if (nat_lt 16384 (length b.entries)) Entries (
-    refuse_if (nat_lt 4096 (length b.agents)) Agents (
-    refuse_if (nat_lt 1024 (length b.bundles)) Bundles
+    refuse_if (nat_lt 16384 entries) Entries (
+    refuse_if (nat_lt 4096 agents) Agents (
+    refuse_if (nat_lt 1024 bundles) Bundles
     None)))
+
+-- the first limit that this book passes
+abbrev pub limit_passed : ℕ → Book → Option Limit
+limit_passed place b = limit_over place (length b.entries) (length b.agents) (length b.bundles)

@@ -1,5 +1,5 @@
 -- The rows of a book. An agent, a bundle and a new entry are the records of the crate's own types of these names.
-use Rattle.std.specs.Prelude.{◌≡◌, ℕ, List, length}
+use Rattle.std.specs.Prelude.{◌≡◌, ℕ, List, [], ◌∷◌, length, Some}
 use Rattle.std.specs.List.{AllByRecursion}
 use Rattle.spiffe_name.specs.Domain.{IsDomain}
 use Rattle.spiffe_name.specs.Id.{Spells}
@@ -8,7 +8,7 @@ use Rattle.spiffe_name.specs.SelectorSet.{IsSelectorSet}
 use Rattle.entry_book.specs.declared.agent.Agent.{Agent}
 use Rattle.entry_book.specs.declared.bundle.Bundle.{Bundle}
 use Rattle.entry_book.specs.declared.entry.NewEntry.{NewEntry}
-use Rattle.entry_book.specs.Order.{Ascending}
+use Rattle.entry_book.specs.Order.{Ascending, with_row}
 
 -- the bytes of a text, or the sixteen bytes of a UUID
 abbrev pub Bytes : Type 0
@@ -51,6 +51,11 @@ IsId text = (domain : Bytes) × (segments : List Bytes) × Spells text domain se
 -- each trust domain once, in the order of their bytes
 abbrev pub IsDomainSet : List Bytes → Type 0
 IsDomainSet domains = Ascending (λ domain. domain) domains
+
+-- the set of the domains of a list: repeats collapse
+abbrev pub domain_set : List Bytes → List Bytes
+domain_set [] = []
+domain_set (domain ∷ domains) = with_row (λ d. d) domain (Some domain) (domain_set domains)
 
 pub record IsProperEntry (e : NewEntry) : Type 0 where
   pub id : length e.id ≡ 16

@@ -81,7 +81,7 @@ impl Clone for Batch {
     fn clone(&self) -> Result<Batch, AllocError> {
         Ok(Batch {
             domain: self.domain.clone()?,
-            ops: Sequence::of(self.ops.as_vec().clone()?),
+            ops: self.ops.clone()?,
         })
     }
 }

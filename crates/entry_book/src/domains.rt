@@ -29,12 +29,13 @@ impl Model for DomainSet {
 impl DomainSet {
     ghost use Rattle.std.specs.Prelude.{Contains, IfOk, List, [], bytes_eq, filter, length, not, ◌↔◌, ◌≡◌, ◌==◌, ℕ};
     ghost use Rattle.std.specs.List.{list_any};
-    ghost use Rattle.entry_book.specs.Rows.{IsDomainSet};
+    ghost use Rattle.entry_book.specs.Rows.{IsDomainSet, domain_set};
 
     /// The set of these domains: repeats collapse. The error is want of memory.
     pub fn of(alloc: Global, domains: Vec<TrustDomain>) -> Result<DomainSet, AllocError>
         ensures members { IfOk result (λ set. (domain : List ℕ) → Contains set domain ↔ Contains domains.items domain) }
         ensures ordered { IfOk result IsDomainSet }
+        ensures computed { IfOk result (λ set. set ≡ domain_set domains.items) }
     {
         let mut domains = domains;
         domains.sort()?;

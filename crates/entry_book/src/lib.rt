@@ -9,11 +9,12 @@
 //! - [`Op`]: one operation; [`NewEntry`], what a caller gives of an entry, and [`DropMode`], what becomes of the entries
 //!   that name a bundle when it is dropped.
 //! - [`Reply`]: what became of a batch ([`Outcome`]): the [`OpReply`] of each operation, or the [`Refusal`], of the
-//!   first operation that the book refuses ([`OpRefusal`]) or for a [`Limit`] of the book.
+//!   first operation that the book refuses ([`OpRefusal`]) or for a [`Limit`] of the book. A copy of it shares the
+//!   replies.
 //! - [`Entry`], [`Agent`], [`Bundle`]: the rows. A copy of a row copies no text.
 //! - [`Shared`], [`Sequence`], [`Text`], [`DomainSet`]: what rows are made of, seen by contracts as a value, a list,
 //!   bytes and a set.
-//! - [`is_server`]: whether an ID is that of a trust domain's server.
+//! - [`is_server`]: whether an ID is that of a trust domain's server; [`limit_passed`]: whether a book has room.
 //! - [`laws`]: what holds of every book, such as that each book that can be reached is lawful.
 //!
 //! `docs/BOOK.md` tells the rules.
@@ -42,7 +43,7 @@ pub use check::is_server;
 pub use domains::DomainSet;
 pub use entry::{Entry, NewEntry};
 pub use fault::{BatchRefusal, OpFault};
-pub use limit::Limit;
+pub use limit::{Limit, limit_passed};
 pub use mode::DropMode;
 pub use op::Op;
 pub use reply::{OpRefusal, OpReply, Outcome, Refusal, Reply};

@@ -2,6 +2,7 @@
 
 ghost use Rattle.std.specs.Prelude.{◌≡◌};
 ghost use Rattle.entry_book.specs.Codes.{limit_code};
+ghost use Rattle.entry_book.specs.Limits.{limit_over};
 
 /// Why a batch of changes is too much for the books: there are too many of them already, or the new one would be too
 /// large. The first that holds, in this order.
@@ -29,4 +30,24 @@ impl Limit {
             Limit::Bundles => "W5",
         }
     }
+}
+
+/// The first limit that is passed by a book with so many rows of each kind that is to follow the one at this place, which
+/// is the count of batches committed so far.
+pub fn limit_passed(place: u64, entries: usize, agents: usize, bundles: usize) -> Option<Limit>
+    ensures { result ≡ limit_over place entries agents bundles }
+{
+    if place > 65_535 {
+        return Some(Limit::History);
+    }
+    if entries > 16_384 {
+        return Some(Limit::Entries);
+    }
+    if agents > 4_096 {
+        return Some(Limit::Agents);
+    }
+    if bundles > 1_024 {
+        return Some(Limit::Bundles);
+    }
+    None
 }

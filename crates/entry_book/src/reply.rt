@@ -10,9 +10,10 @@ use crate::limit::Limit;
 use crate::sequence::Sequence;
 use crate::shared::Shared;
 use spiffe_name::TrustDomain;
+use std::alloc::AllocError;
 use uuid::Uuid;
 
-/// The answer to one operation.
+/// The answer to one operation. A copy of it copies no text; that of several rows has a vector of its own.
 #[derive(Drop)]
 pub enum OpReply {
     /// The entry that was added or changed, as the operation left it, or the one that was removed.
@@ -38,7 +39,28 @@ pub enum OpReply {
     Dropped(Sequence<Uuid>, Sequence<Uuid>),
 }
 
-/// Why an operation is refused by the book that it finds.
+impl Clone for OpReply {
+    ghost is_clone = { λ original copy. copy ≡ original };
+
+    fn clone(&self) -> Result<OpReply, AllocError> {
+        match self {
+            OpReply::Entry(entry) => Ok(OpReply::Entry(entry.clone()?)),
+            OpReply::EntryShown(shown) => Ok(OpReply::EntryShown(shown.clone()?)),
+            OpReply::Entries(entries) => Ok(OpReply::Entries(entries.clone()?)),
+            OpReply::Agent(agent) => Ok(OpReply::Agent(agent.clone()?)),
+            OpReply::AgentShown(shown) => Ok(OpReply::AgentShown(shown.clone()?)),
+            OpReply::Bundle(bundle) => Ok(OpReply::Bundle(bundle.clone()?)),
+            OpReply::BundleShown(shown) => Ok(OpReply::BundleShown(shown.clone()?)),
+            OpReply::Bundles(bundles) => Ok(OpReply::Bundles(bundles.clone()?)),
+            OpReply::Pruned(ids) => Ok(OpReply::Pruned(ids.clone()?)),
+            OpReply::Dropped(deleted, dissociated) => {
+                Ok(OpReply::Dropped(deleted.clone()?, dissociated.clone()?))
+            }
+        }
+    }
+}
+
+/// Why an operation is refused by the book that it finds. A copy of it copies no text.
 #[derive(Drop)]
 pub enum OpRefusal {
     /// The book has an entry of this id.
@@ -74,7 +96,23 @@ impl OpRefusal {
     }
 }
 
-/// Why a batch is refused by the books that it finds.
+impl Clone for OpRefusal {
+    ghost is_clone = { λ original copy. copy ≡ original };
+
+    fn clone(&self) -> Result<OpRefusal, AllocError> {
+        match self {
+            OpRefusal::IdTaken => Ok(OpRefusal::IdTaken),
+            OpRefusal::Similar(id) => Ok(OpRefusal::Similar(*id)),
+            OpRefusal::NoEntry => Ok(OpRefusal::NoEntry),
+            OpRefusal::StaleRevision => Ok(OpRefusal::StaleRevision),
+            OpRefusal::NoBundle(domain) => Ok(OpRefusal::NoBundle(domain.clone()?)),
+            OpRefusal::BundleInUse => Ok(OpRefusal::BundleInUse),
+            OpRefusal::NoAgent => Ok(OpRefusal::NoAgent),
+        }
+    }
+}
+
+/// Why a batch is refused by the books that it finds. A copy of it copies no text.
 #[derive(Drop)]
 pub enum Refusal {
     /// This operation, counted from 0, is refused.
@@ -105,22 +143,57 @@ impl Refusal {
     }
 }
 
-/// What became of a batch.
+impl Clone for Refusal {
+    ghost is_clone = { λ original copy. copy ≡ original };
+
+    fn clone(&self) -> Result<Refusal, AllocError> {
+        match self {
+            Refusal::OfOp(index, reason) => Ok(Refusal::OfOp(*index, reason.clone()?)),
+            Refusal::Full(limit) => Ok(Refusal::Full(*limit)),
+        }
+    }
+}
+
+/// What became of a batch. A copy of it shares the answers to the operations.
 #[derive(Drop)]
 pub enum Outcome {
     /// The changes are made; the answers to the operations, in order.
-    Committed(Sequence<OpReply>),
+    Committed(Shared<Sequence<OpReply>>),
     /// The batch only asked; the answers to the operations, in order.
-    Answered(Sequence<OpReply>),
+    Answered(Shared<Sequence<OpReply>>),
     /// Nothing was changed.
     Refused(Refusal),
 }
 
-/// The answer to a batch.
+impl Clone for Outcome {
+    ghost is_clone = { λ original copy. copy ≡ original };
+
+    fn clone(&self) -> Result<Outcome, AllocError> {
+        match self {
+            Outcome::Committed(replies) => Ok(Outcome::Committed(replies.clone()?)),
+            Outcome::Answered(replies) => Ok(Outcome::Answered(replies.clone()?)),
+            Outcome::Refused(refusal) => Ok(Outcome::Refused(refusal.clone()?)),
+        }
+    }
+}
+
+/// The answer to a batch. A copy of it shares the answers to the operations: it counts their owners, and copies no row
+/// and no text.
 #[derive(Drop)]
 pub struct Reply {
     /// The new book's number where the batch was committed, and the number of the book found in every other case.
     pub place: u64,
     /// What became of the batch.
     pub outcome: Outcome,
+}
+
+impl Clone for Reply {
+    ghost is_clone = { λ original copy. copy ≡ original };
+
+    fn clone(&self) -> Result<Reply, AllocError> {
+        Ok(Reply {
+            place: self.place,
+            outcome: self.outcome.clone()?,
+        })
+    }
 }

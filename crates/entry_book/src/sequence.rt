@@ -74,3 +74,16 @@ impl<T: Drop> Sequence<T> {
         Ok(())
     }
 }
+
+/// Each item of a copy is a copy of the one in its place.
+impl<T: Clone> Clone for Sequence<T> {
+    ghost use Rattle.std.specs.List.{AllZip};
+
+    ghost is_clone = { λ original copy. AllZip T.is_clone original copy };
+
+    fn clone(&self) -> Result<Sequence<T>, AllocError> {
+        Ok(Sequence {
+            items: self.items.clone()?,
+        })
+    }
+}

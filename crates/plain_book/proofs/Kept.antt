@@ -1,5 +1,5 @@
 -- What a plain book keeps, after a batch that was accepted.
-use Rattle.std.proofs.Common.{◌≡◌, ℕ, ◌+◌, ◌*◌, Bool, true, false, List, [], ◌∷◌, ◌++◌, length, Option, Some, None, Ok, Err, IfOk, sym, ap, subst, ◌∙◌, arith, length-append}
+use Rattle.std.proofs.Common.{◌≡◌, ℕ, ◌+◌, ◌*◌, Bool, true, false, List, [], ◌∷◌, Option, Ok, Err, IfOk, sym, ap, subst, ◌∙◌, arith, length-append}
 use Rattle.entry_book.specs.declared.limit.Limit.{Limit}
 use Rattle.entry_book.specs.declared.op.Op.{Op}
 use Rattle.entry_book.specs.declared.reply.OpReply.{OpReply}
@@ -10,7 +10,7 @@ use Rattle.entry_book.specs.Writes.{after}
 use Rattle.entry_book.specs.Runs.{RunResult, run}
 use Rattle.entry_book.specs.Limits.{limit_passed}
 use Rattle.entry_book.specs.Batches.{Batch, IsMadeFor, is_query}
-use Rattle.entry_book.specs.History.{adds_within, verdict_when, verdict, books_with, books_after, last_book, place_of, PlainState, Stands}
+use Rattle.entry_book.specs.History.{Verdict, refuses, answers, adds, adds_within, verdict_when, verdict, reply_with, reply_to, books_with, books_after, last_book, place_of, IsHistory, PlainState, reply_on, state_with, state_after, Stands}
 use Rattle.entry_book.specs.Lawful.{Lawful}
 use Rattle.plain_book.specs.Performed.{ran}
 use Rattle.entry_book.proofs.Histories.{batch_keeps, history_goes_on, last-snoc}
@@ -36,7 +36,7 @@ of_accepted P b c replies (Err s) h e = cc
 pub accepted_lawful : (own : Bytes) (batch : Batch) (n : ℕ) (b c : Book) (replies : List OpReply) → IsMadeFor own batch → Lawful own (64 * n) b → Accepted replies c ≡ ran b (run batch.domain batch.ops b) → Lawful own (64 * (n + 1)) c
 accepted_lawful own batch n b c replies m l e = of_accepted (Lawful own (64 * (n + 1))) b c replies (run batch.domain batch.ops b) (batch_keeps own batch n b m l) e
 
--- ---- what is kept stands for the list of books after the batch
+-- ---- what an accepted batch of changes comes to, by the limits of the book after
 
 verdict_within : (query : Bool) (n : ℕ) (b c : Book) (replies : List OpReply) (r : RunResult) → query ≡ false → Accepted replies c ≡ ran b r → verdict_when query n b r ≡ adds_within (limit_passed n c) replies c
 verdict_within true n b c replies (Ok t) q e = cc
@@ -46,27 +46,33 @@ verdict_within false n b c replies (Ok t) q e =
     ap (λ x. adds_within (limit_passed n x) t.replies x) same ∙ ap (λ x. adds_within (limit_passed n c) x c) told
 verdict_within query n b c replies (Err s) q e = cc
 
--- the verdict on these books, by the limits of the book after
-verdict_is : (state : PlainState) (c : Book) (books : List Book) (batch : Batch) (replies : List OpReply) (o : Option Limit) → Stands state books → is_query batch.ops ≡ false → Accepted replies c ≡ ran state.newest (run batch.domain batch.ops state.newest) → limit_passed state.place c ≡ o → verdict batch (place_of books) (last_book books) ≡ adds_within o replies c
-verdict_is state c books batch replies o s q e l =
-    let k = s.count in
-    let p : place_of books ≡ state.place = omega arith in
-    ap (λ n. verdict batch n (last_book books)) p
-    ∙ (ap (verdict batch state.place) s.last
-    ∙ (verdict_within (is_query batch.ops) state.place state.newest c replies (run batch.domain batch.ops state.newest) q e
-    ∙ ap (λ x. adds_within x replies c) l))
+verdict_is : (state : PlainState) (c : Book) (batch : Batch) (replies : List OpReply) (o : Option Limit) → is_query batch.ops ≡ false → Accepted replies c ≡ ran state.newest (run batch.domain batch.ops state.newest) → limit_passed state.place c ≡ o → verdict batch state.place state.newest ≡ adds_within o replies c
+verdict_is state c batch replies o q e l = verdict_within (is_query batch.ops) state.place state.newest c replies (run batch.domain batch.ops state.newest) q e ∙ ap (λ x. adds_within x replies c) l
 
-pub stands_after : (state : PlainState) (c : Book) (books : List Book) (batch : Batch) (replies : List OpReply) → Stands state books → IsMadeFor state.domain batch → is_query batch.ops ≡ false → Accepted replies c ≡ ran state.newest (run batch.domain batch.ops state.newest) → limit_passed state.place c ≡ None → Stands (record { domain = state.domain; newest = c; place = state.place + 1 }) (books_after batch books)
-stands_after state c books batch replies s m q e l =
-    let longer : books_after batch books ≡ books ++ c ∷ [] = ap (books_with books) (verdict_is state c books batch replies None s q e l) in
+-- ---- the same on each list of books that what is kept stands for
+
+place_is : (state : PlainState) (books : List Book) → Stands state books → place_of books ≡ state.place
+place_is state books s = let k = s.count in omega arith
+
+same_verdict : (state : PlainState) (books : List Book) (batch : Batch) → Stands state books → verdict batch (place_of books) (last_book books) ≡ verdict batch state.place state.newest
+same_verdict state books batch s = ap (λ n. verdict batch n (last_book books)) (place_is state books s) ∙ ap (verdict batch state.place) s.last
+
+pub replies_agree : (state : PlainState) (books : List Book) (batch : Batch) → Stands state books → reply_on batch state ≡ reply_to batch books
+replies_agree state books batch s = sym (ap (λ n. reply_with n (verdict batch (place_of books) (last_book books))) (place_is state books s) ∙ ap (reply_with state.place) (same_verdict state books batch s))
+
+stands_with : (state : PlainState) (books : List Book) (v : Verdict) → Stands state books → IsHistory state.domain (books_with books v) → Stands (state_with state v) (books_with books v)
+stands_with state books (refuses r) s h = s
+stands_with state books (answers replies) s h = s
+stands_with state books (adds replies c) s h =
     let n = length-append books (c ∷ []) in
     let k = s.count in
-    let one_more : length (books ++ c ∷ []) ≡ state.place + 1 + 1 = omega arith in
-    record {
-      count = ap length longer ∙ one_more;
-      last = ap last_book longer ∙ last-snoc empty_book books c;
-      history = history_goes_on state.domain batch books s.history m;
-    }
+    record { count = omega arith; last = last-snoc empty_book books c; history = h }
 
-pub stands_full : (state : PlainState) (c : Book) (books : List Book) (batch : Batch) (replies : List OpReply) (limit : Limit) → Stands state books → is_query batch.ops ≡ false → Accepted replies c ≡ ran state.newest (run batch.domain batch.ops state.newest) → limit_passed state.place c ≡ Some limit → Stands state (books_after batch books)
-stands_full state c books batch replies limit s q e l = subst (Stands state) (sym (ap (books_with books) (verdict_is state c books batch replies (Some limit) s q e l))) s
+pub books_agree : (state : PlainState) (books : List Book) (batch : Batch) → Stands state books → IsMadeFor state.domain batch → Stands (state_after batch state) (books_after batch books)
+books_agree state books batch s m =
+    subst (λ v. Stands (state_with state v) (books_after batch books)) (same_verdict state books batch s)
+    (stands_with state books (verdict batch (place_of books) (last_book books)) s (history_goes_on state.domain batch books s.history m))
+
+-- the same after an accepted batch of changes
+pub books_when : (state : PlainState) (c : Book) (batch : Batch) (replies : List OpReply) (o : Option Limit) → IsMadeFor state.domain batch → is_query batch.ops ≡ false → Accepted replies c ≡ ran state.newest (run batch.domain batch.ops state.newest) → limit_passed state.place c ≡ o → (books : List Book) → Stands state books → Stands (state_with state (adds_within o replies c)) (books_after batch books)
+books_when state c batch replies o m q e l books s = subst (λ v. Stands (state_with state v) (books_after batch books)) (verdict_is state c batch replies o q e l) (books_agree state books batch s m)

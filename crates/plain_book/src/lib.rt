@@ -4,17 +4,18 @@
 //! lists of rows; each later representation of a book is compared with it. It stands for the list of all books so far:
 //! a batch that is committed adds the next one.
 //!
-//! - `plain_book`: what is kept from batch to batch; `limit`: whether a new book is too large.
+//! - `plain_book`: what is kept from batch to batch.
 //! - `run`: the operations of a batch, one after another; `ops`: a file for each operation.
 //! - `book`: the three lists of rows, what operations ask of them, and the books that they make; `row`: how a row is put
 //!   into a list or taken out.
 //! - `find`, `users`, `expired`: the rows that an operation looks at; `worklist`: the entries that an agent may hand out.
+//! - [`laws`]: that what is kept tells what the list of all books does.
 #![tactic(auto)]
 
 mod book;
 mod expired;
 mod find;
-mod limit;
+pub mod laws;
 mod ops;
 mod plain_book;
 mod row;

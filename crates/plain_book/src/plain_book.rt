@@ -3,9 +3,8 @@
 ghost use Rattle.std.specs.Prelude.{◌≡◌};
 
 use crate::book::Book;
-use crate::limit::limit_passed;
 use crate::run::{BatchRun, run_ops};
-use entry_book::{Batch, Outcome, Refusal, Reply};
+use entry_book::{Batch, Outcome, Refusal, Reply, Shared};
 use spiffe_name::TrustDomain;
 use std::alloc::{AllocError, Global};
 use std::marker::Model;
@@ -36,7 +35,7 @@ impl Model for PlainBook {
 impl PlainBook {
     ghost use Rattle.std.specs.Prelude.{◌≡◌, ◌≤◌, ◌*◌, IfOk, OnErr, OnOk, List};
     ghost use Rattle.entry_book.specs.Book.{Book as BookRows};
-    ghost use Rattle.entry_book.specs.History.{Stands, books_after, first_books, reply_to};
+    ghost use Rattle.entry_book.specs.History.{Stands, books_after, first_books, reply_on, reply_to, state_after};
     ghost use Rattle.entry_book.specs.Lawful.{Lawful};
 
     /// The book of a trust domain's server, with no rows, at place 0. The error is want of memory.
@@ -52,10 +51,13 @@ impl PlainBook {
         })
     }
 
-    /// Runs a batch that was made for this book's trust domain. The error is want of memory, and nothing has changed
+    /// Runs a batch that was made for this book's trust domain. What is answered, and what is kept then, is told by what
+    /// was kept, and so by every list of books that it stands for. The error is want of memory, and nothing has changed
     /// then.
     pub fn run(&mut self, batch: &Batch) -> Result<Reply, AllocError>
         requires made_for { batch.now.domain ≡ self.old.domain }
+        ensures answered { IfOk result (λ reply. reply ≡ reply_on batch.now self.old) }
+        ensures kept { OnOk result (self.new ≡ state_after batch.now self.old) }
         ensures reply { (books : List BookRows) → Stands self.old books
             → IfOk result (λ reply. reply ≡ reply_to batch.now books) }
         ensures books { (books : List BookRows) → Stands self.old books
@@ -72,15 +74,16 @@ impl PlainBook {
                 if batch.is_query() {
                     return Ok(Reply {
                         place: self.place,
-                        outcome: Outcome::Answered(replies),
+                        outcome: Outcome::Answered(Shared::of(self.alloc, replies)?),
                     });
                 }
-                if let Some(limit) = limit_passed(self.place, &after) {
+                if let Some(limit) = after.limit_passed(self.place) {
                     return Ok(Reply {
                         place: self.place,
                         outcome: Outcome::Refused(Refusal::Full(limit)),
                     });
                 }
+                let replies = Shared::of(self.alloc, replies)?;
                 self.newest = after;
                 self.place += 1;
                 Ok(Reply {

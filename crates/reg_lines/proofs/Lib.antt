@@ -11,7 +11,6 @@ pub mod Items
 pub mod RunLemmas
 pub mod LinesLaw
 pub mod Front
-pub mod DomainSets
 pub mod Utf8
 pub mod Rows
 pub mod Domain

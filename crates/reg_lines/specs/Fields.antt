@@ -10,7 +10,7 @@ use Rattle.spiffe_name.specs.Domain.{domain_refusal}
 use Rattle.spiffe_name.specs.Id.{id_refusal}
 use Rattle.spiffe_name.specs.Selector.{SelectorPair, pair_of, selector_refusal}
 use Rattle.spiffe_name.specs.SelectorSet.{set_of}
-use Rattle.entry_book.specs.Order.{with_row}
+use Rattle.entry_book.specs.Rows.{domain_set}
 use Rattle.entry_book.specs.declared.mode.DropMode.{DropMode}
 use Rattle.entry_book.specs.declared.mode.DropMode.TheVariants.{Restrict, Delete, Dissociate}
 use Rattle.rand_chacha.specs.ChaCha.{ChaCha}
@@ -183,11 +183,6 @@ domains_in key (item d ds) = do
   domain ← domain_in key d
   domains ← domains_in key ds
   Ok (domain ∷ domains)
-
--- the set of the trust domains of a list: each once, in the order of their bytes
-abbrev pub domain_set : List (List ℕ) → List (List ℕ)
-domain_set [] = []
-domain_set (domain ∷ domains) = with_row (λ d. d) domain (Some domain) (domain_set domains)
 
 -- the set of the trust domains that are listed
 unfoldable pub domain_set_in : Key → Data → Result (List (List ℕ)) Fault

@@ -1,28 +1,42 @@
-//! How many rows does a book have?
+//! How many rows does a book have, and are they too many?
 
 ghost use Rattle.std.specs.Prelude.{◌≡◌};
 
 use super::Book;
+use entry_book::{Limit, limit_passed};
 
 impl Book {
     ghost use Rattle.std.specs.Prelude.{◌≡◌, length};
+    ghost use Rattle.entry_book.specs.Limits.{limit_passed};
+
+    /// The first limit that this book passes, where it is to follow the one at this place.
+    pub(crate) fn limit_passed(&self, place: u64) -> Option<Limit>
+        ensures { result ≡ limit_passed place self.now }
+    {
+        limit_passed(
+            place,
+            self.entry_count(),
+            self.agent_count(),
+            self.bundle_count(),
+        )
+    }
 
     /// How many entries there are.
-    pub(crate) fn entry_count(&self) -> usize
+    fn entry_count(&self) -> usize
         ensures { result ≡ length self.now.entries }
     {
         self.entries.get().as_slice().len()
     }
 
     /// How many agents there are.
-    pub(crate) fn agent_count(&self) -> usize
+    fn agent_count(&self) -> usize
         ensures { result ≡ length self.now.agents }
     {
         self.agents.get().as_slice().len()
     }
 
     /// How many bundles there are.
-    pub(crate) fn bundle_count(&self) -> usize
+    fn bundle_count(&self) -> usize
         ensures { result ≡ length self.now.bundles }
     {
         self.bundles.get().as_slice().len()

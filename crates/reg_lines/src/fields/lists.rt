@@ -2,7 +2,8 @@
 
 ghost use Rattle.std.specs.Prelude.{◌≡◌, IfOk};
 ghost use Rattle.serde_json.specs.View.{items_view, view};
-ghost use Rattle.reg_lines.specs.Fields.{Gives, domain_in, domain_set, domain_set_in, domains_in, optional_domains_at, selector_in, selectors_at, selectors_in};
+ghost use Rattle.entry_book.specs.Rows.{domain_set};
+ghost use Rattle.reg_lines.specs.Fields.{Gives, domain_in, domain_set_in, domains_in, optional_domains_at, selector_in, selectors_at, selectors_in};
 
 use super::names::domain_of;
 use super::texts::text_in;

@@ -1,4 +1,4 @@
-use Rattle.std.proofs.Common.{◌≡◌, ℕ, true, List, [], ◌∷◌, ap, subst, sym, ◌∙◌}
+use Rattle.std.proofs.Common.{◌≡◌, ◌↔◌, ℕ, true, List, [], ◌∷◌, ap, subst, sym, ◌∙◌}
 use Rattle.std.specs.Prelude.{bytes_eq}
 use Rattle.std.specs.Cmp.Lexicographic.{nat_list_cmp_total, nat_list_eq_equiv, slice_cmp, texts_ties}
 use Rattle.std.specs.List.{AllByRecursion, Contains, dedup}
@@ -10,6 +10,7 @@ use Rattle.std.proofs.lemmas.List.Kept.{Contains-dedup, Contains-from_dedup, IsS
 use Rattle.std.proofs.lemmas.List.Sorted.{Contains-permutation, IsPermutation-sym}
 use Rattle.entry_book.specs.Order.{is_before}
 use Rattle.entry_book.specs.Rows.{IsDomainSet}
+use Rattle.entry_book.proofs.DomainSets.{is_domain_set}
 use Rattle.entry_book.proofs.Sets.{text_is}
 use Rattle.entry_book.proofs.domains.DomainSet.of.Goals as goal
 
@@ -34,10 +35,16 @@ invariant_of-result c = is_set c
 pub returns-clause-ordered : goal.returns-clause-ordered
 returns-clause-ordered c = is_set c
 
-pub returns-clause-members : goal.returns-clause-members
-returns-clause-members c = λ domain.
+members : (c : goal.In_ok-shared) → (domain : List ℕ) → Contains c.in_ok-shared.field-0.items domain ↔ Contains c.args.domains.items domain
+members c = λ domain.
     let e = c.in_ok-shared.ensures ∙ dedup_is bytes_eq _ _ c.dedup.ensures.filtered in
     let p = c.in_ok-sort.ensures.permutation in (
       λ h. Contains-permutation _ _ domain (IsPermutation-sym _ _ p) (Contains-from_dedup bytes_eq c.sort.new.self.items domain (subst (λ xs. Contains xs domain) e h)),
       λ h. subst (λ xs. Contains xs domain) (sym e) (Contains-dedup nat_list_eq_equiv text_is c.sort.new.self.items domain (Contains-permutation _ _ domain p h)),
     )
+
+pub returns-clause-members : goal.returns-clause-members
+returns-clause-members c = members c
+
+pub returns-clause-computed : goal.returns-clause-computed
+returns-clause-computed c = is_domain_set _ c.args.domains.items (is_set c) (members c)
