@@ -15,6 +15,7 @@ use Rattle.entry_book.specs.Batches.{agent_fault, is_foreign, is_agent_path}
 use Rattle.entry_book.specs.Lawful.{Lawful}
 use Rattle.entry_book.proofs.Chains.{reached_by}
 use Rattle.entry_book.proofs.Faultless.{not_the_server}
+use Rattle.entry_book.proofs.Ids.{not_false}
 use Rattle.entry_book.proofs.Sets.{text_is}
 use Rattle.entry_book.proofs.Servers.{server_path}
 
@@ -33,10 +34,6 @@ lines_pass false false false h = cc
 no_lines : (own : Bytes) (a : Agent) → agent_fault own a ≡ lines (is_foreign own a.id) (nat_lt 64 (length a.selectors)) (is_agent_path (path_of a.id))
 unfolding agent_fault
 no_lines own a = refl
-
-not_false : (t : Bool) → not t ≡ false → t ≡ true
-not_false true h = refl
-not_false false h = cc
 
 -- its domain is the book's, and its path an agent's
 pub of_agent : (own : Bytes) (a : Agent) → agent_fault own a ≡ None → (domain_of a.id ≡ own) × (is_agent_path (path_of a.id) ≡ true)

@@ -51,8 +51,8 @@ with_path own id (s ∷ ss) h n = (s, ss, h)
 pub id_of : (own id : Bytes) → IsId id → is_foreign own id ≡ false → has_no_path id ≡ false → IsIdOf own id
 id_of own id i f n = with_path own id i.1 (subst (λ d. Spells id d i.1) (own_is own id i.0 i.1 i.2 f) i.2) n
 
-some : (b : ℕ) (rest : Bytes) → (length (b ∷ rest) == 0) ≡ false
-some b rest = grind (arith, nat_tests)
+pub some : {X : Type 0} (x : X) (xs : List X) → (length (x ∷ xs) == 0) ≡ false
+some x xs = grind (arith, nat_tests)
 
 pub from_id_of : (own id : Bytes) → IsIdOf own id → (is_foreign own id ≡ false) × (has_no_path id ≡ false)
 from_id_of own id i = (not_foreign own id (i.0 ∷ i.1) i.2, ap (λ p. length p == 0) (path_is id own (i.0 ∷ i.1) i.2) ∙ some 47 (i.0 ++ path_text i.1))

@@ -12,7 +12,7 @@ server_path = codes "/spire/server"
 apart : (d : Bytes) → server_text d ≡ prefix ++ (d ++ server_path)
 apart d = refl
 
-apart_from : (x y : Bytes) → x ≢ y → bytes_eq x y ≡ false
+pub apart_from : (x y : Bytes) → x ≢ y → bytes_eq x y ≡ false
 apart_from x y n = false_from_ne_true _ (λ t. n (text_is x y t))
 
 cancel : (xs ys zs : Bytes) → xs ++ ys ≡ xs ++ zs → ys ≡ zs

@@ -1,7 +1,7 @@
 -- What has no fault is what the direct words say.
-use Rattle.std.proofs.Common.{◌≡◌, ◌≢◌, ◌↔◌, ℕ, ◌<◌, ◌≤◌, Bool, true, false, not, ◌||◌, cond, ◌==◌, List, [], ◌∷◌, length, Option, Some, None, refl, ap, arith}
+use Rattle.std.proofs.Common.{◌≡◌, ◌≢◌, ◌↔◌, ℕ, ◌<◌, ◌≤◌, Bool, true, false, not, ◌||◌, cond, List, [], ◌∷◌, length, Option, Some, None, refl, ap, arith}
 use Rattle.std.specs.Prelude.{⊤, bytes_eq, nat_lt}
-use Rattle.std.proofs.lemmas.Bool.{both_ways, false_from_ne_true}
+use Rattle.std.proofs.lemmas.Bool.{both_ways}
 use Rattle.std.proofs.lemmas.Bool.Decides.{nat_tests}
 use Rattle.spiffe_name.specs.Id.{server_text}
 use Rattle.spiffe_name.specs.Selector.{SelectorPair}
@@ -13,8 +13,9 @@ use Rattle.entry_book.specs.declared.op.Op.TheVariants.{Create, Update, Delete, 
 use Rattle.entry_book.specs.Rows.{Bytes, IsId, IsProperEntry, IsProperAgent}
 use Rattle.entry_book.specs.Faultless.{IsIdOf, IsAgentIdOf, FaultlessEntry, FaultlessAgent, FaultlessBundle, FaultlessOp}
 use Rattle.entry_book.specs.Batches.{entry_fault, parent_fault, asked_fault, agent_fault, own_fault, bundle_fault, op_fault, is_outside, IsProperOp}
-use Rattle.entry_book.proofs.Ids.{not_false, id_of, from_id_of, agent_id_of, from_agent_id_of}
-use Rattle.entry_book.proofs.Sets.{text_is, text_same}
+use Rattle.entry_book.proofs.Ids.{not_false, some, id_of, from_id_of, agent_id_of, from_agent_id_of}
+use Rattle.entry_book.proofs.Servers.{apart_from}
+use Rattle.entry_book.proofs.Sets.{text_same}
 
 -- ---- one line of a table
 
@@ -38,9 +39,6 @@ at_most m n h = grind (arith, nat_tests)
 not_more : (m n : ℕ) → n ≤ m → nat_lt m n ≡ false
 not_more m n h = grind (arith, nat_tests)
 
-some : (x : SelectorPair) (xs : List SelectorPair) → (length (x ∷ xs) == 0) ≡ false
-some x xs = grind (arith, nat_tests)
-
 within : (xs : List SelectorPair) → is_outside xs ≡ false → (0 < length xs) × (length xs ≤ 16)
 within [] h = cc
 within (x ∷ xs) h = (omega arith, at_most 16 (length (x ∷ xs)) (neither _ _ h).1)
@@ -51,9 +49,6 @@ not_outside (x ∷ xs) s l = not_either _ _ (some x xs) (not_more 16 (length (x 
 
 differ : (x y : Bytes) → bytes_eq x y ≡ false → x ≢ y
 differ x y h = λ e. both_ways (bytes_eq x y) h (text_same x y e)
-
-told_apart : (x y : Bytes) → x ≢ y → bytes_eq x y ≡ false
-told_apart x y n = false_from_ne_true _ (λ t. n (text_is x y t))
 
 -- ---- an entry
 
@@ -86,7 +81,7 @@ none_entry own e h =
     let i = from_id_of own e.identity h.identity in
     passed _ _ _ (not_either _ _ p.0 i.0)
     (passed _ _ _ (not_either _ _ p.1 i.1)
-    (passed _ _ _ (told_apart e.identity (server_text own) h.not_server)
+    (passed _ _ _ (apart_from e.identity (server_text own) h.not_server)
     (passed _ _ _ (not_outside e.selectors h.some_selectors h.selectors)
     (passed _ _ _ (not_more 8 (length e.domains) h.domains)
     (passed _ _ _ (not_more 1024 (length e.hint) h.hint) refl)))))
@@ -123,13 +118,13 @@ agent_faults own a p = (
 
 own_faults : (own domain : Bytes) → (own_fault own domain ≡ None) ↔ (domain ≢ own)
 unfolding own_fault
-own_faults own domain = (λ h. differ domain own (passes _ _ _ h).0, λ n. passed _ _ _ (told_apart domain own n) refl)
+own_faults own domain = (λ h. differ domain own (passes _ _ _ h).0, λ n. passed _ _ _ (apart_from domain own n) refl)
 
 pub bundle_faults : (own domain text : Bytes) → (bundle_fault own domain text ≡ None) ↔ FaultlessBundle own domain text
 unfolding bundle_fault
 bundle_faults own domain text = (
   λ h. let o = passes _ _ _ h in let t = passes _ _ _ o.1 in record { not_own = differ domain own o.0; short = at_most 65536 (length text) t.0 },
-  λ v. passed _ _ _ (told_apart domain own v.not_own) (passed _ _ _ (not_more 65536 (length text) v.short) refl),
+  λ v. passed _ _ _ (apart_from domain own v.not_own) (passed _ _ _ (not_more 65536 (length text) v.short) refl),
 )
 
 -- ---- an operation
