@@ -51,7 +51,11 @@ fn an_entry_says_what_it_is_asked(rt: HostRuntime) -> Result<(), Fail> {
 #[test]
 fn the_server_has_one_id(rt: HostRuntime) -> Result<(), Fail> {
     let own = domain(rt.alloc(), "ex.org")?;
-    for (text, is_it) in [(SERVER, true), (N1, false), ("spiffe://b.org/spire/server", false)] {
+    for (text, is_it) in [
+        (SERVER, true),
+        (N1, false),
+        ("spiffe://b.org/spire/server", false),
+    ] {
         assert_eq!(rt; is_server(own.get(), id(rt.alloc(), text)?.get()), is_it);
     }
     Ok(())

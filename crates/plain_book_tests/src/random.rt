@@ -7,7 +7,9 @@ use crate::making::{API, Draft, N1, N2, SERVER, Said, WEB, ops};
 use crate::rows::{BookRows, answers, are_children_listed, bits, is_lawful, rows_of};
 use crate::search::{bit, ends, has_cycle, is_alias};
 use crate::told::{number_of, run, small_book};
-use entry_book::{Agent, Batch, Bundle, DropMode, Entry, OpRefusal, OpReply, Outcome, Refusal, Reply};
+use entry_book::{
+    Agent, Batch, Bundle, DropMode, Entry, OpRefusal, OpReply, Outcome, Refusal, Reply,
+};
 use plain_book::PlainBook;
 use std::alloc::Global;
 use std::process::Abort;
