@@ -16,6 +16,5 @@ pub mod Rooms
 pub mod Same
 pub mod Shelves
 pub mod Sizes
-pub mod Tested
 pub mod Unchanged
 pub mod Writing

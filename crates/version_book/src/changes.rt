@@ -10,14 +10,15 @@ use uuid::Uuid;
 
 /// One row's change: the row of a key as it was found, and as it is put. Either may be absent.
 #[derive(Drop)]
-pub(crate) struct Change<K, T> {
-    pub(crate) key: K,
-    pub(crate) old: Option<T>,
-    pub(crate) new: Option<T>,
+pub struct Change<K, T> {
+    pub key: K,
+    pub old: Option<T>,
+    pub new: Option<T>,
 }
 
+/// The change of one row, of whichever kind.
 #[derive(Drop)]
-pub(crate) enum Write {
+pub enum Write {
     Entry(Change<Uuid, Entry>),
     Agent(Change<Shared<SpiffeId>, Agent>),
     Bundle(Change<Shared<TrustDomain>, Bundle>),
@@ -112,7 +113,8 @@ impl Changes {
         Ok(())
     }
 
-    pub(crate) fn writes(&self) -> &[Write]
+    /// The writes, in order. Takes no memory.
+    pub fn writes(&self) -> &[Write]
         ensures { map write_of result.now ≡ self.now }
     {
         self.writes.as_slice()

@@ -7,7 +7,7 @@
 //!   are of each kind.
 //! - [`Mark`]: one thing that a batch can read, such as the entries of a parent; [`Named`] says which. [`Reading`]: the rows
 //!   that it reads.
-//! - [`Changes`]: the writes of a batch, in order, which make the next version.
+//! - [`Changes`]: the writes of a batch, in order, which make the next version. Each is a [`Write`], the [`Change`] of one row.
 //! - [`laws`]: what holds of marks, writes and histories of versions, such as that a mark that no write hits reads the same.
 //!
 //! The definitions stand in `specs/`: what marks read and which writes hit them in `Marks`, the rows of versions in `Numbered`,
@@ -27,11 +27,9 @@ mod mark;
 mod numbered;
 mod reading;
 mod store;
-#[cfg(test)]
-mod tests;
 mod version;
 
-pub use changes::Changes;
+pub use changes::{Change, Changes, Write};
 pub use mark::{Mark, Named};
 pub use reading::Reading;
 pub use version::{RowCounts, Version};

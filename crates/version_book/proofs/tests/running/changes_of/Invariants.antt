@@ -1,7 +1,0 @@
-use Rattle.std.proofs.Common.{take}
-use Rattle.version_book.specs.Numbered.{book_of}
-use Rattle.version_book.proofs.Tested.{Along}
-use Rattle.version_book.proofs.tests.running.changes_of.Given as goal
-
-abbrev pub invariant-loop-op : goal.invariant-loop-op
-invariant-loop-op l = Along l.batch.domain (take l.op-index l.batch.ops) (book_of l.fn.version.rows) l.changes l.scratch

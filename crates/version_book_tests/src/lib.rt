@@ -1,0 +1,21 @@
+//! What do versions read on small worked books and on random ones, and when do they tell that nothing changed?
+//!
+//! These are the tests of `version_book`, over its public calls:
+//!
+//! - `worked`: the marks of small books, told by tables. `playing` plays a table, `making` reads its words.
+//! - `random`: long histories of random operations, beside plain lists of their rows, which `listed` has.
+//! - `running`: the writes of an operation, found by reading a version.
+#![tactic(auto)]
+
+#[cfg(test)]
+mod listed;
+#[cfg(test)]
+mod making;
+#[cfg(test)]
+mod playing;
+#[cfg(test)]
+mod random;
+#[cfg(test)]
+mod running;
+#[cfg(test)]
+mod worked;

@@ -1,0 +1,212 @@
+//! Rows in plain lists, and what each mark names of them.
+
+use crate::playing::number_of;
+
+use version_book::{Change, Changes, Mark, Named, Version, Write};
+use entry_book::{Agent, Bundle, Entry};
+use std::alloc::Global;
+use std::test::Fail;
+
+/// All rows of a book, in no order.
+#[derive(Drop)]
+pub struct Listed {
+    entries: Vec<Entry>,
+    agents: Vec<Agent>,
+    bundles: Vec<Bundle>,
+}
+
+fn names_entry(named: &Named, entry: &Entry) -> bool {
+    match named {
+        Named::Entry(id) => entry.id() == id,
+        Named::Group(parent, identity) => {
+            entry.parent().get() == parent.get() && entry.identity().get() == identity.get()
+        }
+        Named::Children(parent) => entry.parent().get() == parent.get(),
+        Named::Users(domain) => {
+            entry
+                .domains()
+                .as_slice()
+                .iter()
+                .any(|other| other.get() == domain.get())
+        }
+        Named::Expiring(moment) => entry.expiry() != 0 && entry.expiry() < *moment,
+        Named::Agent(_) | Named::Bundle(_) => false,
+    }
+}
+
+fn names_agent(named: &Named, agent: &Agent) -> bool {
+    match named {
+        Named::Agent(id) => agent.id.get() == id.get(),
+        _ => false,
+    }
+}
+
+fn names_bundle(named: &Named, bundle: &Bundle) -> bool {
+    match named {
+        Named::Bundle(domain) => bundle.domain.get() == domain.get(),
+        _ => false,
+    }
+}
+
+fn names_some_entry(named: &Named, entry: &Option<Entry>) -> bool {
+    match entry {
+        Some(entry) => names_entry(named, entry),
+        None => false,
+    }
+}
+
+fn names_some_agent(named: &Named, agent: &Option<Agent>) -> bool {
+    match agent {
+        Some(agent) => names_agent(named, agent),
+        None => false,
+    }
+}
+
+fn names_some_bundle(named: &Named, bundle: &Option<Bundle>) -> bool {
+    match bundle {
+        Some(bundle) => names_bundle(named, bundle),
+        None => false,
+    }
+}
+
+/// Is the old row or the new one named by the mark?
+fn is_hit(named: &Named, write: &Write) -> bool {
+    match write {
+        Write::Entry(Change { old, new, .. }) => {
+            names_some_entry(named, old) || names_some_entry(named, new)
+        }
+        Write::Agent(Change { old, new, .. }) => {
+            names_some_agent(named, old) || names_some_agent(named, new)
+        }
+        Write::Bundle(Change { old, new, .. }) => {
+            names_some_bundle(named, old) || names_some_bundle(named, new)
+        }
+    }
+}
+
+/// Does one of the changes hit the mark?
+pub fn are_hit(mark: &Mark, changes: &Changes) -> bool {
+    changes
+        .writes()
+        .iter()
+        .any(|write| is_hit(mark.named(), write))
+}
+
+/// An entry: all that isn't the same in two entries of one number here, or in all of them.
+fn entry_text(alloc: Global, entry: &Entry) -> Result<String, Fail> {
+    let (number, revision) = (number_of(entry.id()), entry.revision());
+    let (parent, identity) = (
+        entry.parent().get().as_str(),
+        entry.identity().get().as_str(),
+    );
+    let expiry = entry.expiry();
+    let mut text = format!(in alloc; " {number}.{revision} {parent} {identity} {expiry}")?;
+    for domain in entry.domains().as_slice() {
+        text.push_str(" ")?;
+        text.push_str(domain.get().as_str())?;
+    }
+    Ok(text)
+}
+
+fn agent_text(alloc: Global, agent: &Agent) -> Result<String, Fail> {
+    let id = agent.id.get().as_str();
+    let mut text = format!(in alloc; " {id}")?;
+    for selector in agent.selectors.get().as_slice() {
+        text.push_str(" ")?;
+        text.push_str(selector.as_str())?;
+    }
+    Ok(text)
+}
+
+fn bundle_text(alloc: Global, bundle: &Bundle) -> Result<String, Fail> {
+    let (domain, sequence) = (bundle.domain.get().as_str(), bundle.sequence);
+    Ok(format!(in alloc; " {domain} {sequence}")?)
+}
+
+/// What a version reads at a mark, row by row: all in which rows of these tests differ.
+pub fn read_text(alloc: Global, version: &Version, mark: &Mark) -> Result<String, Fail> {
+    let reading = version.read(mark)?;
+    let mut text = String::new(alloc);
+    for entry in reading.entries() {
+        text.push_str(entry_text(alloc, entry)?.as_str())?;
+    }
+    for agent in reading.agents() {
+        text.push_str(agent_text(alloc, agent)?.as_str())?;
+    }
+    for bundle in reading.bundles() {
+        text.push_str(bundle_text(alloc, bundle)?.as_str())?;
+    }
+    Ok(text)
+}
+
+impl Listed {
+    pub fn empty(alloc: Global) -> Listed {
+        Listed {
+            entries: Vec::new(alloc),
+            agents: Vec::new(alloc),
+            bundles: Vec::new(alloc),
+        }
+    }
+
+    /// The row of the key is taken away, and the new one is added, where there is one.
+    fn write(&mut self, write: &Write) -> Result<(), Fail> {
+        match write {
+            Write::Entry(Change { key, new, .. }) => {
+                self.entries.retain(|entry| entry.id() != key);
+                if let Some(entry) = new {
+                    self.entries.push(entry.clone()?)?;
+                }
+            }
+            Write::Agent(Change { key, new, .. }) => {
+                self.agents.retain(|agent| agent.id.get() != key.get());
+                if let Some(agent) = new {
+                    self.agents.push(agent.clone()?)?;
+                }
+            }
+            Write::Bundle(Change { key, new, .. }) => {
+                self.bundles
+                    .retain(|bundle| bundle.domain.get() != key.get());
+                if let Some(bundle) = new {
+                    self.bundles.push(bundle.clone()?)?;
+                }
+            }
+        }
+        Ok(())
+    }
+
+    pub fn apply(&mut self, changes: &Changes) -> Result<(), Fail> {
+        for write in changes.writes() {
+            self.write(write)?;
+        }
+        Ok(())
+    }
+
+    /// The rows that a mark names, told likewise, in the order of the numbers of ids, which are 1 to 6.
+    pub fn text(&self, alloc: Global, mark: &Mark) -> Result<String, Fail> {
+        let named = mark.named();
+        let mut text = String::new(alloc);
+        for number in 1..7 {
+            for entry in &self.entries {
+                if number_of(entry.id()) == number && names_entry(named, entry) {
+                    text.push_str(entry_text(alloc, entry)?.as_str())?;
+                }
+            }
+        }
+        for agent in &self.agents {
+            if names_agent(named, agent) {
+                text.push_str(agent_text(alloc, agent)?.as_str())?;
+            }
+        }
+        for bundle in &self.bundles {
+            if names_bundle(named, bundle) {
+                text.push_str(bundle_text(alloc, bundle)?.as_str())?;
+            }
+        }
+        Ok(text)
+    }
+
+    /// How many rows of each kind there are.
+    pub fn counts(&self) -> (usize, usize, usize) {
+        (self.entries.len(), self.agents.len(), self.bundles.len())
+    }
+}

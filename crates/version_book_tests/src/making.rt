@@ -1,0 +1,182 @@
+//! Operations and marks, made of the words of a line. IDs are told by their path; they are of `ex.org`.
+
+ghost use Rattle.std.specs.Prelude.{◌≡◌, IfOk};
+
+use version_book::{Mark, Version};
+use entry_book::{Agent, Batch, DomainSet, DropMode, NewEntry, Op, Sequence, Shared, Text};
+use spiffe_name::{Selector, SelectorSet, SpiffeId, TrustDomain};
+use std::alloc::Global;
+use std::test::Fail;
+use uuid::Uuid;
+
+pub fn words<'a>(alloc: Global, line: &'a str) -> Result<Vec<&'a str>, Fail> {
+    let mut words = Vec::new(alloc);
+    for word in line.split_whitespace() {
+        words.push(word)?;
+    }
+    Ok(words)
+}
+
+/// The word at an index from 0; the empty one behind the last.
+pub fn word<'a>(words: &[&'a str], index: usize) -> &'a str {
+    words.get(index).copied().unwrap_or("")
+}
+
+pub fn number(words: &[&str], index: usize) -> Result<u64, Fail> {
+    Ok(word(words, index).parse::<u64>()?)
+}
+
+/// The UUID whose last bytes are this number.
+fn uuid(words: &[&str], index: usize) -> Result<Uuid, Fail> {
+    Ok(Uuid::from_u64_pair(0, number(words, index)?))
+}
+
+fn id(alloc: Global, path: &str) -> Result<Shared<SpiffeId>, Fail> {
+    let text = format!(in alloc; "spiffe://ex.org{path}")?;
+    Ok(Shared::of(alloc, SpiffeId::parse(alloc, text.as_str())?)?)
+}
+
+fn domain(alloc: Global, name: &str) -> Result<Shared<TrustDomain>, Fail> {
+    Ok(Shared::of(alloc, TrustDomain::parse(alloc, name)?)?)
+}
+
+/// The selector of this number, alone.
+fn selectors(alloc: Global, number: &str) -> Result<Shared<SelectorSet>, Fail> {
+    let text = format!(in alloc; "u:{number}")?;
+    let mut selectors = Vec::new(alloc);
+    selectors.push(Selector::parse(alloc, text.as_str())?)?;
+    Ok(Shared::of(alloc, SelectorSet::of(selectors)?)?)
+}
+
+fn domains(alloc: Global, words: &[&str]) -> Result<DomainSet, Fail> {
+    let mut domains = Vec::new(alloc);
+    for name in words.iter().skip(5) {
+        domains.push(TrustDomain::parse(alloc, name)?)?;
+    }
+    Ok(DomainSet::of(alloc, domains)?)
+}
+
+fn text(alloc: Global) -> Result<Shared<Text>, Fail> {
+    Ok(Shared::of(alloc, Text::of(String::new(alloc)))?)
+}
+
+/// An entry, of its number, parent, identity, expiry and domains. Its selector is that of its number.
+fn entry(alloc: Global, words: &[&str]) -> Result<Shared<NewEntry>, Fail> {
+    let parent = id(alloc, word(words, 2))?;
+    let identity = id(alloc, word(words, 3))?;
+    let selectors = selectors(alloc, word(words, 1))?;
+    let hint = text(alloc)?;
+    let domains = domains(alloc, words)?;
+    let new = NewEntry {
+        id: uuid(words, 1)?,
+        parent,
+        identity,
+        selectors,
+        hint,
+        domains,
+        expiry: number(words, 4)?,
+    };
+    Ok(Shared::of(alloc, new)?)
+}
+
+/// An agent, of its path and the number of its selector.
+fn agent(alloc: Global, words: &[&str]) -> Result<Agent, Fail> {
+    let selectors = selectors(alloc, word(words, 2))?;
+    Ok(Agent {
+        id: id(alloc, word(words, 1))?,
+        selectors,
+    })
+}
+
+fn mode(word: &str) -> DropMode {
+    if word == "delete" {
+        return DropMode::Delete;
+    }
+    if word == "dissociate" {
+        return DropMode::Dissociate;
+    }
+    DropMode::Restrict
+}
+
+/// An operation on an entry; nothing where the line tells none.
+fn entry_op(alloc: Global, words: &[&str]) -> Result<Option<Op>, Fail> {
+    let kind = word(words, 0);
+    if kind == "create" {
+        return Ok(Some(Op::Create(entry(alloc, words)?)));
+    }
+    if kind == "update" {
+        return Ok(Some(Op::Update(entry(alloc, words)?, None)));
+    }
+    if kind == "delete" {
+        return Ok(Some(Op::Delete(uuid(words, 1)?, None)));
+    }
+    if kind == "prune" {
+        return Ok(Some(Op::Prune(number(words, 1)?)));
+    }
+    Ok(None)
+}
+
+/// The operation that a line tells.
+fn op(alloc: Global, words: &[&str]) -> Result<Op, Fail> {
+    if let Some(op) = entry_op(alloc, words)? {
+        return Ok(op);
+    }
+    let kind = word(words, 0);
+    if kind == "set_agent" {
+        return Ok(Op::SetAgent(agent(alloc, words)?));
+    }
+    if kind == "drop_agent" {
+        return Ok(Op::DropAgent(id(alloc, word(words, 1))?));
+    }
+    let domain = domain(alloc, word(words, 1))?;
+    if kind == "set_bundle" {
+        return Ok(Op::SetBundle(domain, text(alloc)?));
+    }
+    Ok(Op::DropBundle(domain, mode(word(words, 2))))
+}
+
+/// The batch of the operations that lines tell, for a version's trust domain.
+pub fn batch(alloc: Global, version: &Version, lines: &str) -> Result<Batch, Fail>
+    ensures { IfOk result (λ batch. batch.domain ≡ version.now.domain) }
+{
+    let mut ops = Sequence::empty(alloc);
+    for line in lines.lines() {
+        ops.push(op(alloc, words(alloc, line)?.as_slice())?)?;
+    }
+    Ok(Batch::new(version.domain(), ops)?)
+}
+
+/// The mark that a line tells.
+pub fn mark_of(alloc: Global, line: &str) -> Result<Mark, Fail> {
+    let words = words(alloc, line)?;
+    mark(alloc, words.as_slice())
+}
+
+fn mark(alloc: Global, words: &[&str]) -> Result<Mark, Fail> {
+    let kind = word(words, 0);
+    if kind == "entry" {
+        return Ok(Mark::entry(uuid(words, 1)?));
+    }
+    if kind == "expiring" {
+        return Ok(Mark::expiring(number(words, 1)?));
+    }
+    if kind == "users" {
+        return Ok(Mark::users(&domain(alloc, word(words, 1))?)?);
+    }
+    if kind == "bundle" {
+        return Ok(Mark::bundle(domain(alloc, word(words, 1))?));
+    }
+    mark_of_id(alloc, words)
+}
+
+fn mark_of_id(alloc: Global, words: &[&str]) -> Result<Mark, Fail> {
+    let kind = word(words, 0);
+    let first = id(alloc, word(words, 1))?;
+    if kind == "group" {
+        return Ok(Mark::group(&first, &id(alloc, word(words, 2))?)?);
+    }
+    if kind == "children" {
+        return Ok(Mark::children(&first)?);
+    }
+    Ok(Mark::agent(first))
+}

@@ -1,0 +1,148 @@
+//! Versions of one history, and what they answer, told by a table.
+
+use crate::making::{batch, mark_of, number, word, words};
+use crate::running::{changes_of, next_of};
+use version_book::{Changes, Mark, Version};
+use entry_book::Entry;
+use spiffe_name::TrustDomain;
+use std::alloc::Global;
+use std::process::Abort;
+use std::test::Fail;
+use uuid::Uuid;
+
+/// A version, and the writes that led to it.
+#[derive(Drop)]
+pub struct Step {
+    pub changes: Changes,
+    pub version: Version,
+}
+
+/// The number that the last byte of an id is.
+pub fn number_of(id: &Uuid) -> u8 {
+    id.as_bytes()[15]
+}
+
+/// The first version, alone.
+pub fn first_step(alloc: Global) -> Result<Vec<Step>, Fail> {
+    let version = Version::empty(alloc, TrustDomain::parse(alloc, "ex.org")?)?;
+    let changes = Changes::new(alloc);
+    let mut steps = Vec::new(alloc);
+    steps.push(Step { changes, version })?;
+    Ok(steps)
+}
+
+/// The version after the batch that lines tell; nothing where the book refuses it.
+fn play(alloc: Global, version: &Version, lines: &str) -> Result<Option<Step>, Fail> {
+    let batch = batch(alloc, version, lines)?;
+    let Some(changes) = changes_of(alloc, version, &batch)? else {
+        return Ok(None);
+    };
+    let Some(version) = next_of(version, &batch, &changes)? else {
+        return Ok(None);
+    };
+    Ok(Some(Step { changes, version }))
+}
+
+/// Adds the version after the batch that lines tell, where the book accepts it.
+pub fn go_on(alloc: Global, steps: &mut Vec<Step>, lines: &str) -> Result<bool, Fail> {
+    let Some(last) = steps.last() else {
+        return Ok(false);
+    };
+    match play(alloc, &last.version, lines)? {
+        Some(next) => {
+            steps.push(next)?;
+            Ok(true)
+        }
+        None => Ok(false),
+    }
+}
+
+/// An entry as its number and, after a dot, its revision.
+fn entry(alloc: Global, entry: &Entry) -> Result<String, Fail> {
+    let number = number_of(entry.id());
+    let revision = entry.revision();
+    Ok(format!(in alloc; " {number}.{revision}")?)
+}
+
+/// What a version reads at a mark, row by row: an agent is told as the count of its selectors, a bundle as its sequence.
+fn told(alloc: Global, version: &Version, mark: &Mark) -> Result<String, Fail> {
+    let reading = version.read(mark)?;
+    let mut text = String::new(alloc);
+    for row in reading.entries() {
+        text.push_str(entry(alloc, row)?.as_str())?;
+    }
+    for agent in reading.agents() {
+        let count = agent.selectors.get().len();
+        text.push_str(format!(in alloc; " agent {count}")?.as_str())?;
+    }
+    for bundle in reading.bundles() {
+        let sequence = bundle.sequence;
+        text.push_str(format!(in alloc; " bundle {sequence}")?.as_str())?;
+    }
+    Ok(text)
+}
+
+/// The same of the version's clone at the mark's clone, which has to name the same.
+fn told_by_clone(alloc: Global, version: &Version, mark: &Mark) -> Result<String, Fail> {
+    let (copy, copied_mark) = (version.clone()?, mark.clone()?);
+    if copied_mark.named().clone()? != *mark.named() {
+        return Err(Fail::from("a clone that names something else"));
+    }
+    told(alloc, &copy, &copied_mark)
+}
+
+fn told_count(alloc: Global, version: &Version) -> Result<String, Fail> {
+    let count = version.count();
+    let (entries, agents, bundles) = (count.entries, count.agents, count.bundles);
+    let number = version.number();
+    Ok(format!(in alloc; " {entries} {agents} {bundles} at {number}")?)
+}
+
+fn version_at(steps: &[Step], number: u64) -> Result<&Version, Fail> {
+    match steps.get(number as usize) {
+        Some(step) => Ok(&step.version),
+        None => Err(Fail::from("no such version")),
+    }
+}
+
+fn answer_at(alloc: Global, steps: &[Step], head: &str, mark: &Mark) -> Result<String, Fail> {
+    let words = words(alloc, head)?;
+    let kind = word(words.as_slice(), 0);
+    let version = version_at(steps, number(words.as_slice(), 1)?)?;
+    if kind == "READS" {
+        return told(alloc, version, mark);
+    }
+    if kind == "CLONE" {
+        return told_by_clone(alloc, version, mark);
+    }
+    let older = version_at(steps, number(words.as_slice(), 2)?)?;
+    let is_same = version.unchanged(mark, older);
+    Ok(String::from_str(alloc, if is_same { " yes" } else { " no" })?)
+}
+
+/// The answer of a version to a question: `COUNT 2`, `READS 2: children /a`, the same of its clone, `CLONE 2: children /a`,
+/// or, of a newer and an older one, `SAME 2 1: children /a`.
+fn answer(alloc: Global, steps: &[Step], question: &str) -> Result<String, Fail> {
+    match question.split_once(": ") {
+        Some((head, line)) => answer_at(alloc, steps, head, &mark_of(alloc, line)?),
+        None => {
+            let words = words(alloc, question)?;
+            told_count(alloc, version_at(steps, number(words.as_slice(), 1)?)?)
+        }
+    }
+}
+
+/// Plays a table: a question and its answer stand in a line with `=>` between them; each other line that isn't empty
+/// tells the operation that leads to the next version.
+pub fn plays(rt: &impl Abort, alloc: Global, table: &str) -> Result<(), Fail> {
+    let mut steps = first_step(alloc)?;
+    for line in table.lines() {
+        if let Some((question, want)) = line.split_once(" =>") {
+            let got = answer(alloc, steps.as_slice(), question)?;
+            assert_eq!(rt; got.as_str(), want, "{line}");
+        } else if !line.is_empty() {
+            assert!(rt; go_on(alloc, &mut steps, line)?, "refused: {line}");
+        }
+    }
+    Ok(())
+}

@@ -1,0 +1,309 @@
+//! Random operations on few rows: every mark reads what plain lists have, and tells whether it is unchanged.
+
+ghost use Rattle.std.specs.Prelude.{◌<◌};
+
+use crate::listed::{Listed, are_hit, read_text};
+use crate::making::mark_of;
+use crate::playing::{Step, first_step, go_on};
+use version_book::Mark;
+use std::alloc::Global;
+use std::process::Abort;
+use std::test::Fail;
+
+const MARKS: &str = "
+entry 1
+entry 2
+entry 3
+entry 4
+entry 5
+entry 6
+entry 7
+group /a /a
+group /a /x
+group /ab /a
+group /ab /x
+group /x /a
+group /x /x
+children /a
+children /ab
+children /x
+children /y
+users d1
+users d2
+users d3
+users ex.org
+expiring 0
+expiring 1
+expiring 2
+expiring 3
+expiring 4
+agent /spire/agent/m
+agent /spire/agent/n
+bundle d1
+bundle d2
+bundle d3
+";
+
+const NUMBERS: [&str; 6] = ["1", "2", "3", "4", "5", "6"];
+
+const PARENTS: [&str; 3] = ["/a", "/ab", "/x"];
+
+const IDENTITIES: [&str; 2] = ["/a", "/x"];
+
+const EXPIRIES: [&str; 4] = ["0", "1", "2", "3"];
+
+const DOMAINS: [&str; 6] = ["", "", "d1", "d2", "d3", "d1 d3"];
+
+const BUNDLES: [&str; 3] = ["d1", "d2", "d3"];
+
+const AGENTS: [&str; 2] = ["/spire/agent/m", "/spire/agent/n"];
+
+const MODES: [&str; 3] = ["restrict", "delete", "dissociate"];
+
+const KINDS: [&str; 12] = [
+    "create",
+    "create",
+    "create",
+    "update",
+    "update",
+    "delete",
+    "prune",
+    "set_agent",
+    "drop_agent",
+    "set_bundle",
+    "set_bundle",
+    "drop_bundle",
+];
+
+/// A random number below a bound.
+fn below(state: &mut u64, bound: u64) -> usize
+    requires { 0 < bound }
+    ensures { result < bound }
+{
+    *state = state
+        .wrapping_mul(6_364_136_223_846_793_005)
+        .wrapping_add(1_442_695_040_888_963_407);
+    ((*state >> 33) % bound) as usize
+}
+
+/// A random operation on an entry, of the kind.
+fn entry_line(alloc: Global, state: &mut u64, kind: &str) -> Result<String, Fail> {
+    let (number, parent) = (NUMBERS[below(state, 6)], PARENTS[below(state, 3)]);
+    let (identity, expiry) = (IDENTITIES[below(state, 2)], EXPIRIES[below(state, 4)]);
+    let domains = DOMAINS[below(state, 6)];
+    Ok(format!(in alloc; "{kind} {number} {parent} {identity} {expiry} {domains}")?)
+}
+
+/// A random operation of the kind.
+fn line_of(alloc: Global, state: &mut u64, kind: &str) -> Result<String, Fail> {
+    let (first, second) = if kind == "set_agent" || kind == "drop_agent" {
+        (AGENTS[below(state, 2)], NUMBERS[below(state, 2)])
+    } else if kind == "set_bundle" || kind == "drop_bundle" {
+        (BUNDLES[below(state, 3)], MODES[below(state, 3)])
+    } else if kind == "prune" {
+        (EXPIRIES[below(state, 4)], "")
+    } else {
+        return entry_line(alloc, state, kind);
+    };
+    Ok(format!(in alloc; "{kind} {first} {second}")?)
+}
+
+/// A random operation.
+fn line(alloc: Global, state: &mut u64) -> Result<String, Fail> {
+    let kind = KINDS[below(state, 12)];
+    line_of(alloc, state, kind)
+}
+
+/// One to four random operations.
+fn lines(alloc: Global, state: &mut u64) -> Result<String, Fail> {
+    let mut lines = line(alloc, state)?;
+    for _ in 0..below(state, 4) {
+        lines.push_str("\n")?;
+        lines.push_str(line(alloc, state)?.as_str())?;
+    }
+    Ok(lines)
+}
+
+fn marks(alloc: Global) -> Result<Vec<Mark>, Fail> {
+    let mut marks = Vec::new(alloc);
+    for line in MARKS.lines() {
+        if !line.is_empty() {
+            marks.push(mark_of(alloc, line)?)?;
+        }
+    }
+    Ok(marks)
+}
+
+/// The versions of a history, and the operations of each version's batch; the first version has none.
+#[derive(Drop)]
+struct Played {
+    steps: Vec<Step>,
+    batches: Vec<String>,
+}
+
+/// A history of so many versions after the first.
+fn history(alloc: Global, seed: u64, count: usize) -> Result<Played, Fail> {
+    let mut state = seed;
+    let mut steps = first_step(alloc)?;
+    let mut batches = Vec::new(alloc);
+    batches.push(String::new(alloc))?;
+    for _ in 0..100_000 {
+        if steps.len() > count {
+            break;
+        }
+        let lines = lines(alloc, &mut state)?;
+        if go_on(alloc, &mut steps, lines.as_str())? {
+            batches.push(lines)?;
+        }
+    }
+    Ok(Played { steps, batches })
+}
+
+/// How many batches were one operation that begins and ends with these words and wrote at least so many rows?
+fn count_of(played: &Played, (start, end): (&str, &str), least: usize) -> usize {
+    played
+        .steps
+        .iter()
+        .zip(&played.batches)
+        .filter(|(step, batch)| {
+            !batch.contains('\n')
+                && batch.starts_with(start)
+                && batch.ends_with(end)
+                && step.changes.len() >= least
+        })
+        .count()
+}
+
+/// Every operation came alone and wrote something, and each way to drop a bundle met its users where it takes notice.
+fn every_operation_came(rt: &impl Abort, played: &Played) {
+    for kind in KINDS {
+        assert!(rt; count_of(played, (kind, ""), 1) > 0, "{kind}");
+    }
+    for (mode, least) in [("restrict", 1), ("delete", 2), ("dissociate", 2)] {
+        assert!(rt;
+            count_of(played, ("drop_bundle", mode), least) > 0,
+            "{mode}"
+        );
+    }
+}
+
+/// Every mark reads of this version what it reads of the lists.
+fn are_read(
+    rt: &impl Abort,
+    alloc: Global,
+    step: &Step,
+    listed: &Listed,
+    marks: &[Mark],
+) -> Result<(), Fail> {
+    for mark in marks {
+        let got = read_text(alloc, &step.version, mark)?;
+        let want = listed.text(alloc, mark)?;
+        assert_eq!(rt; got.as_str(), want.as_str());
+    }
+    Ok(())
+}
+
+#[test]
+fn each_mark_reads_what_the_lists_have(rt: HostRuntime) -> Result<(), Fail> {
+    let alloc = rt.alloc();
+    let marks = marks(alloc)?;
+    let played = history(alloc, 7, 1000)?;
+    assert_eq!(rt; played.steps.len(), 1001);
+    every_operation_came(&rt, &played);
+    let mut listed = Listed::empty(alloc);
+    let mut longest = 0;
+    for step in &played.steps {
+        listed.apply(&step.changes)?;
+        longest = step.changes.len().max(longest);
+        are_read(&rt, alloc, step, &listed, marks.as_slice())?;
+        let count = step.version.count();
+        assert_eq!(rt;
+            (count.entries, count.agents, count.bundles),
+            listed.counts()
+        );
+    }
+    assert!(rt; longest > 3);
+    Ok(())
+}
+
+/// How often what came.
+#[derive(Drop)]
+struct Counts {
+    unhit: u64,
+    unchanged: u64,
+    changed: u64,
+    unchanged_though_hit: u64,
+    changed_though_equal: u64,
+}
+
+/// One more, where this holds.
+fn add(count: &mut u64, holds: bool) {
+    *count = count.wrapping_add(u64::from(holds));
+}
+
+/// Compares a version with an older one at a mark that the writes since hit, or don't.
+fn compare(
+    rt: &impl Abort,
+    alloc: Global,
+    (newer, older): (&Step, &Step),
+    (mark, is_hit): (&Mark, bool),
+    counts: &mut Counts,
+) -> Result<(), Fail> {
+    let is_unchanged = newer.version.unchanged(mark, &older.version);
+    let now = read_text(alloc, &newer.version, mark)?;
+    let before = read_text(alloc, &older.version, mark)?;
+    let is_equal = now.as_str() == before.as_str();
+    assert!(rt; is_equal || !is_unchanged);
+    assert!(rt; is_hit || is_unchanged);
+    add(&mut counts.unhit, !is_hit);
+    add(&mut counts.unchanged, is_unchanged);
+    add(&mut counts.changed, !is_unchanged);
+    add(&mut counts.unchanged_though_hit, is_unchanged && is_hit);
+    add(&mut counts.changed_though_equal, !is_unchanged && is_equal);
+    Ok(())
+}
+
+/// Compares a version with each of the nine before it, at one mark.
+fn compare_at(
+    rt: &impl Abort,
+    alloc: Global,
+    steps: &[Step],
+    mark: &Mark,
+    counts: &mut Counts,
+) -> Result<(), Fail> {
+    let Some((newer, earlier)) = steps.split_last() else {
+        return Ok(());
+    };
+    let mut is_hit = are_hit(mark, &newer.changes);
+    for older in earlier.iter().rev() {
+        compare(rt, alloc, (newer, older), (mark, is_hit), counts)?;
+        is_hit = is_hit || are_hit(mark, &older.changes);
+    }
+    Ok(())
+}
+
+#[test]
+fn a_mark_is_unchanged_where_no_write_hits_it(rt: HostRuntime) -> Result<(), Fail> {
+    let alloc = rt.alloc();
+    let marks = marks(alloc)?;
+    let played = history(alloc, 12, 300)?;
+    every_operation_came(&rt, &played);
+    let mut counts = Counts {
+        unhit: 0,
+        unchanged: 0,
+        changed: 0,
+        unchanged_though_hit: 0,
+        changed_though_equal: 0,
+    };
+    for ten in played.steps.as_slice().windows(10) {
+        for mark in &marks {
+            compare_at(&rt, alloc, ten, mark, &mut counts)?;
+        }
+    }
+    assert!(rt; counts.unhit != 0);
+    assert!(rt; counts.unchanged != 0);
+    assert!(rt; counts.changed != 0);
+    assert!(rt; counts.unchanged_though_hit != 0);
+    assert!(rt; counts.changed_though_equal != 0);
+    Ok(())
+}

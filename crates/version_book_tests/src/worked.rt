@@ -1,0 +1,158 @@
+//! What the versions of small worked books read.
+
+use crate::playing::plays;
+use std::test::Fail;
+
+/// An update moves the entry in every mark, and older versions read as before.
+const MOVED: &str = "
+set_bundle d1
+set_bundle d2
+create 1 /a /x 5 d1
+update 1 /b /y 9 d2
+READS 4: entry 1 => 1.1
+READS 4: group /a /x =>
+READS 4: group /a /y =>
+READS 4: group /b /x =>
+READS 4: group /b /y => 1.1
+READS 4: children /a =>
+READS 4: children /b => 1.1
+READS 4: users d1 =>
+READS 4: users d2 => 1.1
+READS 4: expiring 6 =>
+READS 4: expiring 10 => 1.1
+COUNT 4 => 1 0 2 at 4
+delete 1
+READS 5: entry 1 =>
+READS 5: group /b /y =>
+READS 5: users d2 =>
+READS 5: expiring 10 =>
+COUNT 5 => 0 0 2 at 5
+drop_bundle d2 restrict
+READS 6: bundle d2 =>
+COUNT 6 => 0 0 1 at 6
+READS 4: group /b /y => 1.1
+CLONE 4: group /b /y => 1.1
+CLONE 5: group /b /y =>
+READS 3: entry 1 => 1.0
+READS 3: group /a /x => 1.0
+READS 3: group /b /y =>
+READS 3: users d1 => 1.0
+READS 3: users d2 =>
+READS 3: expiring 6 => 1.0
+READS 2: entry 1 =>
+COUNT 2 => 0 0 2 at 2
+COUNT 0 => 0 0 0 at 0
+";
+
+/// Two domains, an expiry of 0, the moment itself, children in the order of their ids, neighbouring parents.
+const READ: &str = "
+set_bundle d1
+set_bundle d2
+create 3 /a /x 0 d2 d1
+create 2 /a /y 7 d2
+create 1 /a /z 3
+create 5 /ab /x 7
+create 4 /a/b /x 0
+READS 7: users d1 => 3.0
+READS 7: users d2 => 2.0 3.0
+READS 7: users d3 =>
+READS 7: expiring 0 =>
+READS 7: expiring 3 =>
+READS 7: expiring 4 => 1.0
+READS 7: expiring 7 => 1.0
+READS 7: expiring 8 => 1.0 2.0 5.0
+READS 7: children /a => 1.0 2.0 3.0
+READS 7: children /ab => 5.0
+READS 7: children /a/b => 4.0
+READS 7: children /x =>
+READS 7: group /a /x => 3.0
+READS 7: group /ab /x => 5.0
+prune 7
+READS 8: children /a => 2.0 3.0
+READS 8: expiring 8 => 2.0 5.0
+drop_bundle d2 dissociate
+READS 9: users d1 => 3.1
+READS 9: users d2 =>
+READS 9: bundle d2 =>
+READS 9: children /a => 2.1 3.1
+drop_bundle d1 delete
+READS 10: entry 3 =>
+COUNT 10 => 3 0 0 at 10
+CLONE 7: entry 3 => 3.0
+CLONE 7: children /a => 1.0 2.0 3.0
+CLONE 7: users d2 => 2.0 3.0
+CLONE 7: expiring 8 => 1.0 2.0 5.0
+";
+
+/// Agents and bundles, and whether what they read is unchanged.
+const ROWS: &str = "
+set_agent /spire/agent/m 1
+set_bundle d1
+set_agent /spire/agent/m 1
+set_bundle d1
+READS 2: agent /spire/agent/m => agent 1
+READS 2: agent /spire/agent/n =>
+READS 2: bundle d1 => bundle 0
+READS 4: bundle d1 => bundle 1
+READS 4: bundle d2 =>
+SAME 2 1: agent /spire/agent/m => yes
+SAME 3 2: agent /spire/agent/m => no
+SAME 4 2: agent /spire/agent/n => yes
+SAME 3 2: bundle d1 => yes
+SAME 4 2: bundle d1 => no
+SAME 4 2: bundle d2 => yes
+drop_agent /spire/agent/m
+READS 5: agent /spire/agent/m =>
+SAME 5 4: agent /spire/agent/m => no
+SAME 5 0: agent /spire/agent/m => yes
+COUNT 4 => 0 1 1 at 4
+COUNT 5 => 0 0 1 at 5
+CLONE 4: agent /spire/agent/m => agent 1
+CLONE 4: bundle d1 => bundle 1
+";
+
+/// What is created and then deleted again leaves all marks as they were; what is written in place doesn't.
+const UNCHANGED: &str = "
+set_bundle d1
+create 1 /a /x 4
+create 2 /a /y 6 d1
+delete 2
+SAME 3 2: entry 2 => no
+SAME 3 2: group /a /y => no
+SAME 3 2: children /a => no
+SAME 3 2: users d1 => no
+SAME 3 2: expiring 7 => no
+SAME 3 2: expiring 6 => yes
+SAME 3 2: entry 1 => yes
+SAME 3 2: group /a /x => yes
+SAME 3 2: children /b => yes
+SAME 3 2: users d2 => yes
+SAME 4 2: entry 2 => yes
+SAME 4 2: group /a /y => yes
+SAME 4 2: children /a => yes
+SAME 4 2: users d1 => yes
+SAME 4 2: expiring 7 => yes
+SAME 4 3: children /a => no
+update 1 /a /x 4
+SAME 5 4: entry 1 => no
+SAME 5 4: group /a /x => no
+SAME 5 4: children /a => no
+SAME 5 4: expiring 5 => no
+SAME 5 4: expiring 4 => yes
+SAME 5 5: entry 1 => yes
+delete 1
+create 1 /a /x 4
+SAME 7 5: entry 1 => no
+SAME 7 2: children /a => no
+SAME 6 0: children /a => yes
+READS 3: children /a => 1.0 2.0
+READS 5: children /a => 1.1
+";
+
+#[test]
+fn versions_read_their_own_rows(rt: HostRuntime) -> Result<(), Fail> {
+    for table in [MOVED, READ, ROWS, UNCHANGED] {
+        plays(&rt, rt.alloc(), table)?;
+    }
+    Ok(())
+}
