@@ -4,6 +4,7 @@ ghost use Rattle.std.specs.Prelude.{◌≡◌};
 
 use crate::changes::Changes;
 use crate::mark::Mark;
+use crate::overlay::after_changes;
 use crate::reading::Reading;
 use crate::store::Store;
 use entry_book::Shared;
@@ -102,6 +103,14 @@ impl Version {
         ensures { IfOk result (λ reading. reading ≡ reads mark.now (book_of self.now.rows)) }
     {
         self.store.read(self.alloc, mark)
+    }
+
+    /// What a mark reads on the book after these changes, none of which is applied. The error is want of memory.
+    pub fn read_after(&self, mark: &Mark, changes: &Changes) -> Result<Reading, AllocError>
+        ensures { IfOk result (λ reading. reading ≡ reads mark.now (after changes.now (book_of self.now.rows))) }
+    {
+        let reading = self.read(mark)?;
+        after_changes(self.alloc, reading, mark, changes)
     }
 
     /// The next version: the book after these changes, whose rows get its number. The caller sees to it that the number is
