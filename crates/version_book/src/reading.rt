@@ -54,20 +54,23 @@ impl Reading {
     pub fn into_entries(self) -> Vec<Entry>
         ensures { result.items ≡ self.entries }
     {
-        self.entries
+        let Reading { entries, .. } = self;
+        entries
     }
 
     /// The agent that was read, to keep; at most one.
     pub fn into_agents(self) -> Vec<Agent>
         ensures { result.items ≡ self.agents }
     {
-        self.agents
+        let Reading { agents, .. } = self;
+        agents
     }
 
     /// The bundle that was read, to keep; at most one.
     pub fn into_bundles(self) -> Vec<Bundle>
         ensures { result.items ≡ self.bundles }
     {
-        self.bundles
+        let Reading { bundles, .. } = self;
+        bundles
     }
 }
