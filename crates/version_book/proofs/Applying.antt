@@ -1,5 +1,5 @@
 -- The writes of a run meet the conditions under which a version takes them.
-use Rattle.std.proofs.Common.{◌≡◌, ◌+◌, ◌*◌, Ok, sym, ap, subst, ◌∙◌, refl, IfOk}
+use Rattle.std.proofs.Common.{◌+◌, ◌*◌, sym, ap, subst, ◌∙◌, refl, IfOk}
 use Rattle.entry_book.proofs.Histories.{batch_keeps}
 use Rattle.entry_book.proofs.Runs.{run_fits}
 use Rattle.entry_book.specs.Book.{Book, AscendingBook}

@@ -1,26 +1,21 @@
 -- What do lists of batches come to, on versions and on the plain book's list of books?
-use Rattle.std.proofs.Common.{◌≡◌, ℕ, suc, ◌+◌, ◌<◌, Bool, true, false, ◌⊎◌, List, [], ◌∷◌, ◌++◌, length, Option, Some, None, Ok, Err, sym, ap, subst, ◌∙◌, refl, arith, length-append, inl, inr, ⊎_elim}
-use Rattle.std.specs.Prelude.{◌↔◌, ◌||◌}
-use Rattle.std.specs.List.{AllByRecursion, list_any}
-use Rattle.std.proofs.lemmas.Bool.{cases_Bool}
+use Rattle.std.proofs.Common.{◌≡◌, ℕ, suc, ◌+◌, ◌<◌, Bool, true, false, List, [], ◌∷◌, ◌++◌, length, Option, Some, None, Ok, Err, sym, ap, subst, ◌∙◌, refl, append_assoc, arith, length-append}
+use Rattle.std.specs.Prelude.{slice_get}
+use Rattle.std.proofs.lemmas.List.{append-nil}
 use Rattle.entry_book.proofs.Histories.{last-snoc}
 use Rattle.entry_book.specs.declared.limit.Limit.{Limit}
 use Rattle.entry_book.specs.declared.reply.OpReply.{OpReply}
-use Rattle.entry_book.specs.declared.reply.Reply.{Reply}
-use Rattle.entry_book.specs.Order.{Within}
 use Rattle.entry_book.specs.Book.{Book, empty_book}
-use Rattle.entry_book.specs.Writes.{Write, after}
+use Rattle.entry_book.specs.Writes.{after}
 use Rattle.entry_book.specs.Batches.{Batch, IsMadeFor, is_query}
 use Rattle.entry_book.specs.Runs.{RunResult, run}
 use Rattle.entry_book.specs.Limits.{limit_passed}
-use Rattle.entry_book.specs.History.{Verdict, adds, adds_within, verdict, verdict_when, last_book, place_of, books_with, books_after, books_from, reply_to, reply_with, is_committed, CommitAll}
+use Rattle.entry_book.specs.History.{Verdict, refuses, answers, adds, adds_within, verdict, verdict_when, last_book, last_or, place_of, books_with, books_after, books_from, reply_to, reply_with, is_committed, CommitAll}
 use Rattle.entry_book.specs.Worked.{replies_from}
-use Rattle.version_book.specs.declared.mark.Named.{Named}
-use Rattle.version_book.specs.Marks.{hits}
 use Rattle.version_book.specs.Numbered.{State, book_of}
-use Rattle.version_book.specs.History.{Commits, Follows, IsLast, SomeHit, any_hits, replies_on, state_after, state_with, writes_in, writes_of}
-use Rattle.version_book.specs.Laws.{BooksJoin, BooksLead, CommitsJoin, FollowsOne, FollowsParts, HitsInBooks, RepliesCount, RepliesFollow, RepliesJoin}
-use Rattle.version_book.proofs.Histories.{follows_on}
+use Rattle.version_book.specs.History.{Commits, Follows, IsLast, state_with, writes_in, writes_of}
+use Rattle.version_book.specs.Laws.{BookAtPlace, BooksJoin, BooksLead, CommitsJoin, FollowsOne, FollowsParts, RepliesCount, RepliesFollow, RepliesJoin}
+use Rattle.version_book.proofs.Histories.{books_follow, follows_on}
 use Rattle.version_book.proofs.NamedRows.{book_after}
 
 -- ---- histories of versions
@@ -112,3 +107,41 @@ replies_follow (batch ∷ batches) older newer books l k f =
     let reply : reply_to batch books ≡ reply_with older.number (verdict batch older.number (book_of older.rows)) = ap (λ v. reply_with (place_of books) v) (verdict_on batch older books k) ∙ ap (λ p. reply_with p (verdict batch older.number (book_of older.rows))) k.place in
     ap (λ r. r ∷ replies_from (books_after batch books) batches) reply
     ∙ ap (λ rs. reply_with older.number (verdict batch older.number (book_of older.rows)) ∷ rs) (replies_follow batches (state_with batch older) newer (books_after batch books) n.1 n.0 f.1)
+
+-- ---- the book at a place
+
+with_more : (books : List Book) (v : Verdict) → (more : List Book) × (books_with books v ≡ books ++ more)
+with_more books (refuses r) = ([], sym (append-nil books))
+with_more books (answers replies) = ([], sym (append-nil books))
+with_more books (adds replies b) = (b ∷ [], refl)
+
+-- batches only add books
+from_more : (batches : List Batch) (books : List Book) → (more : List Book) × (books_from books batches ≡ books ++ more)
+from_more [] books = ([], sym (append-nil books))
+from_more (batch ∷ batches) books =
+    let one = with_more books (verdict batch (place_of books) (last_book books)) in
+    let all = from_more batches (books_after batch books) in
+    (one.0 ++ all.0, all.1 ∙ (ap (λ bs. bs ++ all.0) one.1 ∙ append_assoc books one.0 all.0))
+
+last_at : (b : Book) (bs more : List Book) → slice_get (b ∷ (bs ++ more)) (length bs) ≡ Some (last_or b bs)
+last_at b [] more = refl
+last_at b (c ∷ cs) more = last_at c cs more
+
+last_stays : (books more : List Book) (n : ℕ) → 0 < length books → place_of books ≡ n → slice_get (books ++ more) n ≡ Some (last_book books)
+last_stays [] more n l p = absurd (omega arith)
+last_stays (b ∷ bs) more n l p = let q : n ≡ length bs = omega arith in ap (slice_get (b ∷ (bs ++ more))) q ∙ last_at b bs more
+
+pub book_at_place : BookAtPlace
+book_at_place before later older newer books l k f =
+    let parts = parted before later older newer f in
+    let t : State = parts.0 in
+    let then : List Book = books_from books before in
+    let told = books_follow before older t books l k.book k.place parts.1 in
+    let grown = from_more before books in
+    let long : length then ≡ length books + length grown.0 = ap length grown.1 ∙ length-append books grown.0 in
+    let more = from_more later then in
+    let number = told.3 in
+    let place = told.2 in
+    ap (λ bs. slice_get bs (older.number + length before)) (books_join before later books ∙ more.1)
+    ∙ (last_stays then more.0 (older.number + length before) (omega arith) (omega arith)
+    ∙ ap Some (told.1 ∙ ap (λ s. book_of s.rows) (follows_one before older t parts.1)))

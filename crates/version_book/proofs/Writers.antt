@@ -44,12 +44,12 @@ found_in_books : (m : Named) (batches : List Batch) (older newer : State) (books
 found_in_books m [] older newer books l k f h = cc
 found_in_books m (batch ∷ batches) older newer books l k f h = ⊎_elim
     (λ here.
-      let w = from_any (λ w. hits w m) (writes_of batch (book_of older.rows)) here in
-      record { before = []; batch = batch; later = batches; split = refl; write = w.0; is_made = subst (λ b. Within (writes_of batch b) w.0) (sym k.book) w.1; hit = w.2 })
+    let w = from_any (λ w. hits w m) (writes_of batch (book_of older.rows)) here in
+    record { before = []; batch = batch; later = batches; split = refl; write = w.0; is_made = subst (λ b. Within (writes_of batch b) w.0) (sym k.book) w.1; hit = w.2 })
     (λ there.
-      let n = stands_next batch older books l k f.0 in
-      let r = found_in_books m batches (state_with batch older) newer (books_after batch books) n.1 n.0 f.1 there in
-      record { before = batch ∷ r.before; batch = r.batch; later = r.later; split = ap (λ bs. batch ∷ bs) r.split; write = r.write; is_made = r.is_made; hit = r.hit })
+    let n = stands_next batch older books l k f.0 in
+    let r = found_in_books m batches (state_with batch older) newer (books_after batch books) n.1 n.0 f.1 there in
+    record { before = batch ∷ r.before; batch = r.batch; later = r.later; split = ap (λ bs. batch ∷ bs) r.split; write = r.write; is_made = r.is_made; hit = r.hit })
     (or_cases (list_any (λ w. hits w m) (writes_of batch (book_of older.rows))) (any_hits m (state_with batch older) batches) h)
 
 from_books : (m : Named) (before : List Batch) (batch : Batch) (later : List Batch) (older newer : State) (books : List Book) → 0 < length books → IsLast older books → Follows older (before ++ batch ∷ later) newer → (w : Write) → Within (writes_of batch (last_book (books_from books before))) w → hits w m ≡ true → any_hits m older (before ++ batch ∷ later) ≡ true
@@ -60,9 +60,9 @@ from_books m (first ∷ before) batch later older newer books l k f w i h =
 
 pub hits_in_books : HitsInBooks
 hits_in_books m batches older newer books l k f = (
-      found_in_books m batches older newer books l k f,
-      λ s. subst (λ bs. any_hits m older bs ≡ true) (sym s.split) (from_books m s.before s.batch s.later older newer books l k (subst (λ bs. Follows older bs newer) s.split f) s.write s.is_made s.hit),
-    )
+  found_in_books m batches older newer books l k f,
+  λ s. subst (λ bs. any_hits m older bs ≡ true) (sym s.split) (from_books m s.before s.batch s.later older newer books l k (subst (λ bs. Follows older bs newer) s.split f) s.write s.is_made s.hit),
+)
 
 -- ---- rows after one write
 
@@ -146,9 +146,9 @@ module _ {X : Type 0} (mark_of : X → Named) (rows_of : Rows → List (Numbered
       ⊎_elim
       (λ h. inl (right_is (hits w m) (list_any (λ w. hits w m) ws) h.0, h.1))
       (λ h. ⊎_elim
-        (λ k. inl (left_is (hits w m) (list_any (λ w. hits w m) ws) k.0, k.1))
-        (λ k. inr (neither (hits w m) (list_any (λ w. hits w m) ws) k.0 h.0, k.1))
-        (written n w rows r f.0 h.1))
+      (λ k. inl (left_is (hits w m) (list_any (λ w. hits w m) ws) k.0, k.1))
+      (λ k. inr (neither (hits w m) (list_any (λ w. hits w m) ws) k.0 h.0, k.1))
+      (written n w rows r f.0 h.1))
       (written_all n ws (rows_after_write n w rows) r (subst (FitAll ws) e f.1) v)
 
   last_written_of : (batches : List Batch) (older newer : State) → AscendingBook (book_of older.rows) → Follows older batches newer → (r : Numbered X) → Within (rows_of newer.rows) r → LastHit (mark_of r.row) older batches r.commit ⊎ ((any_hits (mark_of r.row) older batches ≡ false) × Within (rows_of older.rows) r)
@@ -159,9 +159,9 @@ module _ {X : Type 0} (mark_of : X → Named) (rows_of : Rows → List (Numbered
       ⊎_elim
       (λ h. inl (later_hit m batch batches older r.commit h))
       (λ h. ⊎_elim
-        (λ k. let e = k.1 in inl (record { before = []; batch = batch; later = batches; split = refl; number = omega arith; hit = k.0; none_later = h.0 }))
-        (λ k. inr (neither (list_any (λ w. hits w m) ws) (any_hits m (state_with batch older) batches) k.0 h.0, k.1))
-        (written_all (older.number + 1) ws older.rows r (writes_fit batch older a f.0) h.1))
+      (λ k. let e = k.1 in inl (record { before = []; batch = batch; later = batches; split = refl; number = omega arith; hit = k.0; none_later = h.0 }))
+      (λ k. inr (neither (list_any (λ w. hits w m) ws) (any_hits m (state_with batch older) batches) k.0 h.0, k.1))
+      (written_all (older.number + 1) ws older.rows r (writes_fit batch older a f.0) h.1))
       (last_written_of batches (state_with batch older) newer (ascending_next batch older a f.0) f.1 r v)
 
 pub last_written : LastWritten

@@ -1,5 +1,5 @@
 -- The laws of marks and versions. Each is a clause of a function of the module `laws`.
-use Rattle.std.specs.Prelude.{◌≡◌, ◌↔◌, ◌⊎◌, ℕ, ◌+◌, ◌*◌, ◌<◌, true, false, List, ◌++◌, length, map, option_to_list, None, Ok}
+use Rattle.std.specs.Prelude.{◌≡◌, ◌↔◌, ◌⊎◌, ℕ, ◌+◌, ◌*◌, ◌<◌, true, false, List, ◌++◌, length, map, option_to_list, slice_get, Some, None, Ok}
 use Rattle.std.specs.List.{AllByRecursion}
 use Rattle.entry_book.specs.Rows.{Bytes, Entry, entry_key, agent_key, bundle_key}
 use Rattle.entry_book.specs.Order.{Within}
@@ -129,6 +129,10 @@ BooksJoin = (first second : List Batch) (books : List Book) → books_from books
 
 abbrev pub CommitsJoin : Type 0
 CommitsJoin = (first second : List Batch) (books : List Book) → CommitAll books (first ++ second) ↔ (CommitAll books first × CommitAll (books_from books first) second)
+
+-- along a history the list of books has at each version's number the book of this version
+abbrev pub BookAtPlace : Type 0
+BookAtPlace = (before later : List Batch) (older newer : State) (books : List Book) → 0 < length books → IsLast older books → Follows older (before ++ later) newer → slice_get (books_from books (before ++ later)) (older.number + length before) ≡ Some (book_of (state_after before older).rows)
 
 -- each batch has its reply
 abbrev pub RepliesCount : Type 0

@@ -3,7 +3,7 @@
 //! Each function does nothing. What it ensures is a law of the definitions, stated in `specs/Laws.antt`; a caller
 //! that calls it may rest on the law.
 
-ghost use Rattle.version_book.specs.Laws.{AgreeAfter, BatchCommits, BookAfter, BookReads, BooksFollow, BooksJoin, BooksLead, CommitsJoin, DomainStays, FollowsOn, FollowsOne, FollowsParts, HitsInBooks, LastWritten, LawfulFollows, LimitsFollow, ReadsAfter, ReadsAgent, ReadsBundle, ReadsChildren, ReadsEntry, ReadsExpiring, ReadsGroup, ReadsUsers, RepliesCount, RepliesFollow, RepliesJoin, RoomInRun, RunMayApply, Unhit, UnhitHistory};
+ghost use Rattle.version_book.specs.Laws.{AgreeAfter, BatchCommits, BookAfter, BookAtPlace, BookReads, BooksFollow, BooksJoin, BooksLead, CommitsJoin, DomainStays, FollowsOn, FollowsOne, FollowsParts, HitsInBooks, LastWritten, LawfulFollows, LimitsFollow, ReadsAfter, ReadsAgent, ReadsBundle, ReadsChildren, ReadsEntry, ReadsExpiring, ReadsGroup, ReadsUsers, RepliesCount, RepliesFollow, RepliesJoin, RoomInRun, RunMayApply, Unhit, UnhitHistory};
 
 /// What each mark reads, in the words of the book's own questions.
 pub fn marks()
@@ -57,6 +57,7 @@ pub fn batches()
     ensures lead { BooksLead }
     ensures books { BooksJoin }
     ensures commits { CommitsJoin }
+    ensures place { BookAtPlace }
     ensures count { RepliesCount }
     ensures joined { RepliesJoin }
     ensures replies { RepliesFollow }

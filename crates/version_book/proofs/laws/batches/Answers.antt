@@ -1,5 +1,5 @@
 use Rattle.version_book.proofs.laws.batches.Goals as goal
-use Rattle.version_book.proofs.Batches.{books_join, books_lead, commits_join, follows_one, follows_parts, replies_count, replies_follow, replies_join}
+use Rattle.version_book.proofs.Batches.{book_at_place, books_join, books_lead, commits_join, follows_one, follows_parts, replies_count, replies_follow, replies_join}
 
 pub returns-clause-one : goal.returns-clause-one
 returns-clause-one c = follows_one
@@ -24,3 +24,6 @@ returns-clause-joined c = replies_join
 
 pub returns-clause-replies : goal.returns-clause-replies
 returns-clause-replies c = replies_follow
+
+pub returns-clause-place : goal.returns-clause-place
+returns-clause-place c = book_at_place
