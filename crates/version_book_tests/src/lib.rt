@@ -1,6 +1,6 @@
 //! What do versions read on small worked books and on random ones, and when do they tell that nothing changed?
 //!
-//! These are the tests of `version_book`, over its public calls:
+//! The crate has tests alone, over the public calls of `version_book`:
 //!
 //! - `worked`: the marks of small books, told by tables. `playing` plays a table, `making` reads its words.
 //! - `random`: long histories of random operations, beside plain lists of their rows, which `listed` has.

@@ -1,11 +1,10 @@
 //! Rows in plain lists, and what each mark names of them.
 
 use crate::playing::number_of;
-
-use version_book::{Change, Changes, Mark, Named, Version, Write};
 use entry_book::{Agent, Bundle, Entry};
 use std::alloc::Global;
 use std::test::Fail;
+use version_book::{Change, Changes, Mark, Named, Version, Write};
 
 /// All rows of a book, in no order.
 #[derive(Drop)]

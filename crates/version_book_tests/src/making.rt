@@ -2,12 +2,12 @@
 
 ghost use Rattle.std.specs.Prelude.{◌≡◌, IfOk};
 
-use version_book::{Mark, Version};
 use entry_book::{Agent, Batch, DomainSet, DropMode, NewEntry, Op, Sequence, Shared, Text};
 use spiffe_name::{Selector, SelectorSet, SpiffeId, TrustDomain};
 use std::alloc::Global;
 use std::test::Fail;
 use uuid::Uuid;
+use version_book::{Mark, Version};
 
 pub fn words<'a>(alloc: Global, line: &'a str) -> Result<Vec<&'a str>, Fail> {
     let mut words = Vec::new(alloc);

@@ -2,13 +2,13 @@
 
 use crate::making::{batch, mark_of, number, word, words};
 use crate::running::{changes_of, next_of};
-use version_book::{Changes, Mark, Version};
 use entry_book::Entry;
 use spiffe_name::TrustDomain;
 use std::alloc::Global;
 use std::process::Abort;
 use std::test::Fail;
 use uuid::Uuid;
+use version_book::{Changes, Mark, Version};
 
 /// A version, and the writes that led to it.
 #[derive(Drop)]

@@ -5,10 +5,10 @@ ghost use Rattle.std.specs.Prelude.{◌<◌};
 use crate::listed::{Listed, are_hit, read_text};
 use crate::making::mark_of;
 use crate::playing::{Step, first_step, go_on};
-use version_book::Mark;
 use std::alloc::Global;
 use std::process::Abort;
 use std::test::Fail;
+use version_book::Mark;
 
 const MARKS: &str = "
 entry 1

@@ -16,12 +16,11 @@ ghost use Rattle.version_book.specs.Numbered.{book_of, next_state};
 ghost use Rattle.version_book.specs.Room.{RoomAll};
 ghost use Rattle.version_book.specs.Written.{write_of};
 
-
-use version_book::{Change, Changes, Mark, Reading, Version, Write};
 use entry_book::{Agent, Batch, Bundle, DropMode, Entry, NewEntry, Op, Shared, Text};
 use spiffe_name::{SpiffeId, TrustDomain};
 use std::alloc::{AllocError, Global};
 use uuid::Uuid;
+use version_book::{Change, Changes, Mark, Reading, Version, Write};
 
 /// No revision of these tests gets there.
 const MOST: u64 = 1_000_000;
