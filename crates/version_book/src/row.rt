@@ -1,14 +1,15 @@
 //! What do marks and writes ask of a row?
 
 ghost use Rattle.std.specs.Prelude.{◌≡◌, Bool, IfOk, List, ℕ};
-ghost use Rattle.version_book.specs.declared.mark.Named.{Named};
 
-use crate::mark::{Mark, Named as Rows};
+use crate::mark::{Mark, Named};
 use entry_book::{Agent, Bundle, Entry};
 use std::alloc::AllocError;
 
 /// A row of a book: it has a key, by whose bytes rows are ordered, and there are marks that name it.
 pub(crate) trait Row: Drop {
+    ghost use Rattle.version_book.specs.declared.mark.Named.{Named};
+
     ghost key: { Self → List ℕ };
 
     ghost names: { Named → Self → Bool };
@@ -39,14 +40,14 @@ impl Row for Entry {
 
     fn is_named(&self, mark: &Mark) -> bool {
         match mark.named() {
-            Rows::Entry(id) => self.id() == id,
-            Rows::Group(parent, identity) => {
+            Named::Entry(id) => self.id() == id,
+            Named::Group(parent, identity) => {
                 self.parent().get() == parent.get() && self.identity().get() == identity.get()
             }
-            Rows::Children(parent) => self.parent().get() == parent.get(),
-            Rows::Users(domain) => self.names(domain.get()),
-            Rows::Expiring(moment) => self.expires_before(*moment),
-            Rows::Agent(_) | Rows::Bundle(_) => false,
+            Named::Children(parent) => self.parent().get() == parent.get(),
+            Named::Users(domain) => self.names(domain.get()),
+            Named::Expiring(moment) => self.expires_before(*moment),
+            Named::Agent(_) | Named::Bundle(_) => false,
         }
     }
 
@@ -68,13 +69,13 @@ impl Row for Agent {
 
     fn is_named(&self, mark: &Mark) -> bool {
         match mark.named() {
-            Rows::Agent(id) => self.id.get() == id.get(),
-            Rows::Entry(_)
-            | Rows::Group(_, _)
-            | Rows::Children(_)
-            | Rows::Users(_)
-            | Rows::Expiring(_)
-            | Rows::Bundle(_) => false,
+            Named::Agent(id) => self.id.get() == id.get(),
+            Named::Entry(_)
+            | Named::Group(_, _)
+            | Named::Children(_)
+            | Named::Users(_)
+            | Named::Expiring(_)
+            | Named::Bundle(_) => false,
         }
     }
 
@@ -96,13 +97,13 @@ impl Row for Bundle {
 
     fn is_named(&self, mark: &Mark) -> bool {
         match mark.named() {
-            Rows::Bundle(domain) => self.domain.get() == domain.get(),
-            Rows::Entry(_)
-            | Rows::Group(_, _)
-            | Rows::Children(_)
-            | Rows::Users(_)
-            | Rows::Expiring(_)
-            | Rows::Agent(_) => false,
+            Named::Bundle(domain) => self.domain.get() == domain.get(),
+            Named::Entry(_)
+            | Named::Group(_, _)
+            | Named::Children(_)
+            | Named::Users(_)
+            | Named::Expiring(_)
+            | Named::Agent(_) => false,
         }
     }
 
