@@ -54,7 +54,7 @@ of_batch : (P : List Write → Type 0) (batch : Batch) (s : State) → Commits b
 of_batch P batch s c h = of_writes P (is_query batch.ops) s.number (book_of s.rows) (book_of (state_with batch s).rows) c.replies (run batch.domain batch.ops (book_of s.rows)) c.added h
 
 -- the writes of a batch that commits find the rows that they name
-writes_fit : (batch : Batch) (s : State) → AscendingBook (book_of s.rows) → Commits batch s → FitAll (writes_of batch (book_of s.rows)) (book_of s.rows)
+pub writes_fit : (batch : Batch) (s : State) → AscendingBook (book_of s.rows) → Commits batch s → FitAll (writes_of batch (book_of s.rows)) (book_of s.rows)
 writes_fit batch s a c = (of_batch (λ ws. FitAll ws (book_of s.rows) × AscendingBook (after ws (book_of s.rows))) batch s c (run_fits batch.domain batch.ops (book_of s.rows) a)).0
 
 pub ascending_next : (batch : Batch) (s : State) → AscendingBook (book_of s.rows) → Commits batch s → AscendingBook (book_of (state_with batch s).rows)

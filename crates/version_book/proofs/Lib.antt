@@ -1,5 +1,7 @@
 pub mod Agreement
 pub mod Alike
+pub mod Applying
+pub mod Batches
 pub mod Found
 pub mod Histories
 pub mod IndexRooms
@@ -17,4 +19,5 @@ pub mod Same
 pub mod Shelves
 pub mod Sizes
 pub mod Unchanged
+pub mod Writers
 pub mod Writing

@@ -1,12 +1,14 @@
 -- How versions follow one another: by batches that commit as the plain book says.
-use Rattle.std.specs.Prelude.{◌≡◌, Bool, false, ◌||◌, List, [], ◌∷◌, Ok, Err}
+use Rattle.std.specs.Prelude.{◌≡◌, ℕ, ◌+◌, Bool, true, false, ◌||◌, List, [], ◌∷◌, ◌++◌, length, Ok, Err}
 use Rattle.std.specs.List.{list_any}
 use Rattle.entry_book.specs.declared.reply.OpReply.{OpReply}
+use Rattle.entry_book.specs.declared.reply.Reply.{Reply}
+use Rattle.entry_book.specs.Order.{Within}
 use Rattle.entry_book.specs.Book.{Book}
 use Rattle.entry_book.specs.Writes.{Write}
 use Rattle.entry_book.specs.Runs.{RunResult, run}
 use Rattle.entry_book.specs.Batches.{Batch, IsMadeFor}
-use Rattle.entry_book.specs.History.{verdict, adds}
+use Rattle.entry_book.specs.History.{verdict, adds, reply_with, last_book, place_of, books_from}
 use Rattle.version_book.specs.declared.mark.Named.{Named}
 use Rattle.version_book.specs.Marks.{hits}
 use Rattle.version_book.specs.Numbered.{State, book_of, next_state}
@@ -33,6 +35,11 @@ pub record Commits (batch : Batch) (s : State) : Type 0 where
 
 -- ---- many batches
 
+-- the version after these batches, one after another
+abbrev pub state_after : List Batch → State → State
+state_after [] s = s
+state_after (batch ∷ batches) s = state_after batches (state_with batch s)
+
 -- the newer version follows from the older one by these batches, each of which commits
 abbrev pub Follows : State → List Batch → State → Type 0
 Follows older [] newer = older ≡ newer
@@ -46,3 +53,35 @@ IsEarlier older newer = (batches : List Batch) × Follows older batches newer
 abbrev pub any_hits : Named → State → List Batch → Bool
 any_hits m older [] = false
 any_hits m older (batch ∷ batches) = list_any (λ w. hits w m) (writes_of batch (book_of older.rows)) || any_hits m (state_with batch older) batches
+
+-- the replies to these batches, each at the version that the earlier ones left
+abbrev pub replies_on : List Batch → State → List Reply
+replies_on [] s = []
+replies_on (batch ∷ batches) s = reply_with s.number (verdict batch s.number (book_of s.rows)) ∷ replies_on batches (state_with batch s)
+
+-- ---- beside the list of all books
+
+-- The version stands for the last one of these books.
+pub record IsLast (s : State) (books : List Book) : Type 0 where
+  pub book : last_book books ≡ book_of s.rows
+  pub place : place_of books ≡ s.number
+
+-- One of the batches, run on the book that these books and the batches before it left, makes a write that hits the mark.
+pub record SomeHit (m : Named) (books : List Book) (batches : List Batch) : Type 0 where
+  pub before : List Batch
+  pub batch : Batch
+  pub later : List Batch
+  pub split : batches ≡ before ++ batch ∷ later
+  pub write : Write
+  pub is_made : Within (writes_of batch (last_book (books_from books before))) write
+  pub hit : hits write m ≡ true
+
+-- The last of the batches that makes a write that hits the mark makes the version of this number.
+pub record LastHit (m : Named) (older : State) (batches : List Batch) (n : ℕ) : Type 0 where
+  pub before : List Batch
+  pub batch : Batch
+  pub later : List Batch
+  pub split : batches ≡ before ++ batch ∷ later
+  pub number : n ≡ older.number + length before + 1
+  pub hit : list_any (λ w. hits w m) (writes_of batch (book_of (state_after before older).rows)) ≡ true
+  pub none_later : any_hits m (state_with batch (state_after before older)) later ≡ false

@@ -1,7 +1,8 @@
 -- The laws of marks and versions. Each is a clause of a function of the module `laws`.
-use Rattle.std.specs.Prelude.{◌≡◌, ℕ, ◌+◌, ◌*◌, ◌<◌, false, List, ◌++◌, length, map, option_to_list, None, Ok}
+use Rattle.std.specs.Prelude.{◌≡◌, ◌↔◌, ◌⊎◌, ℕ, ◌+◌, ◌*◌, ◌<◌, true, false, List, ◌++◌, length, map, option_to_list, slice_get, Some, None, Ok}
 use Rattle.std.specs.List.{AllByRecursion}
-use Rattle.entry_book.specs.Rows.{Bytes, Entry}
+use Rattle.entry_book.specs.Rows.{Bytes, Entry, entry_key, agent_key, bundle_key}
+use Rattle.entry_book.specs.Order.{Within}
 use Rattle.entry_book.specs.Book.{Book, AscendingBook, entry_at, agent_at, bundle_at, group_of, children_of, users_of, expired_before, empty_book}
 use Rattle.entry_book.specs.Writes.{Write, after, FitAll}
 use Rattle.entry_book.specs.Batches.{Batch, IsMadeFor, is_query}
@@ -10,11 +11,14 @@ use Rattle.entry_book.specs.Limits.{limit_passed}
 use Rattle.entry_book.specs.Lawful.{Lawful}
 use Rattle.entry_book.specs.Laws.{IsWithinLimits}
 use Rattle.entry_book.specs.History.{last_book, place_of, books_from, CommitAll}
+use Rattle.entry_book.specs.Worked.{replies_from}
 use Rattle.version_book.specs.declared.mark.Named.{Named}
 use Rattle.version_book.specs.declared.mark.Named.TheVariants as mark
+use Rattle.version_book.specs.declared.numbered.Numbered.{Numbered}
+use Rattle.version_book.specs.Applying.{MayApply}
 use Rattle.version_book.specs.Marks.{reads, Agree, hits, seen}
 use Rattle.version_book.specs.Numbered.{Rows, State, book_of, marked, AllUpTo, rows_after, next_state}
-use Rattle.version_book.specs.History.{Commits, Follows, any_hits, state_with}
+use Rattle.version_book.specs.History.{Commits, Follows, IsLast, LastHit, SomeHit, any_hits, replies_on, state_after, state_with}
 use Rattle.version_book.specs.Room.{RoomAll}
 
 -- ---- what each mark reads, in the words of the book's own questions
@@ -100,3 +104,61 @@ UnhitHistory = (m : Named) (batches : List Batch) (older newer : State) → Asce
 -- the run of a batch on a lawful book within the limits has room for all of its rows
 abbrev pub RoomInRun : Type 0
 RoomInRun = (own : Bytes) (most : ℕ) (batch : Batch) (b : Book) (t : Ran) → IsMadeFor own batch → Lawful own most b → IsWithinLimits b → run own batch.ops b ≡ Ok t → RoomAll t.writes b
+
+-- the writes of a batch that runs on a lawful version within the limits may be applied to it
+abbrev pub RunMayApply : Type 0
+RunMayApply = (batch : Batch) (s : State) (t : Ran) → IsMadeFor s.domain batch → Lawful s.domain (64 * s.number) (book_of s.rows) → IsWithinLimits (book_of s.rows) → run batch.domain batch.ops (book_of s.rows) ≡ Ok t → MayApply t.writes (s.number + 1) s
+
+-- ---- lists of batches
+
+-- a history ends in the version after its batches
+abbrev pub FollowsOne : Type 0
+FollowsOne = (batches : List Batch) (older newer : State) → Follows older batches newer → newer ≡ state_after batches older
+
+-- it can be parted at any place
+abbrev pub FollowsParts : Type 0
+FollowsParts = (first second : List Batch) (s u : State) → Follows s (first ++ second) u ↔ ((t : State) × Follows s first t × Follows t second u)
+
+-- batches that the plain book commits, on a list of books for whose last one a version stands, lead from this version to one that stands for the last book then
+abbrev pub BooksLead : Type 0
+BooksLead = (batches : List Batch) (older : State) (books : List Book) → 0 < length books → IsLast older books → AllByRecursion (IsMadeFor older.domain) batches → CommitAll books batches → Follows older batches (state_after batches older) × IsLast (state_after batches older) (books_from books batches)
+
+-- the books after two lists of batches, one list after the other, and whether all of them commit
+abbrev pub BooksJoin : Type 0
+BooksJoin = (first second : List Batch) (books : List Book) → books_from books (first ++ second) ≡ books_from (books_from books first) second
+
+abbrev pub CommitsJoin : Type 0
+CommitsJoin = (first second : List Batch) (books : List Book) → CommitAll books (first ++ second) ↔ (CommitAll books first × CommitAll (books_from books first) second)
+
+-- along a history the list of books has at each version's number the book of this version
+abbrev pub BookAtPlace : Type 0
+BookAtPlace = (before later : List Batch) (older newer : State) (books : List Book) → 0 < length books → IsLast older books → Follows older (before ++ later) newer → slice_get (books_from books (before ++ later)) (older.number + length before) ≡ Some (book_of (state_after before older).rows)
+
+-- each batch has its reply
+abbrev pub RepliesCount : Type 0
+RepliesCount = (batches : List Batch) (books : List Book) → length (replies_from books batches) ≡ length batches
+
+abbrev pub RepliesJoin : Type 0
+RepliesJoin = (first second : List Batch) (books : List Book) → replies_from books (first ++ second) ≡ replies_from books first ++ replies_from (books_from books first) second
+
+-- the plain book replies to the batches of a history as its versions tell
+abbrev pub RepliesFollow : Type 0
+RepliesFollow = (batches : List Batch) (older newer : State) (books : List Book) → 0 < length books → IsLast older books → Follows older batches newer → replies_from books batches ≡ replies_on batches older
+
+-- ---- which batch hit a mark
+
+-- in the words of the list of all books
+abbrev pub HitsInBooks : Type 0
+HitsInBooks = (m : Named) (batches : List Batch) (older newer : State) (books : List Book) → 0 < length books → IsLast older books → Follows older batches newer → (any_hits m older batches ≡ true) ↔ SomeHit m books batches
+
+-- Each row has the number of the last batch that hit the row's own mark, and where none did, it is a row of the older version.
+abbrev pub HasLastNumber : {X : Type 0} → (X → Named) → List (Numbered X) → State → List Batch → List (Numbered X) → Type 0
+HasLastNumber mark_of rows older batches newer = (r : Numbered _) → Within newer r → LastHit (mark_of r.row) older batches r.commit ⊎ ((any_hits (mark_of r.row) older batches ≡ false) × Within rows r)
+
+pub record HaveLastNumbers (older : State) (batches : List Batch) (newer : State) : Type 0 where
+  pub entries : HasLastNumber (λ e. mark.Entry (entry_key e)) older.rows.entries older batches newer.rows.entries
+  pub agents : HasLastNumber (λ a. mark.Agent (agent_key a)) older.rows.agents older batches newer.rows.agents
+  pub bundles : HasLastNumber (λ d. mark.Bundle (bundle_key d)) older.rows.bundles older batches newer.rows.bundles
+
+abbrev pub LastWritten : Type 0
+LastWritten = (batches : List Batch) (older newer : State) → AscendingBook (book_of older.rows) → Follows older batches newer → HaveLastNumbers older batches newer

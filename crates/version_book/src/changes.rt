@@ -1,6 +1,7 @@
 //! What does a batch write?
 
-ghost use Rattle.std.specs.Prelude.{◌≡◌};
+ghost use Rattle.std.specs.Prelude.{◌≡◌, IfOk};
+ghost use Rattle.version_shelf.specs.Shelf.{ClonesEqual};
 
 use entry_book::{Agent, Bundle, Entry, Shared};
 use spiffe_name::{SpiffeId, TrustDomain};
@@ -39,6 +40,40 @@ impl Model for Changes {
     ghost Value = { List Write };
 
     ghost view = { λ changes. map write_of changes.writes.items };
+}
+
+/// A copy of a row, where there is one. The error is want of memory.
+fn copy_of<T: Clone + Drop>(row: &Option<T>) -> Result<Option<T>, AllocError>
+    requires clones { ClonesEqual T.is_clone }
+    ensures { IfOk result (λ copy. copy ≡ row.now) }
+{
+    match row {
+        Some(row) => Ok(Some(row.clone()?)),
+        None => Ok(None),
+    }
+}
+
+/// A copy of a write counts one more owner of each of its parts, and copies no text. The error is that no more owners can
+/// be counted.
+impl Clone for Write {
+    ghost is_clone = { λ original copy. copy ≡ original };
+
+    fn clone(&self) -> Result<Write, AllocError> {
+        Ok(match self {
+            Write::Entry(Change { key, old, new }) => {
+                let (key, old, new) = (*key, copy_of(old)?, copy_of(new)?);
+                Write::Entry(Change { key, old, new })
+            }
+            Write::Agent(Change { key, old, new }) => {
+                let (key, old, new) = (key.clone()?, copy_of(old)?, copy_of(new)?);
+                Write::Agent(Change { key, old, new })
+            }
+            Write::Bundle(Change { key, old, new }) => {
+                let (key, old, new) = (key.clone()?, copy_of(old)?, copy_of(new)?);
+                Write::Bundle(Change { key, old, new })
+            }
+        })
+    }
 }
 
 impl Changes {
@@ -113,10 +148,30 @@ impl Changes {
         Ok(())
     }
 
+    /// Adds other writes behind these. The error is want of memory, and nothing has changed then.
+    pub fn append(&mut self, others: Changes) -> Result<(), AllocError>
+        ensures put { OnOk result (self.new ≡ self.old ++ others) }
+        ensures err { OnErr result (self.new ≡ self.old) }
+    {
+        let Changes { mut writes } = others;
+        self.writes.append(&mut writes)
+    }
+
     /// The writes, in order. Takes no memory.
     pub fn writes(&self) -> &[Write]
         ensures { map write_of result.now ≡ self.now }
     {
         self.writes.as_slice()
+    }
+}
+
+/// A copy has the same writes, of the same rows: it copies no text. The error is want of memory.
+impl Clone for Changes {
+    ghost is_clone = { λ original copy. copy ≡ original };
+
+    fn clone(&self) -> Result<Changes, AllocError> {
+        Ok(Changes {
+            writes: self.writes.clone()?,
+        })
     }
 }

@@ -3,7 +3,7 @@
 //! Each function does nothing. What it ensures is a law of the definitions, stated in `specs/Laws.antt`; a caller
 //! that calls it may rest on the law.
 
-ghost use Rattle.version_book.specs.Laws.{AgreeAfter, BatchCommits, BookAfter, BookReads, BooksFollow, DomainStays, FollowsOn, LawfulFollows, LimitsFollow, ReadsAfter, ReadsAgent, ReadsBundle, ReadsChildren, ReadsEntry, ReadsExpiring, ReadsGroup, ReadsUsers, RoomInRun, Unhit, UnhitHistory};
+ghost use Rattle.version_book.specs.Laws.{AgreeAfter, BatchCommits, BookAfter, BookAtPlace, BookReads, BooksFollow, BooksJoin, BooksLead, CommitsJoin, DomainStays, FollowsOn, FollowsOne, FollowsParts, HitsInBooks, LastWritten, LawfulFollows, LimitsFollow, ReadsAfter, ReadsAgent, ReadsBundle, ReadsChildren, ReadsEntry, ReadsExpiring, ReadsGroup, ReadsUsers, RepliesCount, RepliesFollow, RepliesJoin, RoomInRun, RunMayApply, Unhit, UnhitHistory};
 
 /// What each mark reads, in the words of the book's own questions.
 pub fn marks()
@@ -43,4 +43,28 @@ pub fn histories()
 /// There is room for what a batch writes.
 pub fn room()
     ensures { RoomInRun }
+{}
+
+/// What a batch writes may be applied.
+pub fn applying()
+    ensures { RunMayApply }
+{}
+
+/// What lists of batches come to, on versions and on the plain book's list of books.
+pub fn batches()
+    ensures one { FollowsOne }
+    ensures parts { FollowsParts }
+    ensures lead { BooksLead }
+    ensures books { BooksJoin }
+    ensures commits { CommitsJoin }
+    ensures place { BookAtPlace }
+    ensures count { RepliesCount }
+    ensures joined { RepliesJoin }
+    ensures replies { RepliesFollow }
+{}
+
+/// Which batches of a history wrote what.
+pub fn writers()
+    ensures hits { HitsInBooks }
+    ensures last { LastWritten }
 {}

@@ -16,16 +16,20 @@
 //!
 //! - `store` and `entries`: the shelves behind a version; `index` and `key`: how an index is kept and ordered; `numbered`:
 //!   their rows.
+//! - `row`: what marks and writes ask of a row; `hits`: which writes hit a mark; `overlay`: what a mark reads after writes.
 #![tactic(auto)]
 
 mod changes;
 mod entries;
+mod hits;
 mod index;
 mod key;
 pub mod laws;
 mod mark;
 mod numbered;
+mod overlay;
 mod reading;
+mod row;
 mod store;
 mod version;
 

@@ -49,4 +49,28 @@ impl Reading {
     {
         self.bundles.as_slice()
     }
+
+    /// The entries that were read, in the order of their ids, to keep.
+    pub fn into_entries(self) -> Vec<Entry>
+        ensures { result.items ≡ self.entries }
+    {
+        let Reading { entries, .. } = self;
+        entries
+    }
+
+    /// The agent that was read, to keep; at most one.
+    pub fn into_agents(self) -> Vec<Agent>
+        ensures { result.items ≡ self.agents }
+    {
+        let Reading { agents, .. } = self;
+        agents
+    }
+
+    /// The bundle that was read, to keep; at most one.
+    pub fn into_bundles(self) -> Vec<Bundle>
+        ensures { result.items ≡ self.bundles }
+    {
+        let Reading { bundles, .. } = self;
+        bundles
+    }
 }

@@ -4,6 +4,7 @@ ghost use Rattle.std.specs.Prelude.{◌≡◌};
 
 use crate::changes::Changes;
 use crate::mark::Mark;
+use crate::overlay::after_changes;
 use crate::reading::Reading;
 use crate::store::Store;
 use entry_book::Shared;
@@ -44,14 +45,14 @@ impl Model for Version {
 }
 
 impl Version {
-    ghost use Rattle.std.specs.Prelude.{◌≡◌, ◌*◌, ◌+◌, IfOk, IsTrue, List, false, length, true};
+    ghost use Rattle.std.specs.Prelude.{◌≡◌, ◌*◌, IfOk, IsTrue, List, false, length, true};
     ghost use Rattle.entry_book.specs.Batches.{Batch};
     ghost use Rattle.entry_book.specs.Lawful.{Lawful};
-    ghost use Rattle.entry_book.specs.Writes.{FitAll, after};
+    ghost use Rattle.entry_book.specs.Writes.{after};
+    ghost use Rattle.version_book.specs.Applying.{MayApply};
     ghost use Rattle.version_book.specs.History.{Follows, IsEarlier, any_hits};
     ghost use Rattle.version_book.specs.Marks.{Agree, reads};
     ghost use Rattle.version_book.specs.Numbered.{AllUpTo, book_of, marked, next_state, no_rows};
-    ghost use Rattle.version_book.specs.Room.{RoomAll};
 
     /// The first version: no rows, at number 0. The error is want of memory.
     pub fn empty(alloc: Global, domain: TrustDomain) -> Result<Version, AllocError>
@@ -104,16 +105,21 @@ impl Version {
         self.store.read(self.alloc, mark)
     }
 
+    /// What a mark reads on the book after these changes, none of which is applied. The error is want of memory.
+    pub fn read_after(&self, mark: &Mark, changes: &Changes) -> Result<Reading, AllocError>
+        ensures { IfOk result (λ reading. reading ≡ reads mark.now (after changes.now (book_of self.now.rows))) }
+    {
+        let reading = self.read(mark)?;
+        after_changes(self.alloc, reading, mark, changes)
+    }
+
     /// The next version: the book after these changes, whose rows get its number. The caller sees to it that the number is
     /// the one after this version's, that each change in turn finds the row that it names and puts a row of its own key,
-    /// that the book that comes out is lawful, and that there is room for its rows. The error is want of memory; this
-    /// version stays as it is. That the next version's book is the book after the changes is the law `books`, and that it is
-    /// lawful is told by its `number`.
+    /// that the book that comes out is lawful, and that there is room for its rows: the law `applying` says so of what a
+    /// batch writes. The error is want of memory; this version stays as it is. That the next version's book is the book
+    /// after the changes is the law `books`, and that it is lawful is told by its `number`.
     pub fn apply(&self, changes: &Changes, number: u64) -> Result<Version, AllocError>
-        requires next { number ≡ self.now.number + 1 }
-        requires fits { FitAll changes.now (book_of self.now.rows) }
-        requires lawful { Lawful self.now.domain (64 * number) (after changes.now (book_of self.now.rows)) }
-        requires room { RoomAll changes.now (book_of self.now.rows) }
+        requires may { MayApply changes.now number self.now }
         ensures { IfOk result (λ version. version ≡ next_state changes.now self.now) }
     {
         let store = self

@@ -9,5 +9,5 @@ invariant_of-result c =
     let store = c.in_ok-store.ensures ∙ (ap (λ ws. rows_after c.args.number ws c.self.inside.store) c.writes.ensures ∙ ap (λ s. rows_after c.args.number c.args.changes.now s.rows) c.self.view_is) in
     let domain = c.in_ok-clone.ensures.cases ∙ ap (λ s. s.domain) c.self.view_is in
     let upto = subst (λ s. AllUpTo s.number s.rows) c.self.view_is c.self.invariant.1 in
-    let next = subst (λ n. AllUpTo n (rows_after n c.args.changes.now c.args.self.now.rows)) (sym c.requires.next) (all_up_to_next c.args.changes.now c.args.self.now upto) in
-    rw (domain, store, book_after c.args.number c.args.changes.now c.args.self.now.rows) (c.requires.lawful, next)
+    let next = subst (λ n. AllUpTo n (rows_after n c.args.changes.now c.args.self.now.rows)) (sym c.requires.may.next) (all_up_to_next c.args.changes.now c.args.self.now upto) in
+    rw (domain, store, book_after c.args.number c.args.changes.now c.args.self.now.rows) (c.requires.may.lawful, next)

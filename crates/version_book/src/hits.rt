@@ -1,0 +1,67 @@
+//! Which writes hit a mark?
+
+ghost use Rattle.std.specs.Prelude.{◌≡◌};
+ghost use Rattle.std.specs.List.{list_any};
+ghost use Rattle.version_book.specs.Marks.{hits, is_of_entry, passes};
+ghost use Rattle.version_book.specs.Written.{write_of};
+
+use crate::changes::{Change, Changes, Write};
+use crate::mark::{Mark, Named};
+use crate::row::Row;
+use uuid::Uuid;
+
+/// Is there a row that the mark names?
+fn is_passed<T: Row>(mark: &Mark, row: &Option<T>) -> bool
+    ensures { result ≡ passes (T.names mark.now) row.now }
+{
+    match row {
+        Some(row) => row.is_named(mark),
+        None => false,
+    }
+}
+
+/// Does the mark name the entry of an id?
+fn is_of_entry(id: &Uuid, mark: &Mark) -> bool
+    ensures { result ≡ is_of_entry id.now mark.now }
+{
+    match mark.named() {
+        Named::Entry(other) => id == other,
+        Named::Group(_, _)
+        | Named::Children(_)
+        | Named::Users(_)
+        | Named::Expiring(_)
+        | Named::Agent(_)
+        | Named::Bundle(_) => false,
+    }
+}
+
+/// Does the write hit the mark?
+fn is_hit(write: &Write, mark: &Mark) -> bool
+    ensures { result ≡ hits (write_of write.now) mark.now }
+{
+    match write {
+        Write::Entry(Change { key, old, new }) => {
+            is_of_entry(key, mark) || is_passed(mark, old) || is_passed(mark, new)
+        }
+        Write::Agent(Change { old, new, .. }) => is_passed(mark, old) || is_passed(mark, new),
+        Write::Bundle(Change { old, new, .. }) => is_passed(mark, old) || is_passed(mark, new),
+    }
+}
+
+impl Changes {
+    ghost use Rattle.std.specs.Prelude.{◌≡◌};
+    ghost use Rattle.std.specs.List.{list_any};
+    ghost use Rattle.version_book.specs.Marks.{hits};
+
+    /// Does one of the writes hit the mark? Takes no memory.
+    pub fn hits(&self, mark: &Mark) -> bool
+        ensures { result ≡ list_any (λ write. hits write mark.now) self.now }
+    {
+        for write in self.writes() {
+            if is_hit(write, mark) {
+                return true;
+            }
+        }
+        false
+    }
+}

@@ -1,0 +1,151 @@
+//! What does a mark read after some writes?
+
+ghost use Rattle.std.specs.Prelude.{◌≡◌, ◌++◌, IfOk, OnOk, filter, map};
+ghost use Rattle.entry_book.specs.Order.{is_before, with_row};
+ghost use Rattle.entry_book.specs.Writes.{after, after_write};
+ghost use Rattle.version_book.specs.Marks.{kept, seen};
+ghost use Rattle.version_book.specs.Written.{write_of};
+
+use crate::changes::{Changes, Write};
+use crate::mark::Mark;
+use crate::reading::Reading;
+use crate::row::Row;
+use std::alloc::{AllocError, Global};
+
+/// Do these bytes stand before the others?
+#[tactic(auto, unfolding(entry_book::specs::Order::is_before))]
+fn is_before(bytes: &[u8], others: &[u8]) -> bool
+    ensures { result ≡ is_before bytes.now others.now }
+{
+    bytes.cmp(others).is_lt()
+}
+
+/// Copies the rows whose keys stand before this one.
+fn push_before<T: Row>(rows: &[T], key: &[u8], out: &mut Vec<T>) -> Result<(), AllocError>
+    ensures { OnOk result (out.new.items ≡ out.old.items ++ filter (λ row. is_before (T.key row) key.now) rows.now) }
+{
+    for row in rows {
+        if is_before(row.key(), key) {
+            out.push(row.again()?)?;
+        }
+    }
+    Ok(())
+}
+
+/// Copies the rows whose keys stand behind this one.
+fn push_behind<T: Row>(rows: &[T], key: &[u8], out: &mut Vec<T>) -> Result<(), AllocError>
+    ensures { OnOk result (out.new.items ≡ out.old.items ++ filter (λ row. is_before key.now (T.key row)) rows.now) }
+{
+    for row in rows {
+        if is_before(key, row.key()) {
+            out.push(row.again()?)?;
+        }
+    }
+    Ok(())
+}
+
+/// The rows with the new one, or none, in the place of those of a key. The error is want of memory.
+#[tactic(auto, unfolding(entry_book::specs::Order::with_row))]
+fn with_row<T: Row>(
+    alloc: Global,
+    rows: &[T],
+    key: &[u8],
+    new: Option<T>,
+) -> Result<Vec<T>, AllocError>
+    ensures { IfOk result (λ out. out.items ≡ with_row T.key key.now new rows.now) }
+{
+    let mut out = Vec::new(alloc);
+    push_before(rows, key, &mut out)?;
+    if let Some(new) = new {
+        out.push(new)?;
+    }
+    push_behind(rows, key, &mut out)?;
+    Ok(out)
+}
+
+/// The row, where there is one and the mark names it. The error is want of memory.
+fn kept<T: Row>(mark: &Mark, row: &Option<T>) -> Result<Option<T>, AllocError>
+    ensures { IfOk result (λ found. found ≡ kept (T.names mark.now) row.now) }
+{
+    if let Some(row) = row {
+        if row.is_named(mark) {
+            return Ok(Some(row.again()?));
+        }
+    }
+    Ok(None)
+}
+
+/// The rows that a mark names, after a write that puts this row, or none, under a key. The error is want of memory.
+fn rows_after<T: Row>(
+    alloc: Global,
+    rows: &[T],
+    mark: &Mark,
+    key: &[u8],
+    new: &Option<T>,
+) -> Result<Vec<T>, AllocError>
+    ensures { IfOk result (λ out. out.items ≡ with_row T.key key.now (kept (T.names mark.now) new.now) rows.now) }
+{
+    let new = kept(mark, new)?;
+    with_row(alloc, rows, key, new)
+}
+
+/// What the mark reads after one write more. The error is want of memory.
+fn after_write(
+    alloc: Global,
+    reading: Reading,
+    mark: &Mark,
+    write: &Write,
+) -> Result<Reading, AllocError>
+    ensures { IfOk result (λ next. next ≡ after_write (seen mark.now (write_of write.now)) reading) }
+{
+    let Reading {
+        entries,
+        agents,
+        bundles,
+    } = reading;
+    match write {
+        Write::Entry(change) => {
+            let key = change.key.as_bytes().as_slice();
+            let entries = rows_after(alloc, entries.as_slice(), mark, key, &change.new)?;
+            Ok(Reading {
+                entries,
+                agents,
+                bundles,
+            })
+        }
+        Write::Agent(change) => {
+            let key = change.key.get().as_str().as_bytes();
+            let agents = rows_after(alloc, agents.as_slice(), mark, key, &change.new)?;
+            Ok(Reading {
+                entries,
+                agents,
+                bundles,
+            })
+        }
+        Write::Bundle(change) => {
+            let key = change.key.get().as_str().as_bytes();
+            let bundles = rows_after(alloc, bundles.as_slice(), mark, key, &change.new)?;
+            Ok(Reading {
+                entries,
+                agents,
+                bundles,
+            })
+        }
+    }
+}
+
+/// What the mark reads after these writes. The error is want of memory.
+pub(crate) fn after_changes(
+    alloc: Global,
+    reading: Reading,
+    mark: &Mark,
+    changes: &Changes,
+) -> Result<Reading, AllocError>
+    ensures { IfOk result (λ next. next ≡ after (map (seen mark.now) changes.now) reading) }
+{
+    let mut reading = reading;
+    for write in changes.writes() {
+        reading = after_write(alloc, reading, mark, write)?;
+    }
+    Ok(reading)
+}
