@@ -93,7 +93,7 @@ pub(crate) fn spelled(alloc: Global, ids: &mut Ids, line: &[u8], number: u64) ->
             return printed(alloc, &refusal);
         }
     };
-    let mut text = number_text(alloc, Some(request.tries))?;
+    let mut text = number_text(alloc, Some(request.tries.count()))?;
     for op in request.batch.ops() {
         text.push_str("; ")?;
         text.push_str(op_text(alloc, op)?.as_str())?;
