@@ -1,18 +1,19 @@
 -- The batch that a line spells in a trust domain was made for that domain.
 use Rattle.std.proofs.Common.{◌≡◌, ℕ, List, Option, None, Some, Result, Ok, Err, refl, subst}
-use Rattle.std.specs.Prelude.{⊤, IfOk, codes, option_and_then, [], ◌∷◌}
+use Rattle.std.specs.Prelude.{⊤, IfOk, [], ◌∷◌}
 use Rattle.rand_chacha.specs.ChaCha.{ChaCha}
 use Rattle.entry_book.specs.Batches.{Batch, batch_refusal}
 use Rattle.entry_book.specs.declared.fault.BatchRefusal.{BatchRefusal}
 use Rattle.entry_book.specs.declared.op.Op.{Op}
 use Rattle.serde_json.specs.Data.{Data, Items, Members}
-use Rattle.serde_json.specs.Find.{get, as_array, as_object}
+use Rattle.serde_json.specs.Find.{as_object}
 use Rattle.reg_lines.specs.declared.fault.Fault.{Fault}
 use Rattle.reg_lines.specs.declared.request.Request.{Request}
 use Rattle.reg_lines.specs.declared.fault.Key.TheVariants as key
-use Rattle.reg_lines.specs.Fields.{◌>>=◌, required, tries_at, no_others}
+use Rattle.reg_lines.specs.Batches.{unless_refused, batch_of, items_at, batch_in}
+use Rattle.reg_lines.specs.Fields.{◌>>=◌, tries_at, no_others}
 use Rattle.reg_lines.specs.Operations.{ops_in}
-use Rattle.reg_lines.specs.Requests.{unless_refused, batch_of, request_in, framed, value_in, object_in, spelled}
+use Rattle.reg_lines.specs.Requests.{request_in, framed, value_in, object_in, spelled}
 
 -- what holds of each value that the second reader gives holds of what both give
 then_ok : {A B : Type 0} (P : B → Type 0) (r : Result A Fault) (f : A → Result B Fault) → ((x : A) → IfOk (f x) P) → IfOk (r >>= f) P
@@ -25,25 +26,50 @@ Read = Result (Request × ChaCha) Fault
 abbrev made : List ℕ → Request × ChaCha → Type 0
 made domain read = read.0.batch.domain ≡ domain
 
-abbrev request_of : ℕ → ChaCha → Batch → Read
-request_of tries ids batch = Ok (record { batch = batch; tries = tries }, ids)
+-- ---- a batch
 
-unless_refused-domain : (domain : List ℕ) (o : Option BatchRefusal) (ops : List Op) (tries : ℕ) (ids : ChaCha)
-    → IfOk (unless_refused o (record { domain = domain; ops = ops }) >>= request_of tries ids) (made domain)
-unless_refused-domain domain None ops tries ids = refl
-unless_refused-domain domain (Some r) ops tries ids = tt
+abbrev ReadBatch : Type 0
+ReadBatch = Result (Batch × ChaCha) Fault
+
+abbrev batch_made : List ℕ → Batch × ChaCha → Type 0
+batch_made domain read = read.0.domain ≡ domain
+
+abbrev batch_and : ChaCha → Batch → ReadBatch
+batch_and ids batch = Ok (batch, ids)
+
+unless_refused-domain : (domain : List ℕ) (o : Option BatchRefusal) (ops : List Op) (ids : ChaCha)
+    → IfOk (unless_refused o (record { domain = domain; ops = ops }) >>= batch_and ids) (batch_made domain)
+unless_refused-domain domain None ops ids = refl
+unless_refused-domain domain (Some r) ops ids = tt
+
+batch_in-domain : (domain : List ℕ) (ids : ChaCha) (items : Items) → IfOk (batch_in domain ids items) (batch_made domain)
+unfolding batch_in
+batch_in-domain domain ids items =
+    let from_ops : List Op × ChaCha → ReadBatch = λ ops. batch_of domain ops.0 >>= batch_and ops.1 in
+    then_ok (batch_made domain) (ops_in 0 ids items) from_ops (λ ops. unless_refused-domain domain (batch_refusal domain ops.0) ops.0 ops.1)
+
+-- ---- a request
+
+-- what holds of each value that the first reader gives, and then of what the second makes of it, holds of what both give
+both_ok : {A B : Type 0} (Q : A → Type 0) (P : B → Type 0) (r : Result A Fault) (f : A → Result B Fault) → IfOk r Q → ((x : A) → Q x → IfOk (f x) P) → IfOk (r >>= f) P
+both_ok Q P (Ok x) f q h = h x q
+both_ok Q P (Err e) f q h = tt
+
+abbrev request_of : ℕ → Batch × ChaCha → Read
+request_of tries batch = Ok (record { batch = batch.0; tries = tries }, batch.1)
 
 request_in-domain : (domain : List ℕ) (ids : ChaCha) (d : Data) (ms : Members) → IfOk (request_in domain ids d ms) (made domain)
 unfolding request_in
 request_in-domain domain ids d ms =
-    let from_ops : ℕ → List Op × ChaCha → Read = λ tries ops. batch_of domain ops.0 >>= request_of tries ops.1 in
-    let from_keys : Items → ℕ → ⊤ → Read = λ items tries none. ops_in 0 ids items >>= from_ops tries in
+    let from_keys : Items → ℕ → ⊤ → Read = λ items tries none. batch_in domain ids items >>= request_of tries in
     let from_tries : Items → ℕ → Read = λ items tries. no_others (key.Ops ∷ key.Tries ∷ []) ms >>= from_keys items tries in
     let from_items : Items → Read = λ items. tries_at key.Tries d >>= from_tries items in
-    then_ok (made domain) (required key.Ops (option_and_then as_array (get (codes "ops") d))) from_items (λ items.
+    then_ok (made domain) (items_at d) from_items (λ items.
     then_ok (made domain) (tries_at key.Tries d) (from_tries items) (λ tries.
     then_ok (made domain) (no_others (key.Ops ∷ key.Tries ∷ []) ms) (from_keys items tries) (λ none.
-    then_ok (made domain) (ops_in 0 ids items) (from_ops tries) (λ ops. unless_refused-domain domain (batch_refusal domain ops.0) ops.0 tries ops.1))))
+    both_ok (batch_made domain) (made domain) (batch_in domain ids items) (request_of tries) (batch_in-domain domain ids items) (λ batch e. e))))
+
+-- ---- a line
 
 spelled-made : (domain : List ℕ) (ids : ChaCha) (line : List ℕ) → IfOk (spelled domain ids line) (made domain)
 unfolding spelled

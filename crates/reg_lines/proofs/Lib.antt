@@ -15,3 +15,4 @@ pub mod Utf8
 pub mod Rows
 pub mod Domain
 pub mod Compact
+pub mod Others

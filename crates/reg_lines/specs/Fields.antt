@@ -1,5 +1,5 @@
 -- What a value spells at its keys: a small reader for each kind of key, with the fault that it may find. A reader's lines stand in the order in which faults are looked for.
-use Rattle.std.specs.Prelude.{◌≡◌, ℕ, List, [], ◌∷◌, Option, Some, None, Result, Ok, Err, ⊤, Bool, ◌&&◌, not, nat_lt, is_some, option_and_then, unwrap_or, bytes_eq, codes, if◌then◌else◌}
+use Rattle.std.specs.Prelude.{◌≡◌, ◌⊎◌, ℕ, List, [], ◌∷◌, Option, Some, None, Result, Ok, Err, ⊤, Bool, false, true, ◌&&◌, not, nat_lt, is_some, option_and_then, unwrap_or, bytes_eq, codes, if◌then◌else◌}
 use Rattle.std.specs.List.{list_any}
 use Rattle.serde_json.specs.Data.{Data, Items, no_items, item, Members, no_members, member}
 use Rattle.serde_json.specs.Find.{get, as_null, as_number, as_str, as_array, as_u64}
@@ -10,6 +10,7 @@ use Rattle.spiffe_name.specs.Domain.{domain_refusal}
 use Rattle.spiffe_name.specs.Id.{id_refusal}
 use Rattle.spiffe_name.specs.Selector.{SelectorPair, pair_of, selector_refusal}
 use Rattle.spiffe_name.specs.SelectorSet.{set_of}
+use Rattle.entry_book.specs.Order.{is_before}
 use Rattle.entry_book.specs.Rows.{domain_set}
 use Rattle.entry_book.specs.declared.mode.DropMode.{DropMode}
 use Rattle.entry_book.specs.declared.mode.DropMode.TheVariants.{Restrict, Delete, Dissociate}
@@ -106,15 +107,15 @@ number_at key d = required key (option_and_then as_u64 (option_and_then as_numbe
 unfoldable pub optional_number_at : Key → Data → Result (Option ℕ) Fault
 optional_number_at key d = optional (number_in key) (given_at key d)
 
--- how often a batch may be tried: 1 to 16
-abbrev pub tries_of : Key → ℕ → Result ℕ Fault
-tries_of key n = if nat_lt 0 n && not (nat_lt 16 n) then Ok n else at_key code.Field key
+-- how often a batch may be tried: 1 to 16 times
+abbrev pub tries_of : ℕ → Option ℕ
+tries_of n = if nat_lt 0 n && not (nat_lt 16 n) then Some n else None
 
 -- the same of an optional key: 1 where it is absent or null
 unfoldable pub tries_at : Key → Data → Result ℕ Fault
 tries_at key d = do
   number ← optional_number_at key d
-  tries_of key (unwrap_or number 1)
+  required key (tries_of (unwrap_or number 1))
 
 -- ---- names
 
@@ -200,7 +201,39 @@ optional_domains_at key d = optional (domain_set_in key) (given_at key d)
 abbrev pub is_one_of : List Key → List ℕ → Bool
 is_one_of keys name = list_any (λ key. bytes_eq (key_name key) name) keys
 
--- no key but these: the first other one, in the order of the keys' bytes, is refused
+-- the lesser of two names, in the order of their bytes
+abbrev pub lesser : List ℕ → Option (List ℕ) → List ℕ
+lesser name None = name
+lesser name (Some other) = if is_before other name then other else name
+
+-- the least key that is none of these
+abbrev pub least_other : List Key → Members → Option (List ℕ)
+least_other keys no_members = None
+least_other keys (member name d ms) = if is_one_of keys name then least_other keys ms else Some (lesser name (least_other keys ms))
+
+abbrev pub unless_other : Option (List ℕ) → Result ⊤ Fault
+unless_other None = Ok tt
+unless_other (Some name) = Err (record { code = code.Field; field = Some (Unknown name); op = None })
+
+-- no key but these: the least other one is refused
 abbrev pub no_others : List Key → Members → Result ⊤ Fault
-no_others keys no_members = Ok tt
-no_others keys (member name d ms) = if is_one_of keys name then no_others keys ms else Err (record { code = code.Field; field = Some (Unknown name); op = None })
+no_others keys ms = unless_other (least_other keys ms)
+
+-- ---- what is known of the key that is refused
+
+abbrev pub HasKey : List ℕ → Members → Type 0
+HasKey name no_members = ⊥
+HasKey name (member other d ms) = (other ≡ name) ⊎ HasKey name ms
+
+abbrev pub HasOther : List Key → Members → List ℕ → Type 0
+HasOther keys ms name = HasKey name ms × (is_one_of keys name ≡ false)
+
+-- it is a key that is none of these, and no such key is before it in the order of bytes
+abbrev pub IsLeastOther : Type 0
+IsLeastOther = (keys : List Key) (ms : Members) (name : List ℕ) → least_other keys ms ≡ Some name
+    → HasOther keys ms name × ((other : List ℕ) → HasOther keys ms other → is_before other name ≡ false)
+
+-- where none is refused, each key is one of these
+abbrev pub HasNoOther : Type 0
+HasNoOther = (keys : List Key) (ms : Members) → least_other keys ms ≡ None
+    → (name : List ℕ) → HasKey name ms → is_one_of keys name ≡ true

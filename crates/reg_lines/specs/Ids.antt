@@ -11,6 +11,10 @@ use Rattle.uuid.specs.declared.Version.TheVariants.{Random}
 abbrev pub first_ids : List ℕ → ChaCha
 first_ids seed = of_seed seed
 
+-- no word of this stream is used yet: the stream's number is the cipher's nonce
+abbrev pub stream_ids : List ℕ → ℕ → ChaCha
+stream_ids seed stream = record (of_seed seed) { stream = stream }
+
 -- the same stream, this many words on; a stream begins again after 2 ^ 68 words
 abbrev pub words_on : ℕ → ChaCha → ChaCha
 words_on n ids = record ids { word_pos = (ids.word_pos + n) % 2 ^ 68 }
@@ -38,14 +42,18 @@ abbrev pub after_ids : ℕ → ChaCha → ChaCha
 after_ids zero ids = ids
 after_ids (suc n) ids = after_id (after_ids n ids)
 
--- the word at a place of stream 0, as four bytes
-abbrev pub seed_bytes : List ℕ → ℕ → List ℕ
-seed_bytes seed place = to_le_bytes w32 (word_at 10 (key_of seed) 0 place)
+-- the word at a place of a stream, as four bytes
+abbrev pub stream_bytes : List ℕ → ℕ → ℕ → List ℕ
+stream_bytes seed stream place = to_le_bytes w32 (word_at 10 (key_of seed) stream place)
 
--- as long as the stream lasts, the id after n others is of the words 4n to 4n + 3
+-- as long as the stream lasts, the id after n others is of its words 4n to 4n + 3
 abbrev pub AreOfTheirWords : Type 0
-AreOfTheirWords = (seed : List ℕ) (n : ℕ) → 4 * n + 3 < 2 ^ 68
-    → next_id (after_ids n (first_ids seed)) ≡ with_version (with_variant (seed_bytes seed (4 * n) ++ seed_bytes seed (4 * n + 1) ++ seed_bytes seed (4 * n + 2) ++ seed_bytes seed (4 * n + 3)) RFC4122) Random
+AreOfTheirWords = (seed : List ℕ) (stream n : ℕ) → 4 * n + 3 < 2 ^ 68
+    → next_id (after_ids n (stream_ids seed stream)) ≡ with_version (with_variant (stream_bytes seed stream (4 * n) ++ stream_bytes seed stream (4 * n + 1) ++ stream_bytes seed stream (4 * n + 2) ++ stream_bytes seed stream (4 * n + 3)) RFC4122) Random
+
+-- the ids of a seed are those of its stream 0
+abbrev pub ZeroIsTheSeeds : Type 0
+ZeroIsTheSeeds = (seed : List ℕ) → stream_ids seed 0 ≡ first_ids seed
 
 -- the first id of the seed of zeros
 abbrev pub IsKnownFirst : Type 0

@@ -7,6 +7,7 @@ pub mod Codes
 pub mod Ids
 pub mod Fields
 pub mod Operations
+pub mod Batches
 pub mod Requests
 pub mod Refusals
 pub mod Replies

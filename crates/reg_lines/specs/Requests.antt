@@ -1,43 +1,28 @@
 -- What a line spells: a request, or the first fault found. The order of the lines of each reader is the order of the format.
-use Rattle.std.specs.Prelude.{ℕ, List, [], ◌∷◌, Option, Some, None, Result, Ok, Err, ⊤, option_and_then, codes, length, nat_lt, if◌then◌else◌}
+use Rattle.std.specs.Prelude.{ℕ, List, [], ◌∷◌, Option, Some, None, Result, Ok, ⊤, length, nat_lt, if◌then◌else◌}
 use Rattle.std.specs.Io.BufRead.{ends_with_byte, strip_last}
 use Rattle.std.specs.Str.{is_utf8}
 use Rattle.serde_json.specs.Data.{Data, Members}
-use Rattle.serde_json.specs.Find.{get, as_array, as_object}
+use Rattle.serde_json.specs.Find.{as_object}
 use Rattle.serde_json.specs.Read.{read}
 use Rattle.rand_chacha.specs.ChaCha.{ChaCha}
-use Rattle.entry_book.specs.Batches.{Batch, batch_refusal}
-use Rattle.entry_book.specs.Codes.{batch_op}
-use Rattle.entry_book.specs.declared.fault.BatchRefusal.{BatchRefusal}
-use Rattle.entry_book.specs.declared.op.Op.{Op}
 use Rattle.reg_lines.specs.declared.fault.Code.TheVariants as code
 use Rattle.reg_lines.specs.declared.fault.Fault.{Fault}
 use Rattle.reg_lines.specs.declared.fault.Key.TheVariants as key
 use Rattle.reg_lines.specs.declared.request.Request.{Request}
-use Rattle.reg_lines.specs.Fields.{◌>>=◌, at_line, required, tries_at, no_others}
-use Rattle.reg_lines.specs.Operations.{ops_in}
-
--- ---- a batch
-
-abbrev pub unless_refused : Option BatchRefusal → Batch → Result Batch Fault
-unless_refused None batch = Ok batch
-unless_refused (Some refusal) batch = Err (record { code = code.Batch refusal; field = None; op = batch_op refusal })
-
--- the batch of these operations for a trust domain
-abbrev pub batch_of : List ℕ → List Op → Result Batch Fault
-batch_of domain ops = unless_refused (batch_refusal domain ops) (record { domain = domain; ops = ops })
+use Rattle.reg_lines.specs.Batches.{items_at, batch_in}
+use Rattle.reg_lines.specs.Fields.{◌>>=◌, at_line, tries_at, no_others}
 
 -- ---- a request
 
 -- Beside the request stands what is left of the ids.
 unfoldable pub request_in : List ℕ → ChaCha → Data → Members → Result (Request × ChaCha) Fault
 request_in domain ids d ms = do
-  items ← required key.Ops (option_and_then as_array (get (codes "ops") d))
+  items ← items_at d
   tries ← tries_at key.Tries d
   none ← no_others (key.Ops ∷ key.Tries ∷ []) ms
-  ops ← ops_in 0 ids items
-  batch ← batch_of domain ops.0
-  Ok (record { batch = batch; tries = tries }, ops.1)
+  batch ← batch_in domain ids items
+  Ok (record { batch = batch.0; tries = tries }, batch.1)
 
 -- ---- a line
 

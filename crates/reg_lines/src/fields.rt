@@ -8,7 +8,7 @@ ghost use Rattle.serde_json.specs.Find.{get};
 ghost use Rattle.serde_json.specs.View.{members_view, view};
 ghost use Rattle.spiffe_name.specs.declared.refusals.Failure.TheVariants.{Refused};
 ghost use Rattle.reg_lines.specs.Codes.{key_name};
-ghost use Rattle.reg_lines.specs.Fields.{Gives, given_at, is_one_of, no_others};
+ghost use Rattle.reg_lines.specs.Fields.{Gives, HasNoOther, IsLeastOther, given_at, is_one_of, no_others};
 
 mod lists;
 mod names;
@@ -71,7 +71,7 @@ fn is_one_of(keys: &[Key], name: &str) -> bool
     keys.iter().any(|key| key.name() == name)
 }
 
-/// Refuses the first key that is none of these, in the order of the keys' bytes.
+/// Refuses the least key that is none of these, in the order of bytes.
 pub(crate) fn no_others(members: &Map<String, Value>, keys: &[Key]) -> Result<(), Failure<Fault>>
     ensures { Gives (λ _. tt) result (no_others keys.now (members_view members.now.entries)) }
 {
@@ -86,3 +86,10 @@ pub(crate) fn no_others(members: &Map<String, Value>, keys: &[Key]) -> Result<()
     }
     Ok(())
 }
+
+/// Which unknown key is told: of those that an object has, the least in the order of bytes; and none only where it has
+/// none. This function has no code: it is a fact to cite.
+pub fn unknown_keys_law()
+    ensures least { IsLeastOther }
+    ensures none { HasNoOther }
+{}

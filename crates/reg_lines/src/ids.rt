@@ -2,7 +2,7 @@
 
 ghost use Rattle.std.specs.Prelude.{◌≡◌, ◌++◌};
 ghost use Rattle.std.specs.Int.{to_le_bytes, w32};
-ghost use Rattle.reg_lines.specs.Ids.{AreOfTheirWords, IsKnownFirst};
+ghost use Rattle.reg_lines.specs.Ids.{AreOfTheirWords, IsKnownFirst, ZeroIsTheSeeds};
 
 use rand_chacha::ChaCha20Rng;
 use rand_core::SeedableRng;
@@ -28,7 +28,7 @@ impl Model for Ids {
 
 impl Ids {
     ghost use Rattle.std.specs.Prelude.{◌≡◌};
-    ghost use Rattle.reg_lines.specs.Ids.{after_id, first_ids, next_id};
+    ghost use Rattle.reg_lines.specs.Ids.{after_id, first_ids, next_id, stream_ids};
 
     /// The ids of a seed, by stream 0.
     pub fn of_seed(seed: [u8; 32]) -> Ids
@@ -37,6 +37,15 @@ impl Ids {
         Ids {
             words: ChaCha20Rng::from_seed(seed),
         }
+    }
+
+    /// The ids of a seed by the stream of this number, one of 2^64; stream 0 is that of [`Ids::of_seed`].
+    pub fn of_stream(seed: [u8; 32], stream: u64) -> Ids
+        ensures { result ≡ stream_ids seed stream }
+    {
+        let mut words = ChaCha20Rng::from_seed(seed);
+        words.set_stream(stream);
+        Ids { words }
     }
 
     /// The next id: four words, each as four bytes, least byte first, then version 4 and the variant.
@@ -62,10 +71,11 @@ impl Clone for Ids {
     }
 }
 
-/// Which words the ids of a seed are made of, and the first id of the seed of zeros. This function has no code: it is a
-/// fact to cite.
+/// Which words the ids of a stream are made of, that stream 0 is a seed's own, and the first id of the seed of zeros.
+/// This function has no code: it is a fact to cite.
 pub fn ids_law()
     ensures words { AreOfTheirWords }
+    ensures zero { ZeroIsTheSeeds }
     ensures first { IsKnownFirst }
 {}
 

@@ -12,7 +12,8 @@
 //! - [`PrintJson`] is a value with one compact JSON text, which it puts piece by piece without
 //!   taking memory: [`print_text`], [`print_number`], [`print_list`], [`print_line`].
 //! - [`read_request`] says which [`Request`] a line spells, or why it spells none: a [`LineRefusal`] with the line's
-//!   number and the first [`Fault`] found, or want of memory. One definition, `spelled`, says both.
+//!   number and the first [`Fault`] found, or want of memory. One definition, `spelled`, says both. A request has its
+//!   [`Tries`], 1 to 16; [`unknown_keys_law`] says which unknown key is told.
 //! - [`Ids`] gives ids to entries that come without one; [`ids_law`] says which words of its stream they are made of.
 //! - A [`LineRefusal`], and a book's reply with its call number, a [`CallReply`], are printed as lines; [`printed_law`]
 //!   says which JSON values these lines are.
@@ -20,6 +21,7 @@
 //! [`lines_law`] says what the lines of bytes are; [`KEPT_BYTES`] and [`most_lines`] are the limits.
 #![tactic(auto)]
 
+mod batch;
 mod book_rows;
 mod counted;
 mod fault;
@@ -40,11 +42,13 @@ mod request;
 mod sink;
 mod source;
 mod text;
+mod tries;
 mod values;
 mod waiting;
 
 pub use counted::Counted;
 pub use fault::{Code, Fault, Field, Key};
+pub use fields::unknown_keys_law;
 pub use ids::{Ids, ids_law};
 pub use input::Input;
 pub use limits::{KEPT_BYTES, most_lines};
@@ -58,5 +62,6 @@ pub use request::{Request, read_request};
 pub use sink::{Sink, SinkFailed};
 pub use source::{Source, SourceFailed};
 pub use text::print_text;
+pub use tries::Tries;
 pub use values::printed_law;
 pub use waiting::flush_before_waiting;

@@ -5,14 +5,15 @@ ghost use Rattle.std.specs.Io.BufRead.{ends_with_byte, strip_last};
 ghost use Rattle.serde_json.specs.Find.{as_object};
 ghost use Rattle.serde_json.specs.View.{members_view, view};
 ghost use Rattle.reg_lines.specs.Fields.{Fails, Gives};
-ghost use Rattle.reg_lines.specs.Requests.{batch_of, framed, object_in, request_in, spelled, value_in};
+ghost use Rattle.reg_lines.specs.Requests.{framed, object_in, request_in, spelled, value_in};
 
+use crate::batch::{batch_in, items_at};
 use crate::fault::{Code, Fault, Key};
-use crate::fields::{at_key, at_line, no_others, tries_at, value_at};
+use crate::fields::{at_line, no_others, tries_at};
 use crate::ids::Ids;
-use crate::ops::ops_in;
 use crate::refusal::LineRefusal;
-use entry_book::{Batch, Op, Sequence};
+use crate::tries::Tries;
+use entry_book::Batch;
 use serde_json::{Map, Value};
 use spiffe_name::{Failure, TrustDomain};
 use std::alloc::Global;
@@ -25,8 +26,8 @@ const LINE_LIMIT: usize = 1_048_576;
 pub struct Request {
     /// The batch that is to be run.
     pub batch: Batch,
-    /// How often it may be tried, 1 to 16.
-    pub tries: u64,
+    /// How often it may be tried.
+    pub tries: Tries,
 }
 
 fn ends_with_lf(line: &[u8]) -> bool
@@ -87,21 +88,6 @@ fn object_in(value: &Value) -> Result<&Map<String, Value>, Failure<Fault>>
     }
 }
 
-/// The batch of these operations.
-fn batch_of(domain: &TrustDomain, ops: Sequence<Op>) -> Result<Batch, Failure<Fault>>
-    ensures { Gives (λ batch. batch) result (batch_of domain.now ops) }
-{
-    match Batch::new(domain, ops) {
-        Ok(batch) => Ok(batch),
-        Err(Failure::NoMemory) => Err(Failure::NoMemory),
-        Err(Failure::Refused(refusal)) => Err(Failure::Refused(Fault {
-            code: Code::Batch(refusal),
-            field: None,
-            op: refusal.op(),
-        })),
-    }
-}
-
 /// The request that an object spells.
 #[tactic(auto, unfolding(crate::specs::Requests::request_in))]
 fn request_in(
@@ -114,13 +100,10 @@ fn request_in(
     ensures { Gives (λ request. (request, ids.new)) result
         (request_in domain.now ids.old (view object.now) (members_view members.now.entries)) }
 {
-    let Some(items) = value_at(object, Key::Ops).and_then(Value::as_array) else {
-        return Err(at_key(Code::Field, Key::Ops));
-    };
+    let items = items_at(object)?;
     let tries = tries_at(object, Key::Tries)?;
     no_others(members, &[Key::Ops, Key::Tries])?;
-    let ops = ops_in(alloc, ids, items)?;
-    let batch = batch_of(domain, ops)?;
+    let batch = batch_in(alloc, domain, ids, items)?;
     Ok(Request { batch, tries })
 }
 

@@ -1,7 +1,7 @@
 //! Which lines draw an id, and which id do they get?
 
 use crate::spelled::{spelled, spells_in_a_row};
-use reg_lines::Ids;
+use reg_lines::{Ids, ids_law};
 use std::test::Fail;
 
 /// Lines read one after another with the ids of the seed of zeros, and what each spells.
@@ -45,5 +45,21 @@ fn another_seed_gives_other_ids(rt: HostRuntime) -> Result<(), Fail> {
         got.as_str(),
         r#"1; create "4540f05a-9f1f-4296-9773-6e7b208e3c96" "spiffe://ex.org/a" "spiffe://ex.org/b" ["u:1"] "" [] 0"#
     );
+    Ok(())
+}
+
+/// The first bytes of the key of zeros in the stream 1 are those that OpenSSL's `chacha20` gives.
+#[test]
+fn another_stream_gives_other_ids(rt: HostRuntime) -> Result<(), Fail> {
+    ids_law();
+    let line =
+        b"{\"ops\":[{\"op\":\"create\",\"parent\":\"spiffe://ex.org/a\",\"identity\":\"spiffe://ex.org/b\",\"selectors\":[\"u:1\"]}]}\n";
+    for (stream, id) in [
+        (0, "76b8e0ad-a0f1-4d90-805d-6ae55386bd28"),
+        (1, "ef3fdfd6-c615-48fb-b5cf-35bd3dd33b80"),
+    ] {
+        let got = spelled(rt.alloc(), &mut Ids::of_stream([0; 32], stream), line, 1)?;
+        assert!(rt; got.as_str().contains(id), "{got}");
+    }
     Ok(())
 }

@@ -1,6 +1,7 @@
 //! Which fault of a line is told, and which operations do lines spell?
 
 use crate::spelled::{spells, spells_with};
+use reg_lines::unknown_keys_law;
 use std::test::Fail;
 
 /// Lines, and what each spells.
@@ -171,6 +172,7 @@ true => {"code":"L4","line":1}
 
 #[test]
 fn lines_are_read_in_the_order_of_the_format(rt: HostRuntime) -> Result<(), Fail> {
+    unknown_keys_law();
     spells(&rt, rt.alloc(), TABLE)
 }
 

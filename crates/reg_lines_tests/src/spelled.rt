@@ -98,7 +98,7 @@ pub(crate) fn spelled(
             return printed(alloc, &refusal);
         }
     };
-    let mut text = number_text(alloc, Some(request.tries))?;
+    let mut text = number_text(alloc, Some(request.tries.count()))?;
     for op in request.batch.ops() {
         text.push_str("; ")?;
         text.push_str(op_text(alloc, op)?.as_str())?;

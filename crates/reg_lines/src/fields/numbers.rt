@@ -5,6 +5,7 @@ ghost use Rattle.reg_lines.specs.Fields.{Gives, number_at, number_in, optional_n
 
 use super::{at_key, given_at, value_at};
 use crate::fault::{Code, Fault, Key};
+use crate::tries::Tries;
 use serde_json::Value;
 use spiffe_name::Failure;
 
@@ -41,14 +42,14 @@ pub(crate) fn optional_number_at(object: &Value, key: Key) -> Result<Option<u64>
     Ok(Some(number_in(value, key)?))
 }
 
-/// How often a batch may be tried: 1 to 16, once where the key is absent.
+/// How often a batch may be tried: 1 to 16 times, once where the key is absent.
 #[tactic(auto, unfolding(crate::specs::Fields::tries_at))]
-pub(crate) fn tries_at(object: &Value, key: Key) -> Result<u64, Failure<Fault>>
-    ensures { Gives (λ n. n) result (tries_at key (view object.now)) }
+pub(crate) fn tries_at(object: &Value, key: Key) -> Result<Tries, Failure<Fault>>
+    ensures { Gives (λ tries. tries) result (tries_at key (view object.now)) }
 {
-    let tries = optional_number_at(object, key)?.unwrap_or(1);
-    if tries > 0 && !(tries > 16) {
-        return Ok(tries);
+    let count = optional_number_at(object, key)?.unwrap_or(1);
+    match Tries::of(count) {
+        Some(tries) => Ok(tries),
+        None => Err(at_key(Code::Field, key)),
     }
-    Err(at_key(Code::Field, key))
 }
