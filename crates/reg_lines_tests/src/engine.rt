@@ -5,9 +5,7 @@ ghost use Rattle.reg_lines.specs.Runs.{AppendsRun, AppendsRunFront, TakesLines, 
 ghost use Rattle.reg_lines_tests.specs.Numbered.{numbered};
 ghost use Rattle.reg_lines.specs.Stream.{Puts};
 
-use reg_lines::{
-    Counted, Input, Line, Output, Sink, Source, flush_before_waiting, print_number,
-};
+use reg_lines::{Counted, Input, Line, Output, Sink, Source, flush_before_waiting, print_number};
 use std::alloc::Global;
 
 /// Why the engine ended early.
@@ -73,7 +71,12 @@ pub(crate) fn number_lines<R: Source, W: Sink>(
 }
 
 /// The same over memory, where all bytes are known.
-pub(crate) fn number_text(alloc: Global, text: &[u8], line: &mut Line, most: u64) -> Result<Vec<u8>, Ended>
+pub(crate) fn number_text(
+    alloc: Global,
+    text: &[u8],
+    line: &mut Line,
+    most: u64,
+) -> Result<Vec<u8>, Ended>
     requires { most < 2 ^ 63 }
     ensures { IfOk result (λ v. AppendsRun numbered 0 (lines_kept most text.now) (Some []) (Some v.items)) }
 {

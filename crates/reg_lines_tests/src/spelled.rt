@@ -82,7 +82,12 @@ fn op_text(alloc: Global, op: &Op) -> Result<String, Fail> {
 
 /// What a line spells in the trust domain `ex.org`: how often it may be tried, and its operations; or the printed
 /// refusal. Want of memory is an error, so that no table has to know of it.
-pub(crate) fn spelled(alloc: Global, ids: &mut Ids, line: &[u8], number: u64) -> Result<String, Fail> {
+pub(crate) fn spelled(
+    alloc: Global,
+    ids: &mut Ids,
+    line: &[u8],
+    number: u64,
+) -> Result<String, Fail> {
     let domain = TrustDomain::parse(alloc, "ex.org")?;
     let request = match read_request(alloc, &domain, ids, line, number) {
         Ok(request) => request,

@@ -20,11 +20,7 @@ fn texts_have_the_escapes_of_their_kind(rt: HostRuntime) -> Result<(), Fail> {
         ),
     ] {
         let value = String::from_str(rt.alloc(), text)?;
-        assert_eq!(rt;
-            printed(rt.alloc(), &value)?.as_str(),
-            want,
-            "{text:?}"
-        );
+        assert_eq!(rt; printed(rt.alloc(), &value)?.as_str(), want, "{text:?}");
     }
     Ok(())
 }
@@ -39,17 +35,8 @@ fn numbers_lists_and_nothing_are_printed_compactly(rt: HostRuntime) -> Result<()
     for list in [[1u64, 2], [30, 4]] {
         lists.push(list.to_vec(rt.alloc())?)?;
     }
-    assert_eq!(rt;
-        printed(rt.alloc(), &lists)?.as_str(),
-        "[[1,2],[30,4]]"
-    );
-    assert_eq!(rt;
-        printed(rt.alloc(), &Some(7u64))?.as_str(),
-        "7"
-    );
-    assert_eq!(rt;
-        printed(rt.alloc(), &None::<u64>)?.as_str(),
-        "null"
-    );
+    assert_eq!(rt; printed(rt.alloc(), &lists)?.as_str(), "[[1,2],[30,4]]");
+    assert_eq!(rt; printed(rt.alloc(), &Some(7u64))?.as_str(), "7");
+    assert_eq!(rt; printed(rt.alloc(), &None::<u64>)?.as_str(), "null");
     Ok(())
 }

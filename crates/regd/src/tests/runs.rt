@@ -74,9 +74,7 @@ fn lines_read(text: &str, giver: &Giver<'_>) -> usize {
 fn each_failing_read_ends_the_run(rt: HostRuntime) -> Result<(), Fail> {
     let mut table = Table::of(rt.alloc(), EVERY_OPERATION)?;
     table.asked.push_str(r#"{"ops":[]}"#)?;
-    table
-        .wanted
-        .push_str("{\"code\":\"L3\",\"line\":5}\n")?;
+    table.wanted.push_str("{\"code\":\"L3\",\"line\":5}\n")?;
     for pace in Pace::EACH {
         for call in 1..5_000u64 {
             let trouble = Trouble::failing_at(call);
