@@ -2,5 +2,5 @@ pub mod Answers
 pub mod Asked
 pub mod CommandLine
 pub mod Conversions
+pub mod Ends
 pub mod Laws
-pub mod Statuses

@@ -1,43 +1,41 @@
 //! How did a run end, and what does the caller get to know of it?
 
 ghost use Rattle.std.specs.Prelude.{◌≡◌};
-ghost use Rattle.regd.specs.Statuses.{status_of};
+ghost use Rattle.regd.specs.Ends.{ended_of};
 
 use crate::faults::{Fault, LineFault};
+use crate::told::Told;
 
-/// The end of a run.
+/// The end of a run, as the caller gets to know it.
 #[derive(Debug, Drop)]
-pub enum Ended {
-    /// Every line was answered.
-    Done,
-    /// The command line is none.
-    Line(LineFault),
-    /// The run was stopped.
-    Failed(Fault),
+pub struct Ended {
+    /// The exit status: 0 where all was done, 2 for a command line that is none, and 1 for a device that failed and for
+    /// want of memory.
+    pub status: u8,
+    /// What standard error gets.
+    pub told: Told<clap::Error>,
 }
 
 impl Ended {
-    ghost use Rattle.std.specs.Prelude.{◌≡◌, MatchResult};
-
-    /// The end of a run that had its settings.
-    pub fn of_run(run: Result<(), Fault>) -> Ended
-        ensures { MatchResult run (λ _. result ≡ Ended.Done) (λ fault. result ≡ Ended.Failed fault) }
+    /// The end, by why the command line is none, or else by what the run of its settings answered.
+    pub fn of(answered: Result<Result<(), Fault>, LineFault>) -> Ended
+        ensures { result ≡ ended_of answered }
     {
-        match run {
-            Ok(()) => Ended::Done,
-            Err(fault) => Ended::Failed(fault),
+        match answered {
+            Ok(Ok(())) => Ended::with(0, Told::Nothing),
+            Ok(Err(Fault::Input)) => Ended::with(1, Told::Input),
+            Ok(Err(Fault::Output)) => Ended::with(1, Told::Output),
+            Ok(Err(Fault::NoMemory)) | Err(LineFault::NoMemory) => Ended::with(1, Told::NoMemory),
+            Err(LineFault::Refused(error)) => Ended::with(2, Told::Parser(error)),
+            Err(LineFault::Domain(refusal)) => Ended::with(2, Told::Domain(refusal)),
+            Err(LineFault::Seed) => Ended::with(2, Told::Seed),
+            Err(LineFault::NotText) => Ended::with(2, Told::NotText),
         }
     }
-}
 
-/// The exit status: 0 where all was done, 2 for a command line that is none, and 1 for a device that failed and for
-/// want of memory.
-pub fn status(ended: &Ended) -> u8
-    ensures { result ≡ status_of ended.now }
-{
-    match ended {
-        Ended::Done => 0,
-        Ended::Failed(_) | Ended::Line(LineFault::NoMemory) => 1,
-        Ended::Line(_) => 2,
+    fn with(status: u8, told: Told<clap::Error>) -> Ended
+        ensures { result ≡ record { status = status; told = told } }
+    {
+        Ended { status, told }
     }
 }

@@ -7,19 +7,15 @@ ghost use Rattle.regd.specs.declared.faults.LineFault.TheVariants.{NoMemory};
 use clap::error::ErrorKind;
 use spiffe_name::{Failure, IdRefusal};
 use std::alloc::AllocError;
-use thiserror::Error;
 
-/// Why a run stopped. The text is the line that the caller gets on standard error.
-#[derive(Clone, Copy, Debug, PartialEq, Eq, Drop, Error)]
+/// Why a run stopped.
+#[derive(Clone, Copy, Debug, PartialEq, Eq, Drop)]
 pub enum Fault {
     /// A read of the input failed.
-    #[error("regd: input failed")]
     Input,
     /// A write of the output failed, or a flush.
-    #[error("regd: output failed")]
     Output,
     /// Memory was wanting before the first line was read.
-    #[error("regd: out of memory")]
     NoMemory,
 }
 
@@ -33,23 +29,18 @@ impl From<AllocError> for Fault {
     }
 }
 
-/// Why a command line is none. The text is what the caller gets on standard error.
-#[derive(Debug, Drop, Error)]
+/// Why a command line is none.
+#[derive(Debug, Drop)]
 pub enum LineFault {
-    /// The command-line parser refuses the words, or they ask for help; its own text.
-    #[error(transparent)]
+    /// The command-line parser refuses the words, or they ask for help.
     Refused(clap::Error),
-    /// The domain isn't one, for this reason; the text has its code.
-    #[error("regd: domain {}", .0.code())]
+    /// The domain isn't one, for this reason.
     Domain(IdRefusal),
     /// The seed isn't 64 lower-case hexadecimal digits.
-    #[error("regd: seed")]
     Seed,
     /// A word isn't text.
-    #[error("regd: a word isn't UTF-8")]
     NotText,
     /// Memory was wanting.
-    #[error("{}", Fault::NoMemory)]
     NoMemory,
 }
 

@@ -3,9 +3,9 @@
 //! - [`Settings`]: what a command line asks for.
 //! - [`plain`]: the program `regd plain`, from the bytes of request lines to the bytes of reply lines; [`run_plain`]: the
 //!   same for what the settings give.
-//! - [`Fault`] and [`LineFault`]: why a run stopped, and why a command line is none, with the texts for standard error.
+//! - [`Fault`] and [`LineFault`]: why a run stopped, and why a command line is none.
 //! - [`a_line_gives_its_domain`]: which words give which domain.
-//! - [`Ended`] and [`status`]: how a run ended, and the exit status that tells the caller so.
+//! - [`Ended`]: what the caller gets to know of that, the exit status and what standard error gets, a [`Told`].
 #![tactic(auto)]
 
 mod ended;
@@ -14,8 +14,9 @@ mod laws;
 mod plain_engine;
 mod seed;
 mod settings;
+mod told;
 
-pub use ended::{Ended, status};
+pub use ended::Ended;
 pub use faults::{Fault, LineFault};
 pub use laws::a_line_gives_its_domain;
 pub use plain_engine::{plain, run_plain};
@@ -24,23 +25,21 @@ pub use settings::Settings;
 use std::process::ExitCode;
 use std::rt::Env;
 use std::{env, io};
+pub use told::Told;
 
 fn main(rt: HostRuntime) -> ExitCode {
-    let ended = run(&rt);
+    let ended = Ended::of(run(&rt));
     // where standard error fails, nobody is left to be told
-    let _ = tell(&rt, &ended);
-    ExitCode::from(status(&ended))
+    let _ = rt.eprint(&ended.told);
+    ExitCode::from(ended.status)
 }
 
-/// From the command line to the end of the input.
-fn run<R: Env + io::Input + Print + AllocGlobal>(rt: &R) -> Ended {
-    let settings = match settings_of_process(rt) {
-        Ok(settings) => settings,
-        Err(fault) => return Ended::Line(fault),
-    };
+/// From the command line to the end of the input: why the command line is none, or else what the run answered.
+fn run<R: Env + io::Input + Print + AllocGlobal>(rt: &R) -> Result<Result<(), Fault>, LineFault> {
+    let settings = settings_of_process(rt)?;
     let mut input = Input::new(Counted::new(rt.reader()));
     let mut output = Output::new(Counted::new(io::writer(rt)));
-    Ended::of_run(run_plain(rt.alloc(), settings, &mut input, &mut output))
+    Ok(run_plain(rt.alloc(), settings, &mut input, &mut output))
 }
 
 /// The settings that the words of the process ask for.
@@ -56,17 +55,6 @@ fn words_of_process<R: Env + AllocGlobal>(rt: &R) -> Result<Vec<String>, LineFau
         Ok(words) => Ok(words.collect(rt.alloc())?),
         Err(error) if error.kind() == io::ErrorKind::OutOfMemory => Err(LineFault::NoMemory),
         Err(_) => Err(LineFault::NotText),
-    }
-}
-
-/// Says on standard error why the run didn't get to its end.
-fn tell(rt: &impl Eprint, ended: &Ended) -> io::Result<()> {
-    match ended {
-        Ended::Done => Ok(()),
-        // the parser's text ends its own lines
-        Ended::Line(LineFault::Refused(error)) => rt.eprint(error),
-        Ended::Line(fault) => rt.eprintln(fault),
-        Ended::Failed(fault) => rt.eprintln(fault),
     }
 }
 

@@ -8,7 +8,7 @@ mod refusals;
 mod runs;
 mod story;
 
-use crate::{Ended, Fault, LineFault, Settings, a_line_gives_its_domain, status};
+use crate::{Ended, Fault, LineFault, Settings, a_line_gives_its_domain};
 use spiffe_name::IdRefusal;
 use std::alloc::Global;
 use std::test::Fail;
@@ -22,8 +22,8 @@ fn told(alloc: Global, words: &[&str]) -> Result<(u8, String), Fail> {
         }
         Err(LineFault::NoMemory) => Err(Fail::from("no memory")),
         Err(fault) => {
-            let text = fault.to_string(alloc)?;
-            Ok((status(&Ended::Line(fault)), text))
+            let ended = Ended::of(Err(fault));
+            Ok((ended.status, ended.told.to_string(alloc)?))
         }
     }
 }
@@ -56,29 +56,29 @@ fn a_seed_is_64_lower_case_hexadecimal_digits(rt: HostRuntime) -> Result<(), Fai
         (
             "00000000000000000000000000000000000000000000000000000000000000aB",
             2,
-            "regd: seed",
+            "regd: seed\n",
         ),
         (
             "00000000000000000000000000000000000000000000000000000000000000ag",
             2,
-            "regd: seed",
+            "regd: seed\n",
         ),
         (
             "00000000000000000000000000000000000000000000000000000000000000a",
             2,
-            "regd: seed",
+            "regd: seed\n",
         ),
         (
             "00000000000000000000000000000000000000000000000000000000000000ab0",
             2,
-            "regd: seed",
+            "regd: seed\n",
         ),
         (
             "000000000000000000000000000000000000000000000000000000000000ab",
             2,
-            "regd: seed",
+            "regd: seed\n",
         ),
-        ("", 2, "regd: seed"),
+        ("", 2, "regd: seed\n"),
     ] {
         let words = ["regd", "plain", "--seed", digits, "--domain", "ex.org"];
         let told = told(rt.alloc(), &words)?;
@@ -93,11 +93,14 @@ fn a_domain_that_is_none_is_refused_with_its_code(rt: HostRuntime) -> Result<(),
     let lines: [(&[&str], &str); 4] = [
         (
             &["regd", "plain", "--seed", "x", "--domain", "a/b"],
-            "regd: domain I5",
+            "regd: domain I5\n",
         ),
-        (&["regd", "plain", "--domain", "Ex.org"], "regd: domain I5"),
-        (&["regd", "plain", "--domain", ""], "regd: domain I3"),
-        (&["regd", "plain", "--domain=a/b"], "regd: domain I5"),
+        (
+            &["regd", "plain", "--domain", "Ex.org"],
+            "regd: domain I5\n",
+        ),
+        (&["regd", "plain", "--domain", ""], "regd: domain I3\n"),
+        (&["regd", "plain", "--domain=a/b"], "regd: domain I5\n"),
     ];
     for (words, want) in lines {
         let (status, text) = told(rt.alloc(), words)?;
@@ -154,29 +157,24 @@ fn the_parser_refuses_every_other_word(rt: HostRuntime) -> Result<(), Fail> {
 
 #[test]
 fn each_end_has_its_status_and_its_text(rt: HostRuntime) -> Result<(), Fail> {
-    assert_eq!(rt; status(&Ended::of_run(Ok(()))), 0);
-    let faults = [
-        (Fault::Input, "regd: input failed"),
-        (Fault::Output, "regd: output failed"),
-        (Fault::NoMemory, "regd: out of memory"),
-    ];
-    for (fault, want) in faults {
-        assert_eq!(rt; fault.to_string(rt.alloc())?.as_str(), want);
-        assert_eq!(rt; status(&Ended::of_run(Err(fault))), 1);
-    }
-    let lines = [
+    let ends = [
+        (Ok(Ok(())), 0, ""),
+        (Ok(Err(Fault::Input)), 1, "regd: input failed\n"),
+        (Ok(Err(Fault::Output)), 1, "regd: output failed\n"),
+        (Ok(Err(Fault::NoMemory)), 1, "regd: out of memory\n"),
         (
-            LineFault::Domain(IdRefusal::DomainTooLong),
+            Err(LineFault::Domain(IdRefusal::DomainTooLong)),
             2,
-            "regd: domain I4",
+            "regd: domain I4\n",
         ),
-        (LineFault::Seed, 2, "regd: seed"),
-        (LineFault::NotText, 2, "regd: a word isn't UTF-8"),
-        (LineFault::NoMemory, 1, "regd: out of memory"),
+        (Err(LineFault::Seed), 2, "regd: seed\n"),
+        (Err(LineFault::NotText), 2, "regd: a word isn't UTF-8\n"),
+        (Err(LineFault::NoMemory), 1, "regd: out of memory\n"),
     ];
-    for (fault, number, want) in lines {
-        assert_eq!(rt; fault.to_string(rt.alloc())?.as_str(), want);
-        assert_eq!(rt; status(&Ended::Line(fault)), number);
+    for (answered, status, want) in ends {
+        let ended = Ended::of(answered);
+        assert_eq!(rt; ended.status, status);
+        assert_eq!(rt; ended.told.to_string(rt.alloc())?.as_str(), want);
     }
     Ok(())
 }
