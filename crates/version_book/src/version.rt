@@ -20,15 +20,25 @@ pub struct RowCounts {
     pub bundles: usize,
 }
 
+/// What all owners of a version share.
+#[derive(Drop)]
+struct Body {
+    domain: Shared<TrustDomain>,
+    store: Store,
+}
+
 /// One version of the book of a trust domain's server. It is never changed: a reader keeps it for as long as it likes,
 /// and a writer makes the next one. Each row has the number of the commit that last wrote it. A contract sees the trust
 /// domain, the number, and the rows with their numbers.
+///
+/// A reader's clone is one more owner of what the version holds, however many rows there are, and every question is
+/// answered from it as on the first day. A writer pays for the next version: the table at the head of this crate says
+/// what each call copies and counts.
 #[derive(Drop)]
 pub struct Version {
     alloc: Global,
-    domain: Shared<TrustDomain>,
     number: u64,
-    store: Store,
+    body: Shared<Body>,
 }
 
 impl Model for Version {
@@ -38,10 +48,15 @@ impl Model for Version {
 
     ghost Value = { State };
 
-    ghost view = { λ version. record { domain = version.domain; number = version.number; rows = version.store } };
+    ghost view = { λ version. record {
+      domain = version.body.domain;
+      number = version.number;
+      rows = version.body.store;
+    } };
 
     ghost invariant = { λ version.
-        Lawful version.domain (64 * version.number) (book_of version.store) × AllUpTo version.number version.store };
+        Lawful version.body.domain (64 * version.number) (book_of version.body.store)
+        × AllUpTo version.number version.body.store };
 }
 
 impl Version {
@@ -58,11 +73,12 @@ impl Version {
     pub fn empty(alloc: Global, domain: TrustDomain) -> Result<Version, AllocError>
         ensures { IfOk result (λ version. version ≡ record { domain = domain; number = 0; rows = no_rows }) }
     {
+        let domain = Shared::of(alloc, domain)?;
+        let store = Store::empty(alloc);
         Ok(Version {
             alloc,
-            domain: Shared::of(alloc, domain)?,
             number: 0,
-            store: Store::empty(alloc),
+            body: Shared::of(alloc, Body { domain, store })?,
         })
     }
 
@@ -70,7 +86,7 @@ impl Version {
     pub fn domain(&self) -> &TrustDomain
         ensures { result.now ≡ self.now.domain }
     {
-        self.domain.get()
+        self.body.get().domain.get()
     }
 
     /// The number of this version's book in its history. Takes no memory. The book is lawful, and no row was written by a
@@ -91,10 +107,11 @@ impl Version {
           bundles = length self.now.rows.bundles;
         } }
     {
+        let store = &self.body.get().store;
         RowCounts {
-            entries: self.store.count_of_entries(),
-            agents: self.store.count_of_agents(),
-            bundles: self.store.count_of_bundles(),
+            entries: store.count_of_entries(),
+            agents: store.count_of_agents(),
+            bundles: store.count_of_bundles(),
         }
     }
 
@@ -102,7 +119,7 @@ impl Version {
     pub fn read(&self, mark: &Mark) -> Result<Reading, AllocError>
         ensures { IfOk result (λ reading. reading ≡ reads mark.now (book_of self.now.rows)) }
     {
-        self.store.read(self.alloc, mark)
+        self.body.get().store.read(self.alloc, mark)
     }
 
     /// What a mark reads on the book after these changes, none of which is applied. The error is want of memory.
@@ -122,14 +139,15 @@ impl Version {
         requires may { MayApply changes.now number self.now }
         ensures { IfOk result (λ version. version ≡ next_state changes.now self.now) }
     {
-        let store = self
+        let body = self.body.get();
+        let store = body
             .store
             .after_writes(self.alloc, changes.writes(), number)?;
+        let domain = body.domain.clone()?;
         Ok(Version {
             alloc: self.alloc,
-            domain: self.domain.clone()?,
             number,
-            store,
+            body: Shared::of(self.alloc, Body { domain, store })?,
         })
     }
 
@@ -145,20 +163,19 @@ impl Version {
         ensures hit { (batches : List Batch) → Follows older.now batches self.now
             → result ≡ false → any_hits mark.now older.now batches ≡ true }
     {
-        self.store.is_same_at(&older.store, mark)
+        self.body.get().store.is_same_at(&older.body.get().store, mark)
     }
 }
 
-/// A clone is one more owner of the same rows. The error is that no more owners can be counted.
+/// A clone is one more owner of the same rows: one count, and no copy. The error is that no more owners can be counted.
 impl Clone for Version {
     ghost is_clone = { λ original copy. copy ≡ original };
 
     fn clone(&self) -> Result<Version, AllocError> {
         Ok(Version {
             alloc: self.alloc,
-            domain: self.domain.clone()?,
             number: self.number,
-            store: self.store.clone()?,
+            body: self.body.clone()?,
         })
     }
 }
