@@ -26,7 +26,10 @@ fn an_id_is_taken_by_an_entry_of_the_same_batch(rt: HostRuntime) -> Result<(), F
     let mut book = small_book(alloc)?;
     let said = [Said::SetAgent(N1, 0), create(2, API), create(2, WEB)];
     assert_eq!(rt; ask(alloc, &mut book, &said)?, (0, "O1", Some(2)));
-    assert_eq!(rt; ask(alloc, &mut book, &[create(2, WEB)])?, (1, "committed", None));
+    assert_eq!(rt;
+        ask(alloc, &mut book, &[create(2, WEB)])?,
+        (1, "committed", None)
+    );
     Ok(())
 }
 
