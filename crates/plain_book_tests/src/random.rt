@@ -176,7 +176,7 @@ fn count(said: &[Said], reply: &Reply, counts: &mut Counts) {
     match &reply.outcome {
         Outcome::Committed(replies) => {
             add(&mut counts.committed, true);
-            count_changes(said, replies.as_slice(), counts);
+            count_changes(said, replies.get().as_slice(), counts);
         }
         Outcome::Answered(_) => add(&mut counts.answered, true),
         Outcome::Refused(Refusal::OfOp(_, reason)) => {
@@ -230,7 +230,7 @@ fn is_trust(shown: &[Bundle], rows: &BookRows, ends: u64) -> bool {
 /// Is what the batch was answered of agents what a search finds in these rows, those of the book that came out?
 fn are_right(said: &[Said], reply: &Reply, rows: &BookRows) -> bool {
     let replies = match &reply.outcome {
-        Outcome::Committed(replies) | Outcome::Answered(replies) => replies.as_slice(),
+        Outcome::Committed(replies) | Outcome::Answered(replies) => replies.get().as_slice(),
         Outcome::Refused(_) => &[],
     };
     said.iter().zip(replies).all(|(op, reply)| match (op, reply) {
@@ -280,7 +280,7 @@ fn is_told(
             .any(|e| is_alias(e) && ends & bit(e) == 0),
     );
     let said = [Said::Authorised(text), Said::Trust(text)];
-    match answers(alloc, book, &said)?.as_slice() {
+    match answers(alloc, book, &said)?.get().as_slice() {
         [OpReply::Entries(entries), OpReply::Bundles(bundles)] => {
             add(&mut counts.trusted, !bundles.as_slice().is_empty());
             Ok(bits(entries.as_slice()) == Some(ends) && is_trust(bundles.as_slice(), rows, ends))

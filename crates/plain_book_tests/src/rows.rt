@@ -6,7 +6,7 @@ use crate::making::{Said, ops};
 use crate::random::{AGENTS, DOMAINS, PARENTS};
 use crate::search::bit;
 use crate::told::{number_of, run};
-use entry_book::{Agent, Batch, Bundle, Entry, OpReply, Outcome, Sequence};
+use entry_book::{Agent, Batch, Bundle, Entry, OpReply, Outcome, Sequence, Shared};
 use plain_book::PlainBook;
 use std::alloc::Global;
 use std::test::Fail;
@@ -32,7 +32,7 @@ pub fn answers(
     alloc: Global,
     book: &mut PlainBook,
     said: &[Said],
-) -> Result<Sequence<OpReply>, Fail>
+) -> Result<Shared<Sequence<OpReply>>, Fail>
     ensures { book.new.domain ≡ book.old.domain }
 {
     let batch = Batch::new(book.domain(), ops(alloc, said)?)?;
@@ -71,7 +71,7 @@ pub fn rows_of(alloc: Global, book: &mut PlainBook) -> Result<BookRows, Fail>
     }
     let mut rows = empty(alloc);
     let replies = answers(alloc, book, &said)?;
-    for (op, reply) in said.iter().zip(replies.as_slice()) {
+    for (op, reply) in said.iter().zip(replies.get().as_slice()) {
         if !is_of_its_key(op, reply) {
             return Err(Fail::from("a row of another key"));
         }
@@ -130,7 +130,7 @@ pub fn are_children_listed(
     }
     let replies = answers(alloc, book, &said)?;
     let mut all = 0;
-    for (parent, reply) in PARENTS.iter().zip(replies.as_slice()) {
+    for (parent, reply) in PARENTS.iter().zip(replies.get().as_slice()) {
         let Some(found) = bits_of_children(parent, reply) else {
             return Ok(false);
         };
