@@ -15,4 +15,5 @@ pub mod DomainSets
 pub mod Utf8
 pub mod Rows
 pub mod Domain
+pub mod Kept
 pub mod Compact

@@ -8,6 +8,7 @@ pub mod Ids
 pub mod Fields
 pub mod Operations
 pub mod Requests
+pub mod Kept
 pub mod Refusals
 pub mod Replies
 pub mod Values

@@ -1,6 +1,7 @@
 //! `regd`, a workload registration server.
 //!
 //! - [`Settings`]: what a command line asks for.
+//! - [`Answerer`]: what answers the lines of an input; [`run_lines`]: a run of any of them over the bytes.
 //! - [`plain`]: the program `regd plain`, from the bytes of request lines to the bytes of reply lines; [`run_plain`]: the
 //!   same for what the settings give.
 //! - [`Fault`] and [`LineFault`]: why a run stopped, and why a command line is none, with the texts for standard error.
@@ -8,6 +9,7 @@
 //! - [`Ended`] and [`status`]: how a run ended, and the exit status that tells the caller so.
 #![tactic(auto)]
 
+mod driver;
 mod ended;
 mod faults;
 mod laws;
@@ -15,6 +17,7 @@ mod plain_engine;
 mod seed;
 mod settings;
 
+pub use driver::{Answerer, run_lines};
 pub use ended::{Ended, status};
 pub use faults::{Fault, LineFault};
 pub use laws::a_line_gives_its_domain;
