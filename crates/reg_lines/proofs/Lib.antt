@@ -14,5 +14,6 @@ pub mod Front
 pub mod Utf8
 pub mod Rows
 pub mod Domain
+pub mod Kept
 pub mod Compact
 pub mod Others

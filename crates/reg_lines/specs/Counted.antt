@@ -1,5 +1,5 @@
 -- What a counted device shows of itself.
-use Rattle.std.specs.Prelude.{ℕ, ◌-◌, ◌^◌}
+use Rattle.std.specs.Prelude.{◌≡◌, ◌⊎◌, ◌<◌, ℕ, ◌-◌, ◌^◌, Bool, Result, OnErr}
 use Rattle.reg_lines.specs.declared.counted.Counted.{Counted}
 
 abbrev pub device_of : {D : Type 0} → Counted D → D
@@ -12,3 +12,11 @@ failures_of c = c.failures
 -- how many calls may still be made
 abbrev pub calls_left_of : {D : Type 0} → Counted D → ℕ
 calls_left_of c = 2 ^ 64 - 1 - c.calls
+
+-- whether its last write was followed by a flush that succeeded
+abbrev pub is_flushed_of : {D : Type 0} → Counted D → Bool
+is_flushed_of c = c.is_flushed
+
+-- where a call failed, the device was called, or had no call left
+abbrev pub FailsCalled : {D T E : Type 0} → Counted D → Counted D → Result T E → Type 0
+FailsCalled old new r = OnErr r ((calls_left_of new < calls_left_of old) ⊎ (calls_left_of old ≡ 0))

@@ -9,6 +9,7 @@ pub mod Fields
 pub mod Operations
 pub mod Batches
 pub mod Requests
+pub mod Kept
 pub mod Refusals
 pub mod Replies
 pub mod Values

@@ -33,10 +33,14 @@ kept line = take kept_bytes line
 abbrev pub IsWhole : List ℕ → Type 0
 IsWhole line = (front : List ℕ) × (has_lf front ≡ false) × (line ≡ front ++ 10 ∷ [])
 
+-- a line whole, or a part without an LF that has a byte
+abbrev pub IsLine : List ℕ → Type 0
+IsLine line = IsWhole line ⊎ ((has_lf line ≡ false) × (line ≢ []))
+
 -- each line is whole, but the last may be a part without an LF that has a byte
 abbrev pub AreLines : List (List ℕ) → Type 0
 AreLines [] = ⊤
-AreLines (line ∷ []) = IsWhole line ⊎ ((has_lf line ≡ false) × (line ≢ []))
+AreLines (line ∷ []) = IsLine line
 AreLines (line ∷ next ∷ lines) = IsWhole line × AreLines (next ∷ lines)
 
 -- The lines of bytes, joined, are the bytes, and no other list of lines is.

@@ -1,7 +1,7 @@
 -- Lines answered one after another.
-use Rattle.std.specs.Prelude.{◌≡◌, ℕ, List, [], ◌∷◌, ◌++◌, map, take, false, Option, Some}
+use Rattle.std.specs.Prelude.{◌≡◌, ℕ, List, [], ◌∷◌, ◌++◌, take, false, Option, Some}
 use Rattle.std.specs.Io.KnownBytes.{Appends, Consumes}
-use Rattle.reg_lines.specs.Lines.{has_lf, kept, lines_of}
+use Rattle.reg_lines.specs.Lines.{has_lf, kept, lines_of, IsLine}
 use Rattle.reg_lines.specs.Stream.{AppendsFront}
 
 -- In the first state the lines may be answered by the text, and leave the last state. The step says so of one line:
@@ -10,9 +10,13 @@ abbrev pub IsRun : {State : Type 0} → (State → List ℕ → State → List �
 IsRun step first [] last text = (last ≡ first) × (text ≡ [])
 IsRun {State} step first (line ∷ lines) last text = (next : State) × (reply : List ℕ) × (rest : List ℕ) × step first line next reply × (text ≡ reply ++ rest) × IsRun step next lines last rest
 
--- the first lines of the bytes, as far as each is kept
-abbrev pub lines_kept : ℕ → List ℕ → List (List ℕ)
-lines_kept most bytes = map kept (take most (lines_of bytes))
+-- the first lines of the bytes
+abbrev pub first_lines : ℕ → List ℕ → List (List ℕ)
+first_lines most bytes = take most (lines_of bytes)
+
+-- Of a line these bytes are kept, and whichever line it is, it may get the reply.
+abbrev pub StepsKept : {State : Type 0} → (State → List ℕ → State → List ℕ → Type 0) → State → List ℕ → State → List ℕ → Type 0
+StepsKept step now bytes next reply = (line : List ℕ) → IsLine line → bytes ≡ kept line → step now line next reply
 
 -- known bytes grow by a text that answers the lines
 abbrev pub AppendsRun : {State : Type 0} → (State → List ℕ → State → List ℕ → Type 0) → State → List (List ℕ) → Option (List ℕ) → Option (List ℕ) → Type 0

@@ -1,22 +1,29 @@
 -- What is known of an input and an output.
-use Rattle.std.specs.Prelude.{◌≡◌, ◌<◌, ℕ, Bool, List, [], ◌++◌, Option, Result, MatchResult, MatchBool, ⊤}
+use Rattle.std.specs.Prelude.{◌≡◌, ◌<◌, ℕ, Bool, List, [], ◌++◌, Option, Result, MatchResult, MatchBool, IsTrue, ⊤}
 use Rattle.std.specs.Io.KnownBytes.{Keeps, Consumes, Appends, IsAtEnd}
 
--- the bytes that are left, whether a whole line of them is held, and how many calls failed
+-- the bytes that are left, whether a whole line of them is held, how many calls failed, and how many may still succeed
 pub record InputState : Type 0 where
   pub left : Option (List ℕ)
   pub has_line : Bool
   pub failures : ℕ
+  pub calls_left : ℕ
 
 -- the bytes that came are held: none at the end alone; an error takes none
 abbrev pub Fills : {E : Type 0} → Option (List ℕ) → Option (List ℕ) → List ℕ → Result Bool E → Type 0
 Fills old new held r = MatchResult r (λ any. Consumes old new held × MatchBool any ⊤ ((held ≡ []) × IsAtEnd new)) (λ _. Keeps old new × (held ≡ []))
 
--- the bytes that a sink has, those that are held on their way to it, and how many of its calls failed
+-- the bytes that a sink has, those that are held on their way to it, how many of its calls failed, and whether it has
+-- handed on all that it has
 pub record OutputState : Type 0 where
   pub written : Option (List ℕ)
   pub held : List ℕ
   pub failures : ℕ
+  pub is_flushed : Bool
+
+-- all that was put is out: nothing is held, and the sink has handed on all that it has
+abbrev pub IsOut : OutputState → Type 0
+IsOut output = (output.held ≡ []) × IsTrue output.is_flushed
 
 -- known bytes grow by a beginning of the text
 abbrev pub AppendsFront : Option (List ℕ) → Option (List ℕ) → List ℕ → Type 0

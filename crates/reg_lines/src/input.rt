@@ -23,6 +23,7 @@ impl<S: Source> Model for Input<S> {
       left = prepend_known i.held (S.left i.source);
       has_line = has_lf i.held;
       failures = S.failures i.source;
+      calls_left = S.calls_left i.source;
     } };
 }
 
@@ -32,7 +33,7 @@ impl<S: Source> Input<S> {
 
     /// All lines of the source.
     pub fn new(source: S) -> Input<S>
-        ensures { result ≡ record { left = S.left source; has_line = false; failures = S.failures source } }
+        ensures { result ≡ record { left = S.left source; has_line = false; failures = S.failures source; calls_left = S.calls_left source } }
     {
         Input {
             source,
@@ -48,12 +49,13 @@ impl<S: Source> Input<S> {
     }
 
     /// Reads the next line into the line given, and answers false at the end. Of a longer line than
-    /// is kept the rest is passed over. After an error bytes of the line may be lost.
+    /// is kept the rest is passed over. After an error bytes of the line may be lost. Where a whole
+    /// line is held, no call of the source is made.
     pub fn read_line(&mut self, line: &mut Line) -> Result<bool, SourceFailed>
         requires { self.old.failures ≡ 0 }
         ensures line { GivesLine self.old.left self.new.left line.new result }
         ensures failed { self.new.failures ≡ (if is_ok result then 0 else 1) }
-        ensures held { IsTrue self.old.has_line → IsOk result }
+        ensures held { IsTrue self.old.has_line → IsOk result × (self.new.calls_left ≡ self.old.calls_left) }
     {
         line.clear();
         while !self.held.take_line(line) {

@@ -18,7 +18,8 @@
 //! - A [`LineRefusal`], and a book's reply with its call number, a [`CallReply`], are printed as lines; [`printed_law`]
 //!   says which JSON values these lines are.
 //!
-//! [`lines_law`] says what the lines of bytes are; [`KEPT_BYTES`] and [`most_lines`] are the limits.
+//! [`lines_law`] says what the lines of bytes are, and [`kept_law`] that what is kept of a line is enough; [`KEPT_BYTES`]
+//! and [`most_lines`] are the limits.
 #![tactic(auto)]
 
 mod batch;
@@ -53,7 +54,7 @@ pub use ids::{Ids, ids_law};
 pub use input::Input;
 pub use limits::{KEPT_BYTES, most_lines};
 pub use line::Line;
-pub use lines::lines_law;
+pub use lines::{kept_law, lines_law};
 pub use output::Output;
 pub use printing::{PrintJson, print_line, print_list, print_number};
 pub use refusal::LineRefusal;

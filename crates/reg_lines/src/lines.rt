@@ -1,5 +1,6 @@
-//! What are the lines of bytes?
+//! What are the lines of bytes, and is what is kept of a line enough?
 
+ghost use Rattle.reg_lines.specs.Kept.{KeptSpells};
 ghost use Rattle.reg_lines.specs.Lines.{LinesJoin, LinesAreLines, OnlyLinesJoin};
 
 /// What the lines of bytes are: joined they give the bytes, each ends with its only LF but for a last
@@ -8,4 +9,9 @@ pub fn lines_law()
     ensures joined { LinesJoin }
     ensures lines { LinesAreLines }
     ensures only { OnlyLinesJoin }
+{}
+
+/// What is kept of a line spells what the line spells. It is a law, and does nothing.
+pub fn kept_law()
+    ensures { KeptSpells }
 {}

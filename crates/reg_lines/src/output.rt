@@ -42,19 +42,19 @@ impl<S: Sink> Model for Output<S> {
 
     ghost Value = { OutputState };
 
-    ghost view = { λ o. record { written = S.written o.sink; held = take o.len o.buffer; failures = S.failures o.sink } };
+    ghost view = { λ o. record { written = S.written o.sink; held = take o.len o.buffer; failures = S.failures o.sink; is_flushed = S.is_flushed o.sink } };
 
     ghost invariant = { λ o. (S.failures o.sink ≡ (if o.has_failed then 1 else 0)) × (o.len ≤ ROOM) };
 }
 
 impl<S: Sink> Output<S> {
     ghost use Rattle.std.specs.Prelude.{◌≡◌, ◌+◌, ◌<◌, ◌≤◌, ◌↔◌, [], ◌++◌, length, IsTrue};
-    ghost use Rattle.reg_lines.specs.Stream.{OutputState, Puts};
+    ghost use Rattle.reg_lines.specs.Stream.{IsOut, OutputState, Puts};
 
     /// Nothing put yet on the way to the sink.
     pub fn new(sink: S) -> Output<S>
         requires { S.failures sink ≡ 0 }
-        ensures { result ≡ record { written = S.written sink; held = []; failures = 0 } }
+        ensures { result ≡ record { written = S.written sink; held = []; failures = 0; is_flushed = S.is_flushed sink } }
     {
         Output {
             sink,
@@ -68,6 +68,7 @@ impl<S: Sink> Output<S> {
     pub fn into_sink(self) -> S
         ensures written { S.written result ≡ self.written }
         ensures failed { S.failures result ≡ self.failures }
+        ensures flushed { S.is_flushed result ≡ self.is_flushed }
     {
         let Output { sink, .. } = self;
         sink
@@ -98,7 +99,7 @@ impl<S: Sink> Output<S> {
     /// Writes all bytes that are held, and hands on what the device holds back.
     pub fn flush(&mut self)
         ensures put { Puts self.old self.new [] }
-        ensures empty { self.new.failures ≡ 0 → self.new.held ≡ [] }
+        ensures out { self.new.failures ≡ 0 → IsOut self.new }
     {
         if !self.has_failed {
             self.send_held();
@@ -166,6 +167,7 @@ impl<S: Sink> Output<S> {
     fn flush_sink(&mut self)
         ensures put { Puts self.old self.new [] }
         ensures held { self.new.held ≡ self.old.held }
+        ensures flushed { self.new.failures ≡ 0 → IsTrue self.new.is_flushed }
     {
         if !self.has_failed {
             self.has_failed = self.sink.flush().is_err();

@@ -1,6 +1,6 @@
 //! Where do bytes go?
 
-ghost use Rattle.std.specs.Prelude.{◌≡◌, ◌+◌, ◌<◌, ◌≤◌, ◌^◌, ℕ, List, Option, IfOk, is_ok, if◌then◌else◌, length};
+ghost use Rattle.std.specs.Prelude.{◌≡◌, ◌+◌, ◌<◌, ◌≤◌, ◌^◌, ℕ, Bool, List, Option, IfOk, IsTrue, OnOk, is_ok, if◌then◌else◌, length};
 ghost use Rattle.std.specs.Io.KnownBytes.{Keeps, WriteAppends};
 
 /// A call of a sink failed.
@@ -15,6 +15,9 @@ pub trait Sink {
     // How many calls have failed.
     ghost failures: { Self → ℕ };
 
+    // Whether it has handed on all that was written.
+    ghost is_flushed: { Self → Bool };
+
     /// Writes at least one of the bytes, from the front, and answers how many. A call that takes
     /// none of the bytes offered has failed, and a call that failed has taken none.
     fn write_some(&mut self, bytes: &[u8]) -> Result<usize, SinkFailed>
@@ -28,5 +31,6 @@ pub trait Sink {
     fn flush(&mut self) -> Result<(), SinkFailed>
         requires { failures self.old + 1 < 2 ^ 64 }
         ensures bytes { Keeps (written self.old) (written self.new) }
-        ensures failed { failures self.new ≡ failures self.old + (if is_ok result then 0 else 1) };
+        ensures failed { failures self.new ≡ failures self.old + (if is_ok result then 0 else 1) }
+        ensures flushed { OnOk result (IsTrue (is_flushed self.new)) };
 }

@@ -1,7 +1,7 @@
 //! When are replies flushed?
 
 ghost use Rattle.std.specs.Prelude.{◌≡◌, ◌⊎◌, [], IsTrue};
-ghost use Rattle.reg_lines.specs.Stream.{Puts};
+ghost use Rattle.reg_lines.specs.Stream.{IsOut, Puts};
 
 use crate::input::Input;
 use crate::output::Output;
@@ -12,7 +12,7 @@ use crate::source::Source;
 /// the next line is asked for, and of a large file many lines go out at once.
 pub fn flush_before_waiting<R: Source, W: Sink>(input: &Input<R>, output: &mut Output<W>)
     ensures put { Puts output.old output.new [] }
-    ensures ready { output.new.failures ≡ 0 → IsTrue input.now.has_line ⊎ (output.new.held ≡ []) }
+    ensures ready { output.new.failures ≡ 0 → IsTrue input.now.has_line ⊎ IsOut output.new }
 {
     if !input.has_line() {
         output.flush();

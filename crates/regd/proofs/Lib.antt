@@ -1,4 +1,5 @@
 pub mod Lines
 pub mod Words
+pub mod Driving
 pub mod Running
 pub mod Seeds

@@ -1,5 +1,5 @@
 -- What the engine `plain` answers, line by line.
-use Rattle.std.specs.Prelude.{◌≡◌, ◌⊎◌, ℕ, ◌+◌, List, ◌++◌, codes, Ok, Err}
+use Rattle.std.specs.Prelude.{◌≡◌, ◌⊎◌, ℕ, ◌+◌, List, [], ◌++◌, codes, Result, Ok, Err, refl}
 use Rattle.rand_chacha.specs.ChaCha.{ChaCha}
 use Rattle.entry_book.specs.Book.{Book}
 use Rattle.entry_book.specs.History.{PlainState, Stands, books_after, first_books, reply_to}
@@ -8,8 +8,10 @@ use Rattle.reg_lines.specs.Ids.{first_ids}
 use Rattle.reg_lines.specs.Refusals.{fault_json, no_memory_json}
 use Rattle.reg_lines.specs.Replies.{reply_json}
 use Rattle.reg_lines.specs.Requests.{spelled}
-use Rattle.reg_lines.specs.Stream.{OutputState, Puts}
+use Rattle.reg_lines.specs.Stream.{InputState, OutputState, Puts}
 use Rattle.reg_lines.specs.declared.request.Request.{Request}
+use Rattle.regd.specs.Driver.{RunsOver}
+use Rattle.regd.specs.declared.faults.Fault.{Fault as RunFault}
 use Rattle.reg_lines.specs.declared.fault.Fault.{Fault}
 
 -- What a run has come to: the list of all books, the ids that are still to be given, and how many calls were run and
@@ -53,3 +55,28 @@ AnswersBatch books batch call line old new book = (Stands book (books_after batc
 -- the ids and the count of calls that it left.
 abbrev pub AnswersLine : List ℕ → Running → List ℕ → OutputState → OutputState → PlainState → ChaCha → ℕ → Type 0
 AnswersLine domain now line old new book ids calls = (next : Running) × (reply : List ℕ) × Answers domain now line next reply × Puts old new reply × Stands book next.books × (next.ids ≡ ids) × (next.calls ≡ calls) × (next.lines ≡ now.lines + 1)
+
+-- no text comes behind the last reply
+abbrev pub ClosesWithNothing : Running → List ℕ → Type 0
+ClosesWithNothing last end = end ≡ []
+
+-- Each line has an answer in every state, at least that memory is wanting.
+pub an_answer : (domain : List ℕ) (now : Running) (line : List ℕ) → (next : Running) × (reply : List ℕ) × Answers domain now line next reply
+an_answer domain now line = (passed now, as_line (no_memory_json (now.lines + 1)), not_read refl refl)
+
+pub no_end : (domain : List ℕ) (now : Running) → (end : List ℕ) × ClosesWithNothing now end
+no_end domain now = ([], refl)
+
+-- what a run of the engine over an input and an output has done
+abbrev pub RunsPlain : {T : Type 0} → List ℕ → List ℕ → InputState → InputState → OutputState → OutputState → Result T RunFault → Type 0
+RunsPlain domain seed input rest output out result = RunsOver (Answers domain) ClosesWithNothing (start seed) input rest output out result
+
+-- what the engine keeps of a run
+pub record Keeping : Type 0 where
+  pub book : PlainState
+  pub ids : ChaCha
+  pub calls : ℕ
+  pub lines : ℕ
+
+abbrev pub StandsFor : Keeping → Running → Type 0
+StandsFor kept now = Stands kept.book now.books × (now.ids ≡ kept.ids) × (now.calls ≡ kept.calls) × (now.lines ≡ kept.lines)

@@ -1,6 +1,7 @@
 //! `regd`, a workload registration server.
 //!
 //! - [`Settings`]: what a command line asks for.
+//! - [`Answerer`]: what answers the lines of an input; [`run_lines`]: a run of any of them over the bytes.
 //! - [`plain`]: the program `regd plain`, from the bytes of request lines to the bytes of reply lines; [`run_plain`]: the
 //!   same for what the settings give.
 //! - [`Fault`] and [`LineFault`]: why a run stopped, and why a command line is none.
@@ -8,6 +9,7 @@
 //! - [`Ended`]: what the caller gets to know of that, the exit status and what standard error gets, a [`Told`].
 #![tactic(auto)]
 
+mod driver;
 mod ended;
 mod faults;
 mod laws;
@@ -16,6 +18,7 @@ mod seed;
 mod settings;
 mod told;
 
+pub use driver::{Answerer, run_lines};
 pub use ended::Ended;
 pub use faults::{Fault, LineFault};
 pub use laws::a_line_gives_its_domain;

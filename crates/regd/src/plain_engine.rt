@@ -1,23 +1,21 @@
 //! How is an input of request lines answered on a plain book?
 
-ghost use Rattle.std.specs.Prelude.{◌≡◌, ◌+◌, ◌<◌, ◌≤◌, ◌^◌, ℕ, [], List, OnOk, IfErr, IfSome};
+ghost use Rattle.std.specs.Prelude.{◌≡◌, ◌+◌, ◌<◌, ◌≤◌, ◌^◌, [], List};
 ghost use Rattle.entry_book.specs.Book.{Book};
 ghost use Rattle.entry_book.specs.History.{Stands};
-ghost use Rattle.reg_lines.specs.Lines.{most_lines};
-ghost use Rattle.reg_lines.specs.Runs.{AppendsRun, AppendsRunFront, TakesLines, lines_kept};
-ghost use Rattle.reg_lines.specs.Stream.{Puts};
-ghost use Rattle.regd.specs.Answers.{Answers, AnswersBatch, AnswersLine, start};
+ghost use Rattle.regd.specs.Answers.{AnswersBatch, AnswersLine, RunsPlain};
 
+use crate::driver::{Answerer, run_lines};
 use crate::faults::Fault;
 use crate::settings::Settings;
 use entry_book::Batch;
 use plain_book::PlainBook;
 use reg_lines::{
-    CallReply, Ids, Input, Line, LineRefusal, Output, Sink, Source, flush_before_waiting,
-    most_lines, print_line, read_request,
+    CallReply, Ids, Input, LineRefusal, Output, Sink, Source, print_line, read_request,
 };
 use spiffe_name::{Failure, TrustDomain};
-use std::alloc::Global;
+use std::alloc::{AllocError, Global};
+use std::marker::Model;
 
 /// Answers each line of the input on a plain book of the trust domain, in order. Creates that come without an id get the
 /// ids of the seed, in order.
@@ -33,49 +31,10 @@ pub fn plain<S: Source, K: Sink>(
     requires input { input.old.failures ≡ 0 }
     requires output { output.old.failures ≡ 0 }
     requires none_held { output.old.held ≡ [] }
-
-    // each line got its reply, in order
-    ensures text { OnOk result (IfSome input.old.left (λ bytes.
-        AppendsRun (Answers domain) (start seed) (lines_kept most_lines bytes) output.old.written output.new.written)) }
-
-    // only a device that failed is blamed; at a failed read each reply so far is out
-    ensures input_failed { IfErr result (λ fault. fault ≡ Fault.Input → 0 < input.new.failures) }
-    ensures output_failed { IfErr result (λ fault. fault ≡ Fault.Output → 0 < output.new.failures) }
-    ensures so_far { IfErr result (λ fault. fault ≡ Fault.Input → IfSome input.old.left (λ bytes. (count : ℕ)
-        × TakesLines count bytes input.new.left
-        × AppendsRun (Answers domain) (start seed) (lines_kept count bytes) output.old.written output.new.written)) }
-    ensures no_memory { IfErr result (λ fault. fault ≡ Fault.NoMemory → (input.new ≡ input.old) × (output.new ≡ output.old)) }
-
-    // whatever happens, what was written is a beginning
-    ensures front { IfSome input.old.left (λ bytes.
-        AppendsRunFront (Answers domain) (start seed) (lines_kept most_lines bytes) output.old.written output.new.written) }
+    ensures { RunsPlain domain seed input.old input.new output.old output.new result }
 {
-    let mut line = Line::new(alloc)?;
-    let mut book = PlainBook::new(alloc, domain)?;
-    let mut ids = Ids::of_seed(seed);
-    let mut calls = 0;
-    for lines in 0..most_lines() {
-        flush_before_waiting(input, output);
-        if output.has_failed() {
-            return Err(Fault::Output);
-        }
-        match input.read_line(&mut line) {
-            Err(_) => return Err(Fault::Input),
-            Ok(false) => return finish(output),
-            Ok(true) => {
-                calls = answer(
-                    alloc,
-                    &mut book,
-                    &mut ids,
-                    calls,
-                    lines,
-                    line.as_bytes(),
-                    output,
-                );
-            }
-        }
-    }
-    finish(output)
+    let mut run = PlainRun::new(alloc, domain, seed)?;
+    run_lines(alloc, &mut run, input, output)
 }
 
 /// The same for the trust domain and the seed that the settings give.
@@ -88,33 +47,91 @@ pub fn run_plain<S: Source, K: Sink>(
     requires input { input.old.failures ≡ 0 }
     requires output { output.old.failures ≡ 0 }
     requires none_held { output.old.held ≡ [] }
-    ensures text { OnOk result (IfSome input.old.left (λ bytes.
-        AppendsRun (Answers settings.domain) (start settings.seed) (lines_kept most_lines bytes) output.old.written output.new.written)) }
-    ensures input_failed { IfErr result (λ fault. fault ≡ Fault.Input → 0 < input.new.failures) }
-    ensures output_failed { IfErr result (λ fault. fault ≡ Fault.Output → 0 < output.new.failures) }
-    ensures so_far { IfErr result (λ fault. fault ≡ Fault.Input → IfSome input.old.left (λ bytes. (count : ℕ)
-        × TakesLines count bytes input.new.left
-        × AppendsRun (Answers settings.domain) (start settings.seed) (lines_kept count bytes) output.old.written output.new.written)) }
-    ensures no_memory { IfErr result (λ fault. fault ≡ Fault.NoMemory → (input.new ≡ input.old) × (output.new ≡ output.old)) }
-    ensures front { IfSome input.old.left (λ bytes.
-        AppendsRunFront (Answers settings.domain) (start settings.seed) (lines_kept most_lines bytes) output.old.written output.new.written) }
+    ensures { RunsPlain settings.domain settings.seed input.old input.new output.old output.new result }
 {
     let seed = settings.seed();
     let domain = settings.into_domain();
     plain(alloc, domain, seed, input, output)
 }
 
-/// Flushes what is left at the end.
-fn finish<K: Sink>(output: &mut Output<K>) -> Result<(), Fault>
-    ensures put { Puts output.old output.new [] }
-    ensures ok { OnOk result ((output.new.failures ≡ 0) × (output.new.held ≡ [])) }
-    ensures err { IfErr result (λ fault. (fault ≡ Fault.Output) × (0 < output.new.failures)) }
-{
-    output.flush();
-    if output.has_failed() {
-        return Err(Fault::Output);
+/// A plain book that answers lines, the ids that it gives, and how many calls were run and lines read.
+#[derive(Drop)]
+struct PlainRun {
+    book: PlainBook,
+    ids: Ids,
+    calls: u64,
+    lines: u64,
+}
+
+impl Model for PlainRun {
+    ghost use Rattle.std.specs.Prelude.{◌≤◌};
+    ghost use Rattle.regd.specs.Answers.{Keeping};
+
+    ghost Value = { Keeping };
+
+    ghost view = { λ r. record { book = r.book; ids = r.ids; calls = r.calls; lines = r.lines } };
+
+    ghost invariant = { λ r. r.calls ≤ r.lines };
+}
+
+impl PlainRun {
+    ghost use Rattle.std.specs.Prelude.{◌≡◌, IfOk};
+    ghost use Rattle.regd.specs.Answers.{StandsFor, start};
+
+    /// Before the first line. The error is that memory was refused.
+    fn new(alloc: Global, domain: TrustDomain, seed: [u8; 32]) -> Result<PlainRun, AllocError>
+        ensures stands { IfOk result (λ run. StandsFor run (start seed)) }
+        ensures domain { IfOk result (λ run. run.book.domain ≡ domain) }
+    {
+        Ok(PlainRun {
+            book: PlainBook::new(alloc, domain)?,
+            ids: Ids::of_seed(seed),
+            calls: 0,
+            lines: 0,
+        })
     }
-    Ok(())
+}
+
+impl Answerer for PlainRun {
+    ghost use Rattle.std.specs.Prelude.{ℕ, List, false, ◌+◌, refl};
+    ghost use Rattle.regd.specs.Answers.{Answers, ClosesWithNothing, Keeping, Running, StandsFor, an_answer, no_end};
+
+    ghost State = { Running };
+
+    ghost Setting = { List ℕ };
+
+    ghost setting = { λ r. r.book.domain };
+
+    ghost stands = { StandsFor };
+
+    ghost lines = { λ r. r.lines };
+
+    ghost answers = { Answers };
+
+    ghost ends = { λ _. false };
+
+    ghost closes = { λ _. ClosesWithNothing };
+
+    ghost some_answer = { an_answer };
+
+    ghost some_close = { no_end };
+
+    fn answer<K: Sink>(&mut self, alloc: Global, line: &[u8], output: &mut Output<K>) -> bool {
+        self.calls = answer(
+            alloc,
+            &mut self.book,
+            &mut self.ids,
+            self.calls,
+            self.lines,
+            line,
+            output,
+        );
+        self.lines += 1;
+        true
+    }
+
+    /// No text comes behind the last reply.
+    fn close<K: Sink>(&mut self, _: Global, _: &mut Output<K>) {}
 }
 
 /// Answers one line, of which `lines` came before, after `calls` calls; the result is how many calls there are then.
@@ -127,9 +144,10 @@ fn answer<K: Sink>(
     line: &[u8],
     output: &mut Output<K>,
 ) -> u64
-    requires calls { calls < 2 ^ 63 }
+    requires calls { calls ≤ lines }
     requires lines { lines < 2 ^ 63 }
     ensures domain { book.new.domain ≡ book.old.domain }
+    ensures calls { result ≤ calls + 1 }
     ensures line { (books : List Book) → Stands book.old books
         → AnswersLine book.old.domain (record { books = books; ids = ids.old; calls = calls; lines = lines }) line.now output.old output.new book.new ids.new result }
 {

@@ -11,7 +11,7 @@ loop-self-preserved g c =
     record {
       begun = IsBegun-filled _ _ _ _ _ moved filled.0;
       failures = grind (arith, common_steps);
-      held = λ h. absurd (not_held _ _ _ _ c.loop-self-test.ensures (c.loop-self.invariant.held h));
+      held = λ h. absurd (not_held _ _ _ _ c.loop-self-test.ensures ((c.loop-self.invariant.held h).0));
     }
 
 pub returns-in_err-fill-clause-line : goal.returns-in_err-fill-clause-line

@@ -1,0 +1,226 @@
+-- A run of lines on its way, whatever it is that answers them.
+use Rattle.std.proofs.Common.{◌≡◌, ◌+◌, ◌≤◌, ◌<◌, ℕ, Bool, true, false, not, List, [], ◌∷◌, ◌++◌, drop, Option, None, Some, Result, Ok, Err, refl, sym, ap, ◌∙◌, append-nil, append_assoc, arith, subst}
+use Rattle.std.specs.Prelude.{MatchBool, OnOk, IfErr, IfSome}
+use Rattle.std.specs.Io.KnownBytes.{Consumes, IsAtEnd}
+use Rattle.reg_lines.specs.Lines.{has_lf, most_lines, TakesLine}
+use Rattle.reg_lines.specs.Runs.{IsRun, StepsKept, first_lines}
+use Rattle.reg_lines.specs.Stream.{InputState, IsOut, OutputState, Puts}
+use Rattle.reg_lines.proofs.Puts.{Puts-then, Puts-same}
+use Rattle.reg_lines.proofs.RunLemmas.{RunsFrom, RunsFrom-start, RunsFrom-flush, RunsFrom-more, IsRun-on, IsRun-append, AppendsRun-so_far, all_put, front_put, front_longer, lines_done, lines_end, lines_more}
+use Rattle.regd.specs.Driver.{AnswersKept, AppendsClosed, AppendsClosedFront, Closes, RunsOver, Steps}
+use Rattle.regd.specs.declared.faults.Fault.{Fault}
+use Rattle.regd.specs.declared.faults.Fault.TheVariants as fault
+
+-- a run that goes on answers the line
+step_on : {State : Type 0} (ends : State → Bool) (answers : State → List ℕ → State → List ℕ → Type 0) (now next : State) (line reply : List ℕ) → ends now ≡ false → answers now line next reply → Steps ends answers now line next reply
+step_on ends answers now next line reply e a =
+    let P : Bool → Type 0 = λ b. MatchBool b ((next ≡ now) × (reply ≡ [])) (answers now line next reply) in
+    subst P (sym e) a
+
+-- a run that has ended leaves the line
+step_past : {State : Type 0} (ends : State → Bool) (answers : State → List ℕ → State → List ℕ → Type 0) (now next : State) (line reply : List ℕ) → ends now ≡ true → next ≡ now → reply ≡ [] → Steps ends answers now line next reply
+step_past ends answers now next line reply e n r =
+    let P : Bool → Type 0 = λ b. MatchBool b ((next ≡ now) × (reply ≡ [])) (answers now line next reply) in
+    subst P (sym e) (n, r)
+
+some_step-by : {State : Type 0} (ends : State → Bool) (answers : State → List ℕ → State → List ℕ → Type 0) → ((s : State) (l : List ℕ) → (next : State) × (reply : List ℕ) × answers s l next reply) → (s : State) (l : List ℕ) (b : Bool) → ends s ≡ b → (next : State) × (reply : List ℕ) × Steps ends answers s l next reply
+some_step-by ends answers some s l true e = (s, [], step_past ends answers s s l [] e refl refl)
+some_step-by ends answers some s l false e =
+    let a = some s l in
+    (a.0, a.1, step_on ends answers s a.0 l a.1 e a.2)
+
+pub some_step : {State : Type 0} (ends : State → Bool) (answers : State → List ℕ → State → List ℕ → Type 0) → ((s : State) (l : List ℕ) → (next : State) × (reply : List ℕ) × answers s l next reply) → (s : State) (l : List ℕ) → (next : State) × (reply : List ℕ) × Steps ends answers s l next reply
+some_step ends answers some s l = some_step-by ends answers some s l (ends s) refl
+
+IsRun-past : {State : Type 0} (ends : State → Bool) (answers : State → List ℕ → State → List ℕ → Type 0) (last : State) (lines : List (List ℕ)) → ends last ≡ true → IsRun (Steps ends answers) last lines last []
+IsRun-past ends answers last [] e = (refl, refl)
+IsRun-past ends answers last (l ∷ lines) e = (last, [], [], step_past ends answers last last l [] e refl refl, refl, IsRun-past ends answers last lines e)
+
+-- the run has come to a state that goes on, for which what is kept stands
+pub record IsDriven {State : Type 0} (ends : State → Bool) (answers : State → List ℕ → State → List ℕ → Type 0) (stands : State → Type 0) (first : State) (all left : Option (List ℕ)) (start now : OutputState) (count : ℕ) : Type 0 where
+  pub state : State
+  pub stood : stands state
+  pub goes_on : ends state ≡ false
+  pub way : RunsFrom (Steps ends answers) first all left start now count state
+
+-- all lines were answered, as far as a run answers them
+pub record IsThrough {State : Type 0} (step : State → List ℕ → State → List ℕ → Type 0) (stands : State → Type 0) (first : State) (all : Option (List ℕ)) (start now : OutputState) : Type 0 where
+  pub state : State
+  pub stood : stands state
+  pub put : IfSome all (λ bytes. (text : List ℕ) × IsRun step first (first_lines most_lines bytes) state text × Puts start now text)
+
+pub IsDriven-start : {State : Type 0} (ends : State → Bool) (answers : State → List ℕ → State → List ℕ → Type 0) (stands : State → Type 0) (first : State) (all : Option (List ℕ)) (start : OutputState) → stands first → ends first ≡ false → IsDriven ends answers stands first all all start start 0
+IsDriven-start ends answers stands first all start s e = record { state = first; stood = s; goes_on = e; way = RunsFrom-start (Steps ends answers) first all start }
+
+pub IsDriven-flush : {State : Type 0} (ends : State → Bool) (answers : State → List ℕ → State → List ℕ → Type 0) (stands : State → Type 0) (first : State) (all left : Option (List ℕ)) (start now then : OutputState) (count : ℕ) → IsDriven ends answers stands first all left start now count → Puts now then [] → IsDriven ends answers stands first all left start then count
+IsDriven-flush ends answers stands first all left start now then count w p = record { state = w.state; stood = w.stood; goes_on = w.goes_on; way = RunsFrom-flush _ _ _ _ _ _ _ _ _ w.way p }
+
+step_kept : {State : Type 0} (ends : State → Bool) (answers : State → List ℕ → State → List ℕ → Type 0) (now next : State) (bytes reply : List ℕ) → ends now ≡ false → StepsKept answers now bytes next reply → StepsKept (Steps ends answers) now bytes next reply
+step_kept ends answers now next bytes reply e s line is k = step_on ends answers now next line reply e (s line is k)
+
+pub IsDriven-more : {State : Type 0} (ends : State → Bool) (answers : State → List ℕ → State → List ℕ → Type 0) (stood stands : State → Type 0) (first : State) (all left rest : Option (List ℕ)) (start now then : OutputState) (count : ℕ) (line : List ℕ) (w : IsDriven ends answers stood first all left start now count) → TakesLine left rest line → AnswersKept answers ends stands w.state line now then true → IsDriven ends answers stands first all rest start then (count + 1)
+IsDriven-more ends answers stood stands first all left rest start now then count line w t a =
+    record {
+      state = a.0;
+      stood = a.4;
+      goes_on = a.5;
+      way = RunsFrom-more _ _ _ _ _ _ _ _ _ _ _ _ _ w.way t (step_kept ends answers w.state a.0 line a.1 w.goes_on a.2) a.3;
+    }
+
+-- the run has ended, and leaves the lines that follow
+put-past : {State : Type 0} (ends : State → Bool) (answers : State → List ℕ → State → List ℕ → Type 0) (first : State) (all left : Option (List ℕ)) (start now : OutputState) (count most : ℕ) (last : State) → ends last ≡ true → count ≤ most → RunsFrom (Steps ends answers) first all left start now count last → IfSome all (λ bytes. (text : List ℕ) × IsRun (Steps ends answers) first (first_lines most bytes) last text × Puts start now text)
+put-past ends answers first None left start now count most last e l w = tt
+put-past ends answers first (Some xs) None start now count most last e l w = absurd w
+put-past {State} ends answers first (Some xs) (Some ys) start now count most last e l w =
+    let P : List (List ℕ) → Type 0 = λ ls. IsRun (Steps ends answers) first ls last w.text in
+    let Q : List (List ℕ) → Type 0 = λ ls. IsRun (Steps ends answers) first ls last (w.text ++ []) in
+    let R : List ℕ → Type 0 = λ t. IsRun (Steps ends answers) first (first_lines most xs) last t in
+    let so_far = subst P (lines_done xs ys w.done count w.lines w.counted) w.run in
+    let more = IsRun-past ends answers last (drop count (first_lines most xs)) e in
+    (w.text, subst R (append-nil w.text) (subst Q (lines_more xs count most l) (IsRun-append (Steps ends answers) first last last _ _ w.text [] so_far more)), w.put)
+
+put-end : {State : Type 0} (step : State → List ℕ → State → List ℕ → Type 0) (first : State) (all left : Option (List ℕ)) (start now : OutputState) (count most : ℕ) (last : State) → IsAtEnd left → count ≤ most → RunsFrom step first all left start now count last → IfSome all (λ bytes. (text : List ℕ) × IsRun step first (first_lines most bytes) last text × Puts start now text)
+put-end step first None left start now count most last e l w = tt
+put-end step first (Some xs) None start now count most last e l w = absurd w
+put-end step first (Some xs) (Some ys) start now count most last e l w =
+    let P : List (List ℕ) → Type 0 = λ ls. IsRun step first ls last w.text in
+    (w.text, subst P (lines_end xs ys w.done count most w.lines w.counted e l) w.run, w.put)
+
+put-most : {State : Type 0} (step : State → List ℕ → State → List ℕ → Type 0) (first : State) (all left : Option (List ℕ)) (start now : OutputState) (count most : ℕ) (last : State) → count ≡ most → RunsFrom step first all left start now count last → IfSome all (λ bytes. (text : List ℕ) × IsRun step first (first_lines most bytes) last text × Puts start now text)
+put-most step first None left start now count most last e w = tt
+put-most step first (Some xs) None start now count most last e w = absurd w
+put-most step first (Some xs) (Some ys) start now count most last e w =
+    let P : List (List ℕ) → Type 0 = λ ls. IsRun step first ls last w.text in
+    (w.text, subst P (lines_done xs ys w.done most w.lines (w.counted ∙ e)) w.run, w.put)
+
+pub IsThrough-ended : {State : Type 0} (ends : State → Bool) (answers : State → List ℕ → State → List ℕ → Type 0) (stood stands : State → Type 0) (first : State) (all left rest : Option (List ℕ)) (start now then : OutputState) (count : ℕ) (line : List ℕ) (w : IsDriven ends answers stood first all left start now count) → TakesLine left rest line → count + 1 ≤ most_lines → AnswersKept answers ends stands w.state line now then false → IsThrough (Steps ends answers) stands first all start then
+IsThrough-ended ends answers stood stands first all left rest start now then count line w t l a =
+    let way = RunsFrom-more _ _ _ _ _ _ _ _ _ _ _ _ _ w.way t (step_kept ends answers w.state a.0 line a.1 w.goes_on a.2) a.3 in
+    record { state = a.0; stood = a.4; put = put-past ends answers first all rest start then (count + 1) most_lines a.0 a.5 l way }
+
+pub IsThrough-end : {State : Type 0} (ends : State → Bool) (answers : State → List ℕ → State → List ℕ → Type 0) (stands : State → Type 0) (first : State) (all left : Option (List ℕ)) (start now : OutputState) (count : ℕ) → IsDriven ends answers stands first all left start now count → IsAtEnd left → count ≤ most_lines → IsThrough (Steps ends answers) stands first all start now
+IsThrough-end ends answers stands first all left start now count w e l =
+    record { state = w.state; stood = w.stood; put = put-end (Steps ends answers) first all left start now count most_lines w.state e l w.way }
+
+pub IsThrough-most : {State : Type 0} (ends : State → Bool) (answers : State → List ℕ → State → List ℕ → Type 0) (stands : State → Type 0) (first : State) (all left : Option (List ℕ)) (start now : OutputState) (count : ℕ) → IsDriven ends answers stands first all left start now count → count ≡ most_lines → IsThrough (Steps ends answers) stands first all start now
+IsThrough-most ends answers stands first all left start now count w e =
+    record { state = w.state; stood = w.stood; put = put-most (Steps ends answers) first all left start now count most_lines w.state e w.way }
+
+pub Closes-flushed : {State : Type 0} (closes : State → List ℕ → Type 0) (now : State) (a b c : OutputState) → Closes closes now a b → Puts b c [] → Closes closes now a c
+Closes-flushed closes now a b c k p = (k.0, k.1, Puts-same _ _ _ _ (append-nil k.0) (Puts-then _ _ _ _ _ k.2 p))
+
+-- however far the run has come, what was written is a beginning
+pub AppendsClosedFront-of : {State : Type 0} (step : State → List ℕ → State → List ℕ → Type 0) (closes : State → List ℕ → Type 0) → ((s : State) (l : List ℕ) → (next : State) × (reply : List ℕ) × step s l next reply) → ((s : State) → (end : List ℕ) × closes s end) → (first : State) (all left : Option (List ℕ)) (start now : OutputState) (count most : ℕ) (last : State) → start.failures ≡ 0 → start.held ≡ [] → count ≤ most → RunsFrom step first all left start now count last → IfSome all (λ bytes. AppendsClosedFront step closes first (first_lines most bytes) start.written now.written)
+AppendsClosedFront-of step closes some some_end first None left start now count most last f h l w = tt
+AppendsClosedFront-of step closes some some_end first (Some xs) None start now count most last f h l w = absurd w
+AppendsClosedFront-of step closes some some_end first (Some xs) (Some ys) start now count most last f h l w =
+    let more = IsRun-on step some last (drop count (first_lines most xs)) in
+    let end = some_end more.0 in
+    let P : List (List ℕ) → Type 0 = λ ls. IsRun step first ls last w.text in
+    let Q : List (List ℕ) → Type 0 = λ ls. IsRun step first ls more.0 (w.text ++ more.1) in
+    let so_far = subst P (lines_done xs ys w.done count w.lines w.counted) w.run in
+    let run = subst Q (lines_more xs count most l) (IsRun-append step first last more.0 _ _ w.text more.1 so_far more.2) in
+    ((w.text ++ more.1) ++ end.0, (more.0, w.text ++ more.1, end.0, run, end.1, refl), front_longer _ _ _ _ (front_longer _ _ _ _ (front_put _ _ _ f h w.put)))
+
+closed_front : {State : Type 0} (step : State → List ℕ → State → List ℕ → Type 0) (closes : State → List ℕ → Type 0) (first last : State) (all : Option (List ℕ)) (start mid now : OutputState) (most : ℕ) → start.failures ≡ 0 → start.held ≡ [] → IfSome all (λ bytes. (text : List ℕ) × IsRun step first (first_lines most bytes) last text × Puts start mid text) → Closes closes last mid now → IfSome all (λ bytes. AppendsClosedFront step closes first (first_lines most bytes) start.written now.written)
+closed_front step closes first last None start mid now most f h p k = tt
+closed_front step closes first last (Some xs) start mid now most f h p k =
+    (p.0 ++ k.0, (last, p.0, k.0, p.1, k.1, refl), front_put _ _ _ f h (Puts-then _ _ _ _ _ p.2 k.2))
+
+closed_text : {State : Type 0} (step : State → List ℕ → State → List ℕ → Type 0) (closes : State → List ℕ → Type 0) (first last : State) (all : Option (List ℕ)) (start mid now : OutputState) (most : ℕ) → start.failures ≡ 0 → start.held ≡ [] → now.failures ≡ 0 → now.held ≡ [] → IfSome all (λ bytes. (text : List ℕ) × IsRun step first (first_lines most bytes) last text × Puts start mid text) → Closes closes last mid now → IfSome all (λ bytes. AppendsClosed step closes first (first_lines most bytes) start.written now.written)
+closed_text step closes first last None start mid now most f h g i p k = tt
+closed_text step closes first last (Some xs) start mid now most f h g i p k =
+    (p.0 ++ k.0, (last, p.0, k.0, p.1, k.1, refl), all_put _ _ _ f h g i (Puts-then _ _ _ _ _ p.2 k.2))
+
+input_output : fault.Input ≡ fault.Output → ⊥
+input_output e = cc
+
+input_memory : fault.Input ≡ fault.NoMemory → ⊥
+input_memory e = cc
+
+output_memory : fault.Output ≡ fault.NoMemory → ⊥
+output_memory e = cc
+
+-- the ends of a run
+
+pub RunsOver-no_memory : {State : Type 0} (step : State → List ℕ → State → List ℕ → Type 0) (closes : State → List ℕ → Type 0) {V : Type 0} (result : Result V Fault) → ((s : State) (l : List ℕ) → (next : State) × (reply : List ℕ) × step s l next reply) → ((s : State) → (end : List ℕ) × closes s end) → (first : State) (input : InputState) (output : OutputState) → output.failures ≡ 0 → output.held ≡ [] → result ≡ Err fault.NoMemory → RunsOver step closes first input input output output result
+RunsOver-no_memory step closes (Ok x) some some_end first input output f h e = absurd (cc)
+RunsOver-no_memory step closes (Err e) some some_end first input output f h is =
+    let is_memory : e ≡ fault.NoMemory = cc in
+    record {
+      text = tt;
+      done = tt;
+      input_failed = λ i. absurd (input_memory (sym i ∙ is_memory));
+      output_failed = λ o. absurd (output_memory (sym o ∙ is_memory));
+      so_far = λ i. absurd (input_memory (sym i ∙ is_memory));
+      no_memory = λ _. (refl, refl);
+      front = AppendsClosedFront-of step closes some some_end first input.left input.left output output 0 most_lines first f h (omega arith) (RunsFrom-start step first input.left output);
+    }
+
+pub RunsOver-output : {State : Type 0} (step : State → List ℕ → State → List ℕ → Type 0) (closes : State → List ℕ → Type 0) {V : Type 0} → ((s : State) (l : List ℕ) → (next : State) × (reply : List ℕ) × step s l next reply) → ((s : State) → (end : List ℕ) × closes s end) → (first : State) (input rest : InputState) (output out : OutputState) (count : ℕ) (last : State) → output.failures ≡ 0 → output.held ≡ [] → 0 < out.failures → count ≤ most_lines → RunsFrom step first input.left rest.left output out count last → RunsOver {State = State} {T = V} step closes first input rest output out (Err fault.Output)
+RunsOver-output step closes some some_end first input rest output out count last f h failed l w =
+    record {
+      text = tt;
+      done = tt;
+      input_failed = λ i. absurd (input_output (sym i));
+      output_failed = λ _. failed;
+      so_far = λ i. absurd (input_output (sym i));
+      no_memory = λ m. absurd (output_memory m);
+      front = AppendsClosedFront-of step closes some some_end first input.left rest.left output out count most_lines last f h l w;
+    }
+
+pub RunsOver-input : {State : Type 0} (step : State → List ℕ → State → List ℕ → Type 0) (closes : State → List ℕ → Type 0) {V : Type 0} → ((s : State) (l : List ℕ) → (next : State) × (reply : List ℕ) × step s l next reply) → ((s : State) → (end : List ℕ) × closes s end) → (first : State) (input rest : InputState) (left : Option (List ℕ)) (output out : OutputState) (count : ℕ) (last : State) → output.failures ≡ 0 → output.held ≡ [] → 0 < rest.failures → out.failures ≡ 0 → IsOut out → ((lost : List ℕ) × (has_lf lost ≡ false) × Consumes left rest.left lost) → count ≤ most_lines → RunsFrom step first input.left left output out count last → RunsOver {State = State} {T = V} step closes first input rest output out (Err fault.Input)
+RunsOver-input step closes some some_end first input rest left output out count last f h failed g o lost l w =
+    record {
+      text = tt;
+      done = tt;
+      input_failed = λ _. failed;
+      output_failed = λ e. absurd (input_output e);
+      so_far = λ _. (g, o, AppendsRun-so_far _ _ _ _ _ _ _ _ _ f h g o.0 lost w);
+      no_memory = λ m. absurd (input_memory m);
+      front = AppendsClosedFront-of step closes some some_end first input.left left output out count most_lines last f h l w;
+    }
+
+pub RunsOver-finished : {State : Type 0} (step : State → List ℕ → State → List ℕ → Type 0) (closes : State → List ℕ → Type 0) (stands : State → Type 0) {V : Type 0} (result : Result V Fault) (first : State) (input rest : InputState) (output mid out : OutputState) → output.failures ≡ 0 → output.held ≡ [] → rest.failures ≡ 0 → IsThrough step stands first input.left output mid → ((now : State) → stands now → Closes closes now mid out) → OnOk result ((out.failures ≡ 0) × IsOut out) → IfErr result (λ e. (e ≡ fault.Output) × (0 < out.failures)) → RunsOver step closes first input rest output out result
+RunsOver-finished step closes stands (Ok x) first input rest output mid out f h r w k ok err =
+    record {
+      text = closed_text step closes first w.state input.left output mid out most_lines f h ok.0 ok.1.0 w.put (k w.state w.stood);
+      done = (r, ok.0, ok.1);
+      input_failed = tt;
+      output_failed = tt;
+      so_far = tt;
+      no_memory = tt;
+      front = closed_front step closes first w.state input.left output mid out most_lines f h w.put (k w.state w.stood);
+    }
+RunsOver-finished step closes stands (Err e) first input rest output mid out f h r w k ok err =
+    record {
+      text = tt;
+      done = tt;
+      input_failed = λ i. absurd (input_output (sym i ∙ err.0));
+      output_failed = λ _. err.1;
+      so_far = λ i. absurd (input_output (sym i ∙ err.0));
+      no_memory = λ m. absurd (output_memory (sym err.0 ∙ m));
+      front = closed_front step closes first w.state input.left output mid out most_lines f h w.put (k w.state w.stood);
+    }
+
+-- the same of an equal setting, of equal bytes, and of the verdict that was given
+
+pub of_setting : {State Setting : Type 0} (ends : State → Bool) (answers : Setting → State → List ℕ → State → List ℕ → Type 0) (stands : State → Type 0) (a b : Setting) → a ≡ b → (now : State) (bytes : List ℕ) (old new : OutputState) (goes_on : Bool) → AnswersKept (answers a) ends stands now bytes old new goes_on → AnswersKept (answers b) ends stands now bytes old new goes_on
+of_setting {Setting = Setting} ends answers stands a b e now bytes old new goes_on h =
+    let P : Setting → Type 0 = λ s. AnswersKept (answers s) ends stands now bytes old new goes_on in
+    subst P e h
+
+pub of_bytes : {State : Type 0} (ends : State → Bool) (answers : State → List ℕ → State → List ℕ → Type 0) (stands : State → Type 0) (now : State) (a b : List ℕ) (old new : OutputState) (goes_on : Bool) → a ≡ b → AnswersKept answers ends stands now a old new goes_on → AnswersKept answers ends stands now b old new goes_on
+of_bytes ends answers stands now a b old new goes_on e h =
+    let P : List ℕ → Type 0 = λ l. AnswersKept answers ends stands now l old new goes_on in
+    subst P e h
+
+pub of_verdict : {State : Type 0} (ends : State → Bool) (answers : State → List ℕ → State → List ℕ → Type 0) (stands : State → Type 0) (now : State) (bytes : List ℕ) (old new : OutputState) (a b : Bool) → a ≡ b → AnswersKept answers ends stands now bytes old new a → AnswersKept answers ends stands now bytes old new b
+of_verdict ends answers stands now bytes old new a b e h =
+    let P : Bool → Type 0 = λ v. AnswersKept answers ends stands now bytes old new v in
+    subst P e h
+
+pub closes_of : {State Setting : Type 0} (closes : Setting → State → List ℕ → Type 0) (stands : State → Type 0) (a b : Setting) → a ≡ b → (mid out : OutputState) → ((now : State) → stands now → Closes (closes a) now mid out) → (now : State) → stands now → Closes (closes b) now mid out
+closes_of {Setting = Setting} closes stands a b e mid out k now s =
+    let P : Setting → Type 0 = λ x. Closes (closes x) now mid out in
+    subst P e (k now s)
