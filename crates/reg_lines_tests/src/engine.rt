@@ -1,9 +1,9 @@
 //! How are the lines of an input numbered? It is the least engine over the bytes, proved as each engine is.
 
 ghost use Rattle.std.specs.Prelude.{◌≡◌, ◌+◌, ◌<◌, ◌≤◌, ◌^◌, ◌⊎◌, ℕ, [], ◌++◌, codes, decimal, OnOk, IfOk, IfErr, IfSome, IsTrue};
-ghost use Rattle.reg_lines.specs.Runs.{AppendsRun, AppendsRunFront, TakesLines, lines_kept};
+ghost use Rattle.reg_lines.specs.Runs.{AppendsRun, AppendsRunFront, TakesLines, first_lines};
 ghost use Rattle.reg_lines_tests.specs.Numbered.{numbered};
-ghost use Rattle.reg_lines.specs.Stream.{Puts};
+ghost use Rattle.reg_lines.specs.Stream.{IsOut, Puts};
 
 use reg_lines::{Counted, Input, Line, Output, Sink, Source, flush_before_waiting, print_number};
 use std::alloc::Global;
@@ -25,7 +25,7 @@ fn put_numbered<W: Sink>(number: u64, line: &[u8], output: &mut Output<W>)
 
 fn finish<W: Sink>(output: &mut Output<W>) -> Result<(), Ended>
     ensures put { Puts output.old output.new [] }
-    ensures ok { OnOk result ((output.new.failures ≡ 0) × (output.new.held ≡ [])) }
+    ensures ok { OnOk result ((output.new.failures ≡ 0) × IsOut output.new) }
     ensures err { IfErr result (λ e. (e ≡ Ended.Output) × (0 < output.new.failures)) }
 {
     output.flush();
@@ -35,7 +35,7 @@ fn finish<W: Sink>(output: &mut Output<W>) -> Result<(), Ended>
     Ok(())
 }
 
-/// Writes each line behind its number.
+/// Writes each line, as far as it is kept, behind its number.
 pub(crate) fn number_lines<R: Source, W: Sink>(
     input: &mut Input<R>,
     output: &mut Output<W>,
@@ -47,14 +47,14 @@ pub(crate) fn number_lines<R: Source, W: Sink>(
     requires none_held { output.old.held ≡ [] }
     requires most { most < 2 ^ 63 }
     ensures text { OnOk result (IfSome input.old.left (λ bytes.
-        AppendsRun numbered 0 (lines_kept most bytes) output.old.written output.new.written)) }
+        AppendsRun numbered 0 (first_lines most bytes) output.old.written output.new.written)) }
     ensures input_failed { IfErr result (λ e. e ≡ Ended.Input → 0 < input.new.failures) }
     ensures output_failed { IfErr result (λ e. e ≡ Ended.Output → 0 < output.new.failures) }
     ensures so_far { IfErr result (λ e. e ≡ Ended.Input → IfSome input.old.left (λ bytes. (count : ℕ)
         × TakesLines count bytes input.new.left
-        × AppendsRun numbered 0 (lines_kept count bytes) output.old.written output.new.written)) }
+        × AppendsRun numbered 0 (first_lines count bytes) output.old.written output.new.written)) }
     ensures front { IfSome input.old.left (λ bytes.
-        AppendsRunFront numbered 0 (lines_kept most bytes) output.old.written output.new.written) }
+        AppendsRunFront numbered 0 (first_lines most bytes) output.old.written output.new.written) }
 {
     for index in 0..most {
         flush_before_waiting(input, output);
@@ -78,7 +78,7 @@ pub(crate) fn number_text(
     most: u64,
 ) -> Result<Vec<u8>, Ended>
     requires { most < 2 ^ 63 }
-    ensures { IfOk result (λ v. AppendsRun numbered 0 (lines_kept most text.now) (Some []) (Some v.items)) }
+    ensures { IfOk result (λ v. AppendsRun numbered 0 (first_lines most text.now) (Some []) (Some v.items)) }
 {
     let mut input = Input::new(Counted::new(text));
     let mut output = Output::new(Counted::new(Vec::new(alloc)));
