@@ -163,7 +163,8 @@ impl Version {
         ensures hit { (batches : List Batch) → Follows older.now batches self.now
             → result ≡ false → any_hits mark.now older.now batches ≡ true }
     {
-        self.body.get().store.is_same_at(&older.body.get().store, mark)
+        let body = self.body.get();
+        body.store.is_same_at(&older.body.get().store, mark)
     }
 }
 
