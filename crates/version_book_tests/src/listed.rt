@@ -4,7 +4,7 @@ use crate::playing::number_of;
 use entry_book::{Agent, Bundle, Entry};
 use std::alloc::Global;
 use std::test::Fail;
-use version_book::{Change, Changes, Mark, Named, Version, Write};
+use version_book::{Change, Changes, Mark, Named, Reading, Version, Write};
 
 /// All rows of a book, in no order.
 #[derive(Drop)]
@@ -122,9 +122,8 @@ fn bundle_text(alloc: Global, bundle: &Bundle) -> Result<String, Fail> {
     Ok(format!(in alloc; " {domain} {sequence}")?)
 }
 
-/// What a version reads at a mark, row by row: all in which rows of these tests differ.
-pub fn read_text(alloc: Global, version: &Version, mark: &Mark) -> Result<String, Fail> {
-    let reading = version.read(mark)?;
+/// What was read, row by row: all in which rows of these tests differ.
+pub fn reading_text(alloc: Global, reading: &Reading) -> Result<String, Fail> {
     let mut text = String::new(alloc);
     for entry in reading.entries() {
         text.push_str(entry_text(alloc, entry)?.as_str())?;
@@ -136,6 +135,11 @@ pub fn read_text(alloc: Global, version: &Version, mark: &Mark) -> Result<String
         text.push_str(bundle_text(alloc, bundle)?.as_str())?;
     }
     Ok(text)
+}
+
+/// What a version reads at a mark, told likewise.
+pub fn read_text(alloc: Global, version: &Version, mark: &Mark) -> Result<String, Fail> {
+    reading_text(alloc, &version.read(mark)?)
 }
 
 impl Listed {

@@ -2,7 +2,7 @@
 
 ghost use Rattle.std.specs.Prelude.{◌<◌};
 
-use crate::listed::{Listed, are_hit, read_text};
+use crate::listed::{Listed, are_hit, read_text, reading_text};
 use crate::making::mark_of;
 use crate::playing::{Step, first_step, go_on};
 use std::alloc::Global;
@@ -305,5 +305,44 @@ fn a_mark_is_unchanged_where_no_write_hits_it(rt: HostRuntime) -> Result<(), Fai
     assert!(rt; counts.changed != 0);
     assert!(rt; counts.unchanged_though_hit != 0);
     assert!(rt; counts.changed_though_equal != 0);
+    Ok(())
+}
+
+/// A mark reads through the writes of the next two versions what it reads of the second, and these writes hit it where
+/// those of one of the two do.
+fn is_read_through(
+    rt: &impl Abort,
+    alloc: Global,
+    (older, middle, newer): (&Step, &Step, &Step),
+    mark: &Mark,
+) -> Result<bool, Fail> {
+    let mut changes = middle.changes.clone()?;
+    changes.append(newer.changes.clone()?)?;
+    let through = older.version.read_after(mark, &changes)?;
+    let got = reading_text(alloc, &through)?;
+    let want = read_text(alloc, &newer.version, mark)?;
+    assert_eq!(rt; got.as_str(), want.as_str());
+    let is_hit = changes.hits(mark);
+    assert_eq!(rt;
+        is_hit,
+        are_hit(mark, &middle.changes) || are_hit(mark, &newer.changes)
+    );
+    Ok(is_hit)
+}
+
+#[test]
+fn each_mark_reads_through_writes_what_it_reads_after_them(rt: HostRuntime) -> Result<(), Fail> {
+    let alloc = rt.alloc();
+    let marks = marks(alloc)?;
+    let played = history(alloc, 5, 100)?;
+    let (mut hit, mut unhit) = (0, 0);
+    for three in played.steps.as_slice().windows(3) {
+        for mark in &marks {
+            let is_hit = is_read_through(&rt, alloc, (&three[0], &three[1], &three[2]), mark)?;
+            add(&mut hit, is_hit);
+            add(&mut unhit, !is_hit);
+        }
+    }
+    assert!(rt; hit != 0 && unhit != 0);
     Ok(())
 }
