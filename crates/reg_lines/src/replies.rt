@@ -72,10 +72,22 @@ impl PrintJson for CallReply<'_> {
         let place = self.reply.place;
         match &self.reply.outcome {
             Outcome::Committed(replies) => {
-                print_done(self.call, place, replies.get().as_slice(), "committed", output);
+                print_done(
+                    self.call,
+                    place,
+                    replies.get().as_slice(),
+                    "committed",
+                    output,
+                );
             }
             Outcome::Answered(replies) => {
-                print_done(self.call, place, replies.get().as_slice(), "answered", output);
+                print_done(
+                    self.call,
+                    place,
+                    replies.get().as_slice(),
+                    "answered",
+                    output,
+                );
             }
             Outcome::Refused(refusal) => print_refused(self.call, place, refusal, output),
         }

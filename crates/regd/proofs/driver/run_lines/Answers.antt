@@ -119,21 +119,21 @@ pub loop-count-preserved : goal.loop-count-preserved
 loop-count-preserved g c =
     record {
       way = (
-        let setting = g.A.Answerer.setting c.args.answerer.now in
-        let ends = g.A.Answerer.ends in
-        let answers = g.A.Answerer.answers setting in
-        let closes = g.A.Answerer.closes setting in
-        let step = Steps ends answers in
-        let some = some_step ends answers (g.met.A.Answerer.some_answer setting) in
-        let some_end = g.met.A.Answerer.some_close setting in
-        λ first stands begun.
-        let way = IsDriven-flush ends answers (g.A.Answerer.stands c.loop-count.answerer) first c.args.input.now.left c.loop-count.input.left c.args.output.now c.loop-count.output c.flush_before_waiting.new.output c.loop-count.count (c.loop-count.invariant.way first stands begun) c.flush_before_waiting.ensures.put in
-        let line = rw c.in-Ok-true.field-0-test at c.in-Ok-true.ensures.line in
-        let told = of_setting ends g.A.Answerer.answers (g.A.Answerer.stands c.answer.new.self) _ _ c.loop-count.invariant.setting way.state _ _ _ _ (c.answer.ensures.answered way.state way.stood) in
-        let read = of_bytes ends answers (g.A.Answerer.stands c.answer.new.self) way.state _ _ _ _ _ c.as_bytes.ensures told in
-        let verdict : c.answer.result ≡ true = grind (arith, common_steps) in
-        let goes_on = of_verdict ends answers (g.A.Answerer.stands c.answer.new.self) way.state _ _ _ _ _ verdict read in
-        IsDriven-more ends answers (g.A.Answerer.stands c.loop-count.answerer) (g.A.Answerer.stands c.answer.new.self) first c.args.input.now.left c.loop-count.input.left c.read_line.new.self.left c.args.output.now c.flush_before_waiting.new.output c.answer.new.output c.loop-count.count _ way line goes_on);
+          let setting = g.A.Answerer.setting c.args.answerer.now in
+          let ends = g.A.Answerer.ends in
+          let answers = g.A.Answerer.answers setting in
+          let closes = g.A.Answerer.closes setting in
+          let step = Steps ends answers in
+          let some = some_step ends answers (g.met.A.Answerer.some_answer setting) in
+          let some_end = g.met.A.Answerer.some_close setting in
+          λ first stands begun.
+          let way = IsDriven-flush ends answers (g.A.Answerer.stands c.loop-count.answerer) first c.args.input.now.left c.loop-count.input.left c.args.output.now c.loop-count.output c.flush_before_waiting.new.output c.loop-count.count (c.loop-count.invariant.way first stands begun) c.flush_before_waiting.ensures.put in
+          let line = rw c.in-Ok-true.field-0-test at c.in-Ok-true.ensures.line in
+          let told = of_setting ends g.A.Answerer.answers (g.A.Answerer.stands c.answer.new.self) _ _ c.loop-count.invariant.setting way.state _ _ _ _ (c.answer.ensures.answered way.state way.stood) in
+          let read = of_bytes ends answers (g.A.Answerer.stands c.answer.new.self) way.state _ _ _ _ _ c.as_bytes.ensures told in
+          let verdict : c.answer.result ≡ true = grind (arith, common_steps) in
+          let goes_on = of_verdict ends answers (g.A.Answerer.stands c.answer.new.self) way.state _ _ _ _ _ verdict read in
+          IsDriven-more ends answers (g.A.Answerer.stands c.loop-count.answerer) (g.A.Answerer.stands c.answer.new.self) first c.args.input.now.left c.loop-count.input.left c.read_line.new.self.left c.args.output.now c.flush_before_waiting.new.output c.answer.new.output c.loop-count.count _ way line goes_on);
       setting = c.answer.ensures.setting ∙ c.loop-count.invariant.setting;
       lines = c.answer.ensures.lines ∙ ap (λ n. n + 1) c.loop-count.invariant.lines;
       input = grind (arith, common_steps);
