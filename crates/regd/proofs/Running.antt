@@ -2,7 +2,6 @@
 use Rattle.std.proofs.Common.{◌≡◌, ◌+◌, ℕ, List, true, false, refl, ap, subst, sym, ◌∙◌}
 use Rattle.rand_chacha.specs.ChaCha.{ChaCha}
 use Rattle.entry_book.specs.Book.{Book}
-use Rattle.entry_book.specs.History.{PlainState}
 use Rattle.reg_lines.specs.Lines.{kept, IsLine}
 use Rattle.reg_lines.specs.Stream.{OutputState}
 use Rattle.reg_lines.proofs.Kept.{kept_spells}

@@ -1,4 +1,4 @@
-use Rattle.std.proofs.Common.{◌≡◌, [], List, ℕ, Err, Result, refl, subst, arith}
+use Rattle.std.proofs.Common.{◌≡◌, List, ℕ, Err, refl, subst, arith}
 use Rattle.std.proofs.lemmas.Grind.{common_steps}
 use Rattle.regd.specs.Answers.{Answers, ClosesWithNothing, RunsPlain, an_answer, no_end, start}
 use Rattle.regd.specs.declared.faults.Fault.TheVariants.{NoMemory}
