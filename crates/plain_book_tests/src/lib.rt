@@ -4,14 +4,10 @@
 //!
 //! - `random`: random batches of a few names. Each book that comes out is lawful, and each agent is told what a search
 //!   finds: `rows` reads all rows of a book and judges them, `search` looks for chains by their length.
-//! - `large`: a book of over 500 entries: what agents are told, children, a prune, and drops of bundles with users, held
-//!   against a search in rounds.
 //! - `worked`: what a small book answers, batch after batch.
 //! - `making`: operations, made of a few words; `told`: what a book answers, in short.
 #![tactic(auto)]
 
-#[cfg(test)]
-mod large;
 #[cfg(test)]
 mod making;
 #[cfg(test)]
