@@ -6,7 +6,7 @@ use Rattle.entry_book.specs.declared.bundle.Bundle.{Bundle}
 use Rattle.entry_book.specs.Rows.{Bytes, Entry, entry_key, bundle_key}
 use Rattle.entry_book.specs.Order.{Within, Ascending, is_before, with_row}
 use Rattle.entry_book.specs.Book.{Book, AscendingBook}
-use Rattle.entry_book.specs.Writes.{Write, wrote_entry, after, after_write, FitAll}
+use Rattle.entry_book.specs.Writes.{RowWrite, wrote_entry, after, after_write, FitAll}
 use Rattle.entry_book.specs.Ops.{removed, dissociated, freed, bundle_removed}
 use Rattle.entry_book.proofs.InOrder.{ascending-with_row}
 use Rattle.entry_book.proofs.Keys.{same_key, row_alone, from_with_row, within_with_row, new_with_row}
@@ -14,11 +14,11 @@ use Rattle.entry_book.proofs.Sets.{All-within, All-from_within, within_filter, f
 
 -- ---- lists of writes
 
-pub after-append : (vs ws : List Write) (b : Book) → after (vs ++ ws) b ≡ after ws (after vs b)
+pub after-append : (vs ws : List RowWrite) (b : Book) → after (vs ++ ws) b ≡ after ws (after vs b)
 after-append [] ws b = refl
 after-append (v ∷ vs) ws b = after-append vs ws (after_write v b)
 
-pub fit-append : (vs ws : List Write) (b : Book) → FitAll vs b → FitAll ws (after vs b) → FitAll (vs ++ ws) b
+pub fit-append : (vs ws : List RowWrite) (b : Book) → FitAll vs b → FitAll ws (after vs b) → FitAll (vs ++ ws) b
 fit-append [] ws b f g = g
 fit-append (v ∷ vs) ws b f g = (f.0, fit-append vs ws (after_write v b) f.1 g)
 
@@ -49,7 +49,7 @@ module _ {X : Type 0} (key : X → Bytes) where
 
 -- ---- each entry of a list is replaced by what f says of it
 
-abbrev pub rewritten : (Entry → Option Entry) → Entry → Write
+abbrev pub rewritten : (Entry → Option Entry) → Entry → RowWrite
 rewritten f e = wrote_entry (record { key = e.id; old = Some e; new = f e })
 
 -- the entries after

@@ -14,14 +14,14 @@ use Rattle.entry_book.specs.Rows.{Bytes, Entry, at_revision, entry_key, agent_ke
 use Rattle.entry_book.specs.Order.{Within, Ascending}
 use Rattle.entry_book.specs.Book.{Book, AscendingBook}
 use Rattle.entry_book.specs.Writes.{after}
-use Rattle.entry_book.specs.Ops.{Done, next_sequence}
+use Rattle.entry_book.specs.Ops.{OpEffect, next_sequence}
 use Rattle.entry_book.specs.Effects.{IsListOf, IsRowAt, EntriesBecome, AgentsBecome, BundlesBecome, Creates, Updates, Deletes, Shows, Lists, OfAgent, Prunes, SetsAgent, DropsAgent, IsNext, SetsBundle, DropsOne, DropsUnused, DropsDeleting, DropsDissociating, DropsBundle}
 use Rattle.entry_book.specs.Laws.{EffectOf}
 use Rattle.entry_book.proofs.Keys.{same_key}
 use Rattle.entry_book.proofs.Sets.{same_sets}
 
 -- one reply, and one book after
-abbrev Same : Book → Done → Done → Type 0
+abbrev Same : Book → OpEffect → OpEffect → Type 0
 Same b c d = (c.reply ≡ d.reply) × (after c.writes b ≡ after d.writes b)
 
 -- ---- rows, lists and books
@@ -64,7 +64,7 @@ one_bundle x y p q r = ap (λ t. bundle t x.text x.sequence) p ∙ (ap (λ t. bu
 
 -- ---- each operation
 
-module _ (b : Book) (s : AscendingBook b) (c d : Done) where
+module _ (b : Book) (s : AscendingBook b) (c d : OpEffect) where
   one_create : (e : NewEntry) → Creates e b c → Creates e b d → Same b c d
   one_create e g h = (g.reply ∙ sym h.reply, one_by_entries b _ _ _ g.after_it h.after_it)
 
@@ -137,7 +137,7 @@ module _ (b : Book) (s : AscendingBook b) (c d : Done) where
   one_drop domain mode.Delete g h = one_deleting domain g h
   one_drop domain mode.Dissociate g h = one_dissociating domain g h
 
-pub one_answer : (own : Bytes) (op : Op) (b : Book) → AscendingBook b → (c d : Done) → EffectOf own op b c → EffectOf own op b d → (c.reply ≡ d.reply) × (after c.writes b ≡ after d.writes b)
+pub one_answer : (own : Bytes) (op : Op) (b : Book) → AscendingBook b → (c d : OpEffect) → EffectOf own op b c → EffectOf own op b d → (c.reply ≡ d.reply) × (after c.writes b ≡ after d.writes b)
 one_answer own (Create e) b s c d g h = one_create b s c d e g h
 one_answer own (Update e expected) b s c d g h = one_update b s c d e expected g h
 one_answer own (Delete k expected) b s c d g h = one_delete b s c d k expected g h

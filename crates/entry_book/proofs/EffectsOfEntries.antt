@@ -12,7 +12,7 @@ use Rattle.entry_book.specs.declared.reply.OpRefusal.TheVariants.{Similar, NoBun
 use Rattle.entry_book.specs.Rows.{Bytes, Entry, at_revision, entry_key}
 use Rattle.entry_book.specs.Order.{Within}
 use Rattle.entry_book.specs.Book.{Book, AscendingBook, HasBundle, entry_at, group_of}
-use Rattle.entry_book.specs.Ops.{Done, similar, lacking, put, put_named, put_beside, create_over, is_stale, update_when, update_over, delete_when, delete_over, op_of}
+use Rattle.entry_book.specs.Ops.{OpEffect, similar, lacking, put, put_named, put_beside, create_over, is_stale, update_when, update_over, delete_when, delete_over, op_of}
 use Rattle.entry_book.specs.Effects.{IsNew, IsAlone, IsSimilar, LacksBundle, Creates, CreateRefused, IsExpected, HasExpected, Updates, UpdateRefused, Deletes, DeleteRefused}
 use Rattle.entry_book.proofs.Changed.{not_is}
 use Rattle.entry_book.proofs.Keys.{first_within, at_row, no_row}
@@ -28,7 +28,7 @@ is_another e b f h q =
     let r = from_within_filter (λ o. set_eq o.selectors e.selectors && not (bytes_eq o.id e.id)) (group_of e.parent e.identity b) f (first_within entry_key _ f h) in
     both_ways (bytes_eq f.id e.id) (not_is (bytes_eq f.id e.id) (and_parts _ _ r.1).1) (text_same f.id e.id q)
 
-module _ (e : NewEntry) (n : ℕ) (b : Book) (old : Option Entry) (Good : Done → Type 0) (Bad : OpRefusal → Type 0) (alike : (k : Bytes) → IsSimilar e b k → Bad (Similar k)) (bare : (k : Bytes) → LacksBundle e b k → Bad (NoBundle k)) (good : IsAlone e b → AllByRecursion (HasBundle b) e.domains → Good (record { reply = replied.Entry (at_revision n e); writes = put old (at_revision n e) ∷ [] })) where
+module _ (e : NewEntry) (n : ℕ) (b : Book) (old : Option Entry) (Good : OpEffect → Type 0) (Bad : OpRefusal → Type 0) (alike : (k : Bytes) → IsSimilar e b k → Bad (Similar k)) (bare : (k : Bytes) → LacksBundle e b k → Bad (NoBundle k)) (good : IsAlone e b → AllByRecursion (HasBundle b) e.domains → Good (record { reply = replied.Entry (at_revision n e); writes = put old (at_revision n e) ∷ [] })) where
   named : IsAlone e b → (o : Option Bytes) → lacking e.domains b ≡ o → MatchResult (put_named o old (at_revision n e)) Good Bad
   named a (Some k) h = let r = first_lacking e.domains b k h in bare k (record { alone = a; first = r.0; none = r.1 })
   named a None h = good a (all_bundled e.domains b h)

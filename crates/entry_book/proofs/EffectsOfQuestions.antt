@@ -11,7 +11,7 @@ use Rattle.entry_book.specs.Rows.{Bytes, Entry, entry_key, agent_key, bundle_key
 use Rattle.entry_book.specs.Order.{Within, first}
 use Rattle.entry_book.specs.Book.{Book, AscendingBook, agent_at, children_of, names}
 use Rattle.entry_book.specs.Authorised.{authorised, EndsChain}
-use Rattle.entry_book.specs.Ops.{Done, Answer, done, for_agent, is_named, bundles_of, op_of}
+use Rattle.entry_book.specs.Ops.{OpEffect, OpResult, done, for_agent, is_named, bundles_of, op_of}
 use Rattle.entry_book.specs.Effects.{Names, Shows, ListsChildren, ListsAuthorised, ListsTrust, LacksAgent}
 use Rattle.entry_book.proofs.Chains.{ends_of_chains, authorised_in_order}
 use Rattle.entry_book.proofs.Keys.{at_row, no_row}
@@ -45,7 +45,7 @@ children_effect own p b s = record {
 -- ---- questions of an agent
 
 -- an operation on an agent that the book may lack
-module _ (k : Bytes) (b : Book) (f : Agent → Answer) (Good : Done → Type 0) (found : (a : Agent) → Within b.agents a → a.id ≡ k → MatchResult (f a) Good (LacksAgent k b)) where
+module _ (k : Bytes) (b : Book) (f : Agent → OpResult) (Good : OpEffect → Type 0) (found : (a : Agent) → Within b.agents a → a.id ≡ k → MatchResult (f a) Good (LacksAgent k b)) where
   of_agent : (o : Option Agent) → agent_at k b ≡ o → MatchResult (for_agent o f) Good (LacksAgent k b)
   of_agent None h = λ v. no_row agent_key k b.agents h v.0 v.1 v.2
   of_agent (Some a) h = let r = at_row agent_key k b.agents a h in found a r.0 r.1

@@ -10,7 +10,7 @@ use Rattle.entry_book.specs.declared.reply.OpReply.{OpReply}
 use Rattle.entry_book.specs.Rows.{Bytes}
 use Rattle.entry_book.specs.Book.{Book, empty_book}
 use Rattle.entry_book.specs.Writes.{after}
-use Rattle.entry_book.specs.Runs.{Ran, RunResult, run}
+use Rattle.entry_book.specs.Runs.{RunEffect, RunResult, run}
 use Rattle.entry_book.specs.Limits.{limit_passed}
 use Rattle.entry_book.specs.Batches.{Batch, IsMadeFor, is_query, op_fault}
 use Rattle.entry_book.specs.History.{last_book, last_or, place_of, Verdict, refuses, answers, adds, adds_within, verdict_when, verdict, reply_with, books_with, reply_to, books_after, books_from, books_of, first_books, is_committed, commits, CommitAll, Leads, IsHistory, PlainState, Stands}
@@ -51,10 +51,10 @@ pub queries_only_ask : (batch : Batch) (books : List Book) → is_query batch.op
 queries_only_ask batch books h = only_ask (place_of books) (is_query batch.ops) (last_book books) (run batch.domain batch.ops (last_book books)) h
 
 -- what a batch comes to that no operation refuses
-pub verdict_answers : (query : Bool) (n : ℕ) (b : Book) (r : RunResult) (t : Ran) → query ≡ true → r ≡ Ok t → verdict_when query n b r ≡ answers t.replies
+pub verdict_answers : (query : Bool) (n : ℕ) (b : Book) (r : RunResult) (t : RunEffect) → query ≡ true → r ≡ Ok t → verdict_when query n b r ≡ answers t.replies
 verdict_answers query n b r t q e = ap (λ x. verdict_when x n b r) q ∙ ap (verdict_when true n b) e
 
-pub verdict_changes : (query : Bool) (n : ℕ) (b : Book) (r : RunResult) (t : Ran) (o : Option Limit) → query ≡ false → r ≡ Ok t → limit_passed n (after t.writes b) ≡ o → verdict_when query n b r ≡ adds_within o t.replies (after t.writes b)
+pub verdict_changes : (query : Bool) (n : ℕ) (b : Book) (r : RunResult) (t : RunEffect) (o : Option Limit) → query ≡ false → r ≡ Ok t → limit_passed n (after t.writes b) ≡ o → verdict_when query n b r ≡ adds_within o t.replies (after t.writes b)
 verdict_changes query n b r t o q e l = ap (λ x. verdict_when x n b r) q ∙ (ap (verdict_when false n b) e ∙ ap (λ x. adds_within x t.replies (after t.writes b)) l)
 
 -- ---- one batch more

@@ -16,7 +16,7 @@ use Rattle.entry_book.specs.Order.{Within}
 use Rattle.entry_book.specs.Book.{Book, HasBundle, entry_at, agent_at, bundle_at, names, users_of, expires_before, expired_before}
 use Rattle.entry_book.specs.Writes.{after}
 use Rattle.entry_book.specs.Batches.{IsProperOp, bundle_fault, entry_fault, op_fault}
-use Rattle.entry_book.specs.Ops.{Done, Answer, similar, lacking, put_named, put_beside, create_over, is_stale, update_when, update_over, removed, delete_when, delete_over, for_agent, agent_dropped, next_sequence, bundle_set, bundle_removed, dissociated, freed, drop_in, drop_over, op_of}
+use Rattle.entry_book.specs.Ops.{OpEffect, OpResult, similar, lacking, put_named, put_beside, create_over, is_stale, update_when, update_over, removed, delete_when, delete_over, for_agent, agent_dropped, next_sequence, bundle_set, bundle_removed, dissociated, freed, drop_in, drop_over, op_of}
 use Rattle.entry_book.specs.Runs.{RunResult, onto, then_run, run}
 use Rattle.entry_book.specs.Lawful.{Lawful}
 use Rattle.entry_book.proofs.Changed.{after-append, after_freed_then, after_removed, after_removed_then, ascending_map, from_within_map}
@@ -26,7 +26,7 @@ use Rattle.entry_book.proofs.LawfulRows.{AreMilder, Milder, lawful_agent, lawful
 use Rattle.entry_book.proofs.Present.{not_similar, all_bundled}
 use Rattle.entry_book.proofs.Sets.{All-from_within, All-within, ascending_filter, from_any, from_within_filter}
 
-abbrev KeepsAnswer : Bytes → ℕ → Answer → Book → Type 0
+abbrev KeepsAnswer : Bytes → ℕ → OpResult → Book → Type 0
 KeepsAnswer own m o b = IfOk o (λ d. Lawful own m (after d.writes b))
 
 -- ---- create and update, of an entry at a revision within the bound
@@ -73,7 +73,7 @@ prune_keeps own m moment b l = rw (after_removed (expires_before moment) b l.asc
 
 -- ---- questions of an agent, and an agent that is dropped
 
-read_keeps : (own : Bytes) (m : ℕ) (b : Book) (o : Option Agent) (f : Agent → Answer) → ((a : Agent) → KeepsAnswer own m (f a) b) → KeepsAnswer own m (for_agent o f) b
+read_keeps : (own : Bytes) (m : ℕ) (b : Book) (o : Option Agent) (f : Agent → OpResult) → ((a : Agent) → KeepsAnswer own m (f a) b) → KeepsAnswer own m (for_agent o f) b
 read_keeps own m b None f h = tt
 read_keeps own m b (Some a) f h = h a
 
@@ -195,11 +195,11 @@ op_keeps own m (DropBundle k by) b p h l = drop_keeps own m b l k by (bundle_at 
 abbrev KeepsRun : Bytes → ℕ → RunResult → Book → Type 0
 KeepsRun own n r b = IfOk r (λ t. Lawful own n (after t.writes b))
 
-onto_keeps : (own : Bytes) (n : ℕ) (d : Done) (b : Book) (r : RunResult) → KeepsRun own n r (after d.writes b) → KeepsRun own n (onto d r) b
+onto_keeps : (own : Bytes) (n : ℕ) (d : OpEffect) (b : Book) (r : RunResult) → KeepsRun own n r (after d.writes b) → KeepsRun own n (onto d r) b
 onto_keeps own n d b (Ok t) h = rw (after-append d.writes t.writes b) h
 onto_keeps own n d b (Err r) h = tt
 
-then_keeps : (own : Bytes) (m n : ℕ) (b : Book) (o : Answer) (f : Done → RunResult) → IfOk o (λ d. Lawful own m (after d.writes b)) → ((d : Done) → Lawful own m (after d.writes b) → KeepsRun own n (f d) (after d.writes b)) → KeepsRun own n (then_run o f) b
+then_keeps : (own : Bytes) (m n : ℕ) (b : Book) (o : OpResult) (f : OpEffect → RunResult) → IfOk o (λ d. Lawful own m (after d.writes b)) → ((d : OpEffect) → Lawful own m (after d.writes b) → KeepsRun own n (f d) (after d.writes b)) → KeepsRun own n (then_run o f) b
 then_keeps own m n b (Ok d) f h k = onto_keeps own n d b (f d) (k d h)
 then_keeps own m n b (Err r) f h k = tt
 

@@ -8,8 +8,8 @@ use Rattle.entry_book.specs.declared.op.Op.{Op}
 use Rattle.entry_book.specs.Rows.{Bytes, Entry, entry_key, agent_key, bundle_key}
 use Rattle.entry_book.specs.Order.{Within, Ascending, with_row}
 use Rattle.entry_book.specs.Book.{Book, AscendingBook}
-use Rattle.entry_book.specs.Writes.{Change, Write, wrote_entry, wrote_agent, wrote_bundle, FitsRows, FitsBook, FitAll, after_write}
-use Rattle.entry_book.specs.Ops.{Done, bundle_removed, op_of}
+use Rattle.entry_book.specs.Writes.{RowChange, RowWrite, wrote_entry, wrote_agent, wrote_bundle, FitsRows, FitsBook, FitAll, after_write}
+use Rattle.entry_book.specs.Ops.{OpEffect, bundle_removed, op_of}
 use Rattle.entry_book.specs.Laws.{SameRow, DifferentRows}
 use Rattle.entry_book.proofs.Changed.{apart, rewritten}
 use Rattle.entry_book.proofs.Filters.{kept, filter-with_row}
@@ -32,10 +32,10 @@ module _ {X : Type 0} (key : X → Bytes) where
       ∙ (ap (λ o. with_row key k o (filter p rows)) (not_kept k j new n h)
       ∙ without_none key k (filter p rows) (ascending_filter key p rows a) (λ x w e. n (sym e ∙ text_is (key x) j (from_within_filter p rows x w).1)))
 
-  fits_beside : (c d : Change X) (rows : List X) → Ascending key rows → FitsRows key c rows → c.key ≢ d.key → FitsRows key d (with_row key c.key c.new rows) → FitsRows key d rows
+  fits_beside : (c d : RowChange X) (rows : List X) → Ascending key rows → FitsRows key c rows → c.key ≢ d.key → FitsRows key d (with_row key c.key c.new rows) → FitsRows key d rows
   fits_beside c d rows a f n g = record { found = sym (rows_beside c.key d.key c.new rows n f.keyed a) ∙ g.found; keyed = g.keyed }
 
-fits_before : (v w : Write) (b : Book) → AscendingBook b → FitsBook v b → (SameRow v w → ⊥) → FitsBook w (after_write v b) → FitsBook w b
+fits_before : (v w : RowWrite) (b : Book) → AscendingBook b → FitsBook v b → (SameRow v w → ⊥) → FitsBook w (after_write v b) → FitsBook w b
 fits_before (wrote_entry c) (wrote_entry d) b a f n g = fits_beside entry_key c d b.entries a.entries f n g
 fits_before (wrote_entry c) (wrote_agent d) b a f n g = g
 fits_before (wrote_entry c) (wrote_bundle d) b a f n g = g
@@ -46,18 +46,18 @@ fits_before (wrote_bundle c) (wrote_entry d) b a f n g = g
 fits_before (wrote_bundle c) (wrote_agent d) b a f n g = g
 fits_before (wrote_bundle c) (wrote_bundle d) b a f n g = fits_beside bundle_key c d b.bundles a.bundles f n g
 
-all_before : (v : Write) (ws : List Write) (b : Book) → AscendingBook b → FitsBook v b → AllByRecursion (λ w. SameRow v w → ⊥) ws → AllByRecursion (λ w. FitsBook w (after_write v b)) ws → AllByRecursion (λ w. FitsBook w b) ws
+all_before : (v : RowWrite) (ws : List RowWrite) (b : Book) → AscendingBook b → FitsBook v b → AllByRecursion (λ w. SameRow v w → ⊥) ws → AllByRecursion (λ w. FitsBook w (after_write v b)) ws → AllByRecursion (λ w. FitsBook w b) ws
 all_before v [] b a f n g = tt
 all_before v (w ∷ ws) b a f n g = (fits_before v w b a f n.0 g.0, all_before v ws b a f n.1 g.1)
 
 -- writes of different rows, each of which finds its row on the book that the earlier ones left, find them on the first book too
-pub fit_as_found : (ws : List Write) (b : Book) → AscendingBook b → DifferentRows ws → FitAll ws b → AllByRecursion (λ w. FitsBook w b) ws
+pub fit_as_found : (ws : List RowWrite) (b : Book) → AscendingBook b → DifferentRows ws → FitAll ws b → AllByRecursion (λ w. FitsBook w b) ws
 fit_as_found [] b a n f = tt
 fit_as_found (w ∷ ws) b a n f = (f.0, all_before w ws b a f.0 n.0 (fit_as_found ws (after_write w b) (in_order (w ∷ []) b a (f.0, tt)) n.1 f.1))
 
 -- ---- lists of writes
 
-all_map : (f : Entry → Write) (P : Write → Type 0) (es : List Entry) → ((e : Entry) → Within es e → P (f e)) → AllByRecursion P (map f es)
+all_map : (f : Entry → RowWrite) (P : RowWrite → Type 0) (es : List Entry) → ((e : Entry) → Within es e → P (f e)) → AllByRecursion P (map f es)
 all_map f P [] h = tt
 all_map f P (e ∷ es) h = (h e (inl refl), all_map f P es (λ d w. h d (inr w)))
 
@@ -68,7 +68,7 @@ rewritten_once f (e ∷ es) a = (
   rewritten_once f es a.1,
 )
 
-one_more : (ws : List Write) (w : Write) → DifferentRows ws → AllByRecursion (λ v. SameRow v w → ⊥) ws → DifferentRows (ws ++ w ∷ [])
+one_more : (ws : List RowWrite) (w : RowWrite) → DifferentRows ws → AllByRecursion (λ v. SameRow v w → ⊥) ws → DifferentRows (ws ++ w ∷ [])
 one_more [] w h n = (tt, tt)
 one_more (v ∷ vs) w h n = (All-more (λ u. SameRow v u → ⊥) vs w h.0 n.0, one_more vs w h.1 n.1)
 
@@ -77,13 +77,13 @@ then_bundle f es d a = one_more (map (rewritten f) es) (bundle_removed d) (rewri
 
 -- ---- each operation
 
-shape_once : (op : Op) (b : Book) (d : Done) → AscendingBook b → Shape op b d → DifferentRows d.writes
+shape_once : (op : Op) (b : Book) (d : OpEffect) → AscendingBook b → Shape op b d → DifferentRows d.writes
 shape_once op b d a (nothing h n) = rw h tt
 shape_once op b d a (one_row w f h n) = rw h (tt, tt)
 shape_once op b d a (entries f k p h n) = rw h (rewritten_once f (filter p b.entries) (ascending_filter entry_key p b.entries a.entries))
 shape_once op b d a (entries_then f k p x w h n) = rw h (then_bundle f (filter p b.entries) x (ascending_filter entry_key p b.entries a.entries))
 
-both : (op : Op) (b : Book) (d : Done) → AscendingBook b → Shape op b d → DifferentRows d.writes × AllByRecursion (λ w. FitsBook w b) d.writes
+both : (op : Op) (b : Book) (d : OpEffect) → AscendingBook b → Shape op b d → DifferentRows d.writes × AllByRecursion (λ w. FitsBook w b) d.writes
 both op b d a s = let n = shape_once op b d a s in (n, fit_as_found d.writes b a n (shape_fits op b d a s))
 
 pub writes_once : (own : Bytes) (op : Op) (b : Book) → AscendingBook b → IfOk (op_of own op b) (λ d. DifferentRows d.writes × AllByRecursion (λ w. FitsBook w b) d.writes)

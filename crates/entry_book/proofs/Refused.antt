@@ -13,7 +13,7 @@ use Rattle.entry_book.specs.Rows.{Bytes, Entry, entry_key}
 use Rattle.entry_book.specs.Order.{Within}
 use Rattle.entry_book.specs.Book.{Book, AscendingBook, HasAgent, HasBundle}
 use Rattle.entry_book.specs.Writes.{after}
-use Rattle.entry_book.specs.Ops.{Done, Answer, op_of}
+use Rattle.entry_book.specs.Ops.{OpEffect, OpResult, op_of}
 use Rattle.entry_book.specs.Effects.{IsAlone, IsSimilar, LacksBundle, IsExpected, HasExpected, IsStale, Creates, CreateRefused, Updates, UpdateRefused, Deletes, DeleteRefused, LacksAgent, DropsBundle, DropBundleRefused}
 use Rattle.entry_book.specs.Lawful.{Lawful}
 use Rattle.entry_book.specs.Laws.{EffectOf, RefusalOf}
@@ -70,7 +70,7 @@ module _ (b : Book) (a : AscendingBook b) where
   one_create l e (NoBundle k) _ g h = absurd h
   one_create l e _ _ g h = absurd g
 
-  create_not : (e : NewEntry) (d : Done) (r : OpRefusal) → Creates e b d → CreateRefused e b r → ⊥
+  create_not : (e : NewEntry) (d : OpEffect) (r : OpRefusal) → Creates e b d → CreateRefused e b r → ⊥
   create_not e d IdTaken g h = g.new h.0 h.1 h.2
   create_not e d (Similar k) g h = not_alone e k g.alone h.1
   create_not e d (NoBundle k) g h = all_bundled e k g.bundled h.1
@@ -104,7 +104,7 @@ module _ (b : Book) (a : AscendingBook b) where
   one_update l e expected (NoBundle k) _ g h = absurd h
   one_update l e expected _ _ g h = absurd g
 
-  update_not : (e : NewEntry) (expected : Option ℕ) (d : Done) (r : OpRefusal) → Updates e expected b d → UpdateRefused e expected b r → ⊥
+  update_not : (e : NewEntry) (expected : Option ℕ) (d : OpEffect) (r : OpRefusal) → Updates e expected b d → UpdateRefused e expected b r → ⊥
   update_not e expected d NoEntry g h = h (g.old, g.found.0, g.found.1)
   update_not e expected d StaleRevision g h = not_stale e.id expected g.old g.found h
   update_not e expected d (Similar k) g h = not_alone e k g.alone h.1
@@ -120,7 +120,7 @@ module _ (b : Book) (a : AscendingBook b) where
   one_delete k expected StaleRevision _ g h = absurd h
   one_delete k expected _ _ g h = absurd g
 
-  delete_not : (k : Bytes) (expected : Option ℕ) (d : Done) (r : OpRefusal) → Deletes k expected b d → DeleteRefused k expected b r → ⊥
+  delete_not : (k : Bytes) (expected : Option ℕ) (d : OpEffect) (r : OpRefusal) → Deletes k expected b d → DeleteRefused k expected b r → ⊥
   delete_not k expected d NoEntry g h = h (g.old, g.found.0, g.found.1)
   delete_not k expected d StaleRevision g h = not_stale k expected g.old g.found h
   delete_not k expected d _ g h = h
@@ -147,7 +147,7 @@ module _ (b : Book) (a : AscendingBook b) where
   one_drop domain m BundleInUse _ g h = absurd h
   one_drop domain m _ _ g h = absurd g
 
-  drop_not : (domain : Bytes) (m : DropMode) (d : Done) (r : OpRefusal) → DropsBundle domain m b d → DropBundleRefused domain m b r → ⊥
+  drop_not : (domain : Bytes) (m : DropMode) (d : OpEffect) (r : OpRefusal) → DropsBundle domain m b d → DropBundleRefused domain m b r → ⊥
   drop_not domain mode.Restrict d (NoBundle k) g h = h.1 g.bundle.there
   drop_not domain mode.Delete d (NoBundle k) g h = h.1 g.bundle.there
   drop_not domain mode.Dissociate d (NoBundle k) g h = h.1 g.bundle.there
@@ -174,7 +174,7 @@ effect_of own (DropAgent k) b a = drop_agent_effect own k b a
 effect_of own (SetBundle domain text) b a = set_bundle_effect own domain text b a
 effect_of own (DropBundle domain m) b a = drop_bundle_effect own domain m b a
 
-not_both : (own : Bytes) (op : Op) (b : Book) (d : Done) (r : OpRefusal) → AscendingBook b → EffectOf own op b d → RefusalOf op b r → ⊥
+not_both : (own : Bytes) (op : Op) (b : Book) (d : OpEffect) (r : OpRefusal) → AscendingBook b → EffectOf own op b d → RefusalOf op b r → ⊥
 not_both own (Create e) b d r a g h = create_not b a e d r g h
 not_both own (Update e expected) b d r a g h = update_not b a e expected d r g h
 not_both own (Delete k expected) b d r a g h = delete_not b a k expected d r g h
@@ -206,14 +206,14 @@ one_refusal (DropAgent k) b r q a l g h = one_lack b a k r q g h
 one_refusal (SetBundle domain text) b r q a l g h = absurd g
 one_refusal (DropBundle domain m) b r q a l g h = one_drop b a domain m r q g h
 
-accepted_so : (o : Answer) (Is : Done → Type 0) (Due : OpRefusal → Type 0) (P : Done → Type 0) → MatchResult o Is Due → ((d : Done) → Is d → P d) → ((r : OpRefusal) → Due r → ⊥) → MatchResult o P (λ r. ⊥)
+accepted_so : (o : OpResult) (Is : OpEffect → Type 0) (Due : OpRefusal → Type 0) (P : OpEffect → Type 0) → MatchResult o Is Due → ((d : OpEffect) → Is d → P d) → ((r : OpRefusal) → Due r → ⊥) → MatchResult o P (λ r. ⊥)
 accepted_so (Ok d) Is Due P h f n = f d h
 accepted_so (Err r) Is Due P h f n = n r h
 
-pub accepted_as_said : (own : Bytes) (op : Op) (b : Book) (d : Done) → AscendingBook b → EffectOf own op b d → MatchResult (op_of own op b) (λ c. (c.reply ≡ d.reply) × (after c.writes b ≡ after d.writes b)) (λ r. ⊥)
+pub accepted_as_said : (own : Bytes) (op : Op) (b : Book) (d : OpEffect) → AscendingBook b → EffectOf own op b d → MatchResult (op_of own op b) (λ c. (c.reply ≡ d.reply) × (after c.writes b ≡ after d.writes b)) (λ r. ⊥)
 accepted_as_said own op b d a g = accepted_so (op_of own op b) (EffectOf own op b) (RefusalOf op b) (λ c. (c.reply ≡ d.reply) × (after c.writes b ≡ after d.writes b)) (effect_of own op b a) (λ c h. one_answer own op b a c d h g) (λ r h. not_both own op b d r a g h)
 
-refused_so : (o : Answer) (Is : Done → Type 0) (Due : OpRefusal → Type 0) (r : OpRefusal) → MatchResult o Is Due → ((d : Done) → Is d → ⊥) → ((q : OpRefusal) → Due q → q ≡ r) → o ≡ Err r
+refused_so : (o : OpResult) (Is : OpEffect → Type 0) (Due : OpRefusal → Type 0) (r : OpRefusal) → MatchResult o Is Due → ((d : OpEffect) → Is d → ⊥) → ((q : OpRefusal) → Due q → q ≡ r) → o ≡ Err r
 refused_so (Ok d) Is Due r h n f = absurd (n d h)
 refused_so (Err q) Is Due r h n f = ap Err (f q h)
 

@@ -8,7 +8,7 @@ use Rattle.entry_book.specs.declared.reply.OpReply.{OpReply}
 use Rattle.entry_book.specs.Rows.{Bytes}
 use Rattle.entry_book.specs.Book.{Book, agent_at}
 use Rattle.entry_book.specs.Writes.{after}
-use Rattle.entry_book.specs.Ops.{Done, Answer, done, for_agent, op_of}
+use Rattle.entry_book.specs.Ops.{OpEffect, OpResult, done, for_agent, op_of}
 use Rattle.entry_book.specs.Runs.{RunResult, onto, then_run, run}
 use Rattle.entry_book.specs.Batches.{is_question, is_query}
 
@@ -17,11 +17,11 @@ use Rattle.entry_book.specs.Batches.{is_question, is_query}
 abbrev Replies : ℕ → RunResult → Type 0
 Replies n r = IfOk r (λ t. length t.replies ≡ n)
 
-onto_replies : (n : ℕ) (d : Done) (r : RunResult) → Replies n r → Replies (suc n) (onto d r)
+onto_replies : (n : ℕ) (d : OpEffect) (r : RunResult) → Replies n r → Replies (suc n) (onto d r)
 onto_replies n d (Ok t) h = ap suc h
 onto_replies n d (Err s) h = tt
 
-then_replies : (n : ℕ) (o : Answer) (f : Done → RunResult) → ((d : Done) → Replies n (f d)) → Replies (suc n) (then_run o f)
+then_replies : (n : ℕ) (o : OpResult) (f : OpEffect → RunResult) → ((d : OpEffect) → Replies n (f d)) → Replies (suc n) (then_run o f)
 then_replies n (Ok d) f h = onto_replies n d (f d) (h d)
 then_replies n (Err r) f h = tt
 
@@ -31,7 +31,7 @@ run_replies domain (op ∷ ops) b = then_replies (length ops) (op_of domain op b
 
 -- ---- questions
 
-abbrev WritesNothing : Answer → Type 0
+abbrev WritesNothing : OpResult → Type 0
 WritesNothing o = IfOk o (λ d. d.writes ≡ [])
 
 asked : (o : Option Agent) (reply : Agent → OpReply) → WritesNothing (for_agent o (λ a. done (reply a) []))
@@ -57,11 +57,11 @@ question_writes own (DropBundle domain mode) b h = cc
 abbrev RunWritesNothing : RunResult → Type 0
 RunWritesNothing r = IfOk r (λ t. t.writes ≡ [])
 
-onto_nothing : (d : Done) (r : RunResult) → d.writes ≡ [] → RunWritesNothing r → RunWritesNothing (onto d r)
+onto_nothing : (d : OpEffect) (r : RunResult) → d.writes ≡ [] → RunWritesNothing r → RunWritesNothing (onto d r)
 onto_nothing d (Ok t) h k = ap (λ ws. ws ++ t.writes) h ∙ k
 onto_nothing d (Err s) h k = tt
 
-then_nothing : (o : Answer) (f : Done → RunResult) → WritesNothing o → ((d : Done) → RunWritesNothing (f d)) → RunWritesNothing (then_run o f)
+then_nothing : (o : OpResult) (f : OpEffect → RunResult) → WritesNothing o → ((d : OpEffect) → RunWritesNothing (f d)) → RunWritesNothing (then_run o f)
 then_nothing (Ok d) f h k = onto_nothing d (f d) h (k d)
 then_nothing (Err r) f h k = tt
 

@@ -11,21 +11,21 @@ use Rattle.entry_book.specs.declared.op.Op.TheVariants.{Create, Update, Delete, 
 use Rattle.entry_book.specs.Rows.{Bytes, Entry, at_revision, entry_key, agent_key, bundle_key}
 use Rattle.entry_book.specs.Order.{Within}
 use Rattle.entry_book.specs.Book.{Book, AscendingBook, entry_at, agent_at, bundle_at, names, users_of, expires_before}
-use Rattle.entry_book.specs.Writes.{Write, FitsBook}
+use Rattle.entry_book.specs.Writes.{RowWrite, FitsBook}
 use Rattle.entry_book.specs.NamedRows.{entry_of, agent_of, bundle_of, row_written, entry_name, rows_named}
-use Rattle.entry_book.specs.Ops.{Done, Answer, similar, lacking, put, put_named, put_beside, create_over, is_stale, update_when, update_over, removed, delete_when, delete_over, for_agent, agent_dropped, bundle_removed, dissociated, drop_in, drop_over, op_of}
+use Rattle.entry_book.specs.Ops.{OpEffect, OpResult, similar, lacking, put, put_named, put_beside, create_over, is_stale, update_when, update_over, removed, delete_when, delete_over, for_agent, agent_dropped, bundle_removed, dissociated, drop_in, drop_over, op_of}
 use Rattle.entry_book.proofs.Changed.{rewritten}
 use Rattle.entry_book.proofs.Keys.{at_row, row_alone, rows_at}
 
 -- each case says which rows the operation names
-pub data Shape (op : Op) (b : Book) (d : Done) : Type 0 where
+pub data Shape (op : Op) (b : Book) (d : OpEffect) : Type 0 where
   nothing : d.writes ≡ [] → rows_named op b ≡ [] → Shape op b d
-  one_row : (w : Write) → (AscendingBook b → FitsBook w b) → d.writes ≡ w ∷ [] → rows_named op b ≡ row_written w ∷ [] → Shape op b d
+  one_row : (w : RowWrite) → (AscendingBook b → FitsBook w b) → d.writes ≡ w ∷ [] → rows_named op b ≡ row_written w ∷ [] → Shape op b d
   entries : (f : Entry → Option Entry) → ((e : Entry) → IfSome (f e) (λ x. x.id ≡ e.id)) → (p : Entry → Bool) → d.writes ≡ map (rewritten f) (filter p b.entries) → rows_named op b ≡ map entry_name (filter p b.entries) → Shape op b d
   entries_then : (f : Entry → Option Entry) → ((e : Entry) → IfSome (f e) (λ x. x.id ≡ e.id)) → (p : Entry → Bool) (x : Bundle) → Within b.bundles x → d.writes ≡ map (rewritten f) (filter p b.entries) ++ bundle_removed x ∷ [] → rows_named op b ≡ map entry_name (filter p b.entries) ++ bundle_of x.domain ∷ [] → Shape op b d
 
 module _ (op : Op) (b : Book) where
-  abbrev ShapeAnswer : Answer → Type 0
+  abbrev ShapeAnswer : OpResult → Type 0
   ShapeAnswer o = IfOk o (Shape op b)
 
   -- ---- an entry that is put in the place of the old one of its id, or taken away
@@ -60,7 +60,7 @@ module _ (op : Op) (b : Book) where
 
   -- ---- an agent that is asked for, or dropped
 
-  of_agent : (f : Agent → Answer) (o : Option Agent) → ((a : Agent) → o ≡ Some a → ShapeAnswer (f a)) → ShapeAnswer (for_agent o f)
+  of_agent : (f : Agent → OpResult) (o : Option Agent) → ((a : Agent) → o ≡ Some a → ShapeAnswer (f a)) → ShapeAnswer (for_agent o f)
   of_agent f None h = tt
   of_agent f (Some a) h = h a refl
 
@@ -100,9 +100,9 @@ shape_of own (DropBundle domain m) b = drop (DropBundle domain m) b domain m ref
 
 -- ---- what holds of each shape holds of each operation
 
-pub by_shape : (own : Bytes) (op : Op) (b : Book) (P : Done → Type 0) → ((d : Done) → Shape op b d → P d) → IfOk (op_of own op b) P
+pub by_shape : (own : Bytes) (op : Op) (b : Book) (P : OpEffect → Type 0) → ((d : OpEffect) → Shape op b d → P d) → IfOk (op_of own op b) P
 by_shape own op b P f = over (op_of own op b) (shape_of own op b)
   where
-    over : (o : Answer) → IfOk o (Shape op b) → IfOk o P
+    over : (o : OpResult) → IfOk o (Shape op b) → IfOk o P
     over (Ok d) s = f d s
     over (Err r) s = tt

@@ -15,7 +15,7 @@ use Rattle.entry_book.specs.Order.{Within, Ascending}
 use Rattle.entry_book.specs.Book.{Book, HasEntry, HasAgent, HasBundle}
 use Rattle.entry_book.specs.Writes.{after}
 use Rattle.entry_book.specs.Authorised.{EndsChain}
-use Rattle.entry_book.specs.Ops.{Done}
+use Rattle.entry_book.specs.Ops.{OpEffect}
 
 -- the entry has the new one's parent, identity and selectors
 pub record IsLike (e : NewEntry) (x : Entry) : Type 0 where
@@ -61,7 +61,7 @@ abbrev pub IsAlone : NewEntry → Book → Type 0
 IsAlone e b = (x : Entry) → Within b.entries x → IsLike e x → x.id ≡ e.id
 
 -- It replies with the entry at revision 0, and adds it and nothing else.
-pub record Creates (e : NewEntry) (b : Book) (d : Done) : Type 0 where
+pub record Creates (e : NewEntry) (b : Book) (d : OpEffect) : Type 0 where
   pub new : IsNew e b
   pub alone : IsAlone e b
   pub bundled : AllByRecursion (HasBundle b) e.domains
@@ -100,7 +100,7 @@ abbrev pub IsStale : Bytes → Option ℕ → Book → Type 0
 IsStale k expected b = (x : Entry) × Within b.entries x × (x.id ≡ k) × (IsExpected expected x → ⊥)
 
 -- It replies with the entry as it is given, at the next revision, and puts it in the place of the one of its id.
-pub record Updates (e : NewEntry) (expected : Option ℕ) (b : Book) (d : Done) : Type 0 where
+pub record Updates (e : NewEntry) (expected : Option ℕ) (b : Book) (d : OpEffect) : Type 0 where
   pub old : Entry
   pub found : HasExpected e.id expected b old
   pub alone : IsAlone e b
@@ -118,7 +118,7 @@ UpdateRefused e expected b _ = ⊥
 -- ---- delete
 
 -- It replies with the entry, and removes it and nothing else.
-pub record Deletes (k : Bytes) (expected : Option ℕ) (b : Book) (d : Done) : Type 0 where
+pub record Deletes (k : Bytes) (expected : Option ℕ) (b : Book) (d : OpEffect) : Type 0 where
   pub old : Entry
   pub found : HasExpected k expected b old
   pub reply : d.reply ≡ replied.Entry old
@@ -132,14 +132,14 @@ DeleteRefused k expected b _ = ⊥
 -- ---- questions: they write nothing
 
 -- It replies with the row of the key, or with none where there is none.
-pub record Shows {X : Type 0} (key : X → Bytes) (rows : List X) (replies : Option X → OpReply) (k : Bytes) (d : Done) : Type 0 where
+pub record Shows {X : Type 0} (key : X → Bytes) (rows : List X) (replies : Option X → OpReply) (k : Bytes) (d : OpEffect) : Type 0 where
   pub writes : d.writes ≡ []
   pub shown : Option X
   pub reply : d.reply ≡ replies shown
   pub is_row : IsRowAt key rows k shown
 
 -- It replies with the rows of this kind, in order.
-pub record Lists {X : Type 0} (key : X → Bytes) (replies : List X → OpReply) (Has : X → Type 0) (d : Done) : Type 0 where
+pub record Lists {X : Type 0} (key : X → Bytes) (replies : List X → OpReply) (Has : X → Type 0) (d : OpEffect) : Type 0 where
   pub writes : d.writes ≡ []
   pub shown : List X
   pub reply : d.reply ≡ replies shown
@@ -156,15 +156,15 @@ LacksAgent k b _ = ⊥
 
 -- ---- children, authorised and trust; `server` is the ID of the book's server
 
-abbrev pub ListsChildren : Bytes → Book → Done → Type 0
+abbrev pub ListsChildren : Bytes → Book → OpEffect → Type 0
 ListsChildren p b d = Lists entry_key replied.Entries (λ x. Within b.entries x × (x.parent ≡ p)) d
 
 -- It replies with the entries in which some chain for the agent ends.
-abbrev pub ListsAuthorised : Bytes → Bytes → Book → Done → Type 0
+abbrev pub ListsAuthorised : Bytes → Bytes → Book → OpEffect → Type 0
 ListsAuthorised server k b d = OfAgent k b (λ a. Lists entry_key replied.Entries (EndsChain server a b) d)
 
 -- It replies with the bundles of the domains that these entries name.
-abbrev pub ListsTrust : Bytes → Bytes → Book → Done → Type 0
+abbrev pub ListsTrust : Bytes → Bytes → Book → OpEffect → Type 0
 ListsTrust server k b d = OfAgent k b (λ a. Lists bundle_key replied.Bundles (λ x. Within b.bundles x × ((e : Entry) × EndsChain server a b e × Names x.domain e)) d)
 
 -- ---- prune
@@ -174,7 +174,7 @@ abbrev pub IsExpired : ℕ → Entry → Type 0
 IsExpired moment x = (0 < x.expiry) × (x.expiry < moment)
 
 -- It replies with the ids of the entries that are expired, in order, and removes these and nothing else.
-pub record Prunes (moment : ℕ) (b : Book) (d : Done) : Type 0 where
+pub record Prunes (moment : ℕ) (b : Book) (d : OpEffect) : Type 0 where
   pub expired : List Entry
   pub are_expired : IsListOf entry_key (λ x. Within b.entries x × IsExpired moment x) expired
   pub reply : d.reply ≡ replied.Pruned (map entry_key expired)
@@ -183,12 +183,12 @@ pub record Prunes (moment : ℕ) (b : Book) (d : Done) : Type 0 where
 -- ---- set_agent and drop_agent
 
 -- It replies with the agent, which stands alone at its id; all else stays.
-pub record SetsAgent (a : Agent) (b : Book) (d : Done) : Type 0 where
+pub record SetsAgent (a : Agent) (b : Book) (d : OpEffect) : Type 0 where
   pub reply : d.reply ≡ replied.Agent a
   pub after_it : AgentsBecome b (after d.writes b) (λ x. (x ≡ a) ⊎ (Within b.agents x × (x.id ≢ a.id)))
 
 -- It replies with the agent, and removes it and nothing else.
-pub record DropsAgent (k : Bytes) (b : Book) (d : Done) : Type 0 where
+pub record DropsAgent (k : Bytes) (b : Book) (d : OpEffect) : Type 0 where
   pub old : Agent
   pub found : Within b.agents old × (old.id ≡ k)
   pub reply : d.reply ≡ replied.Agent old
@@ -202,7 +202,7 @@ IsNext None n = n ≡ 0
 IsNext (Some old) n = n ≡ old.sequence + 1
 
 -- It replies with the bundle, which stands alone at its domain; all else stays.
-pub record SetsBundle (domain text : Bytes) (b : Book) (d : Done) : Type 0 where
+pub record SetsBundle (domain text : Bytes) (b : Book) (d : OpEffect) : Type 0 where
   pub old : Option Bundle
   pub found : IsRowAt bundle_key b.bundles domain old
   pub new : Bundle
@@ -232,14 +232,14 @@ abbrev pub AreUsers : Bytes → Book → List Entry → Type 0
 AreUsers domain b users = IsListOf entry_key (λ x. Within b.entries x × Names domain x) users
 
 -- no entry names the domain, and the entries stay
-pub record DropsUnused (domain : Bytes) (b : Book) (d : Done) : Type 0 where
+pub record DropsUnused (domain : Bytes) (b : Book) (d : OpEffect) : Type 0 where
   pub unused : (x : Entry) → Within b.entries x → Names domain x → ⊥
   pub reply : d.reply ≡ replied.Dropped [] []
   pub entries : (after d.writes b).entries ≡ b.entries
   pub bundle : DropsOne domain b (after d.writes b)
 
 -- the entries that name the domain are deleted
-pub record DropsDeleting (domain : Bytes) (b : Book) (d : Done) : Type 0 where
+pub record DropsDeleting (domain : Bytes) (b : Book) (d : OpEffect) : Type 0 where
   pub users : List Entry
   pub are_users : AreUsers domain b users
   pub reply : d.reply ≡ replied.Dropped (map entry_key users) []
@@ -247,14 +247,14 @@ pub record DropsDeleting (domain : Bytes) (b : Book) (d : Done) : Type 0 where
   pub bundle : DropsOne domain b (after d.writes b)
 
 -- the domain is taken out of the entries that name it
-pub record DropsDissociating (domain : Bytes) (b : Book) (d : Done) : Type 0 where
+pub record DropsDissociating (domain : Bytes) (b : Book) (d : OpEffect) : Type 0 where
   pub users : List Entry
   pub are_users : AreUsers domain b users
   pub reply : d.reply ≡ replied.Dropped [] (map entry_key users)
   pub entries : IsListOf entry_key (λ y. (Within b.entries y × (Names domain y → ⊥)) ⊎ ((x : Entry) × Within b.entries x × Names domain x × IsFreed domain x y)) (after d.writes b).entries
   pub bundle : DropsOne domain b (after d.writes b)
 
-abbrev pub DropsBundle : Bytes → DropMode → Book → Done → Type 0
+abbrev pub DropsBundle : Bytes → DropMode → Book → OpEffect → Type 0
 DropsBundle domain mode.Restrict b d = DropsUnused domain b d
 DropsBundle domain mode.Delete b d = DropsDeleting domain b d
 DropsBundle domain mode.Dissociate b d = DropsDissociating domain b d

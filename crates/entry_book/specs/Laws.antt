@@ -18,11 +18,11 @@ use Rattle.entry_book.specs.declared.reply.Reply.{Reply}
 use Rattle.entry_book.specs.Rows.{Bytes, Entry, entry_key, agent_key, bundle_key, IsProperEntry, IsProperAgent}
 use Rattle.entry_book.specs.Order.{Within, Ascending}
 use Rattle.entry_book.specs.Book.{Book, AscendingBook}
-use Rattle.entry_book.specs.Writes.{Write, wrote_entry, wrote_agent, wrote_bundle, after, FitsBook, FitAll}
+use Rattle.entry_book.specs.Writes.{RowWrite, wrote_entry, wrote_agent, wrote_bundle, after, FitsBook, FitAll}
 use Rattle.entry_book.specs.NamedRows.{row_written, rows_named}
 use Rattle.entry_book.specs.Authorised.{authorised, EndsChain, Holds}
-use Rattle.entry_book.specs.Ops.{Done, op_of}
-use Rattle.entry_book.specs.Runs.{Ran, Stop, run}
+use Rattle.entry_book.specs.Ops.{OpEffect, op_of}
+use Rattle.entry_book.specs.Runs.{RunEffect, RefusedOp, run}
 use Rattle.entry_book.specs.Effects.{Creates, CreateRefused, Updates, UpdateRefused, Deletes, DeleteRefused, Shows, ListsChildren, ListsAuthorised, ListsTrust, LacksAgent, Prunes, SetsAgent, DropsAgent, SetsBundle, DropsBundle, DropBundleRefused}
 use Rattle.entry_book.specs.Limits.{limit_passed}
 use Rattle.entry_book.specs.Batches.{Batch, IsMadeFor, IsProperOp, is_query, entry_fault, agent_fault, bundle_fault, op_fault, batch_refusal}
@@ -110,7 +110,7 @@ abbrev pub DropBundleEffect : Type 0
 DropBundleEffect = (own : Bytes) (domain : Bytes) (mode : DropMode) (b : Book) → AscendingBook b → MatchResult (op_of own (DropBundle domain mode) b) (DropsBundle domain mode b) (DropBundleRefused domain mode b)
 
 -- the effect of an operation on a book
-abbrev pub EffectOf : Bytes → Op → Book → Done → Type 0
+abbrev pub EffectOf : Bytes → Op → Book → OpEffect → Type 0
 EffectOf own (Create e) b = Creates e b
 EffectOf own (Update e expected) b = Updates e expected b
 EffectOf own (Delete k expected) b = Deletes k expected b
@@ -145,14 +145,14 @@ RefusalOf (DropBundle domain mode) b = DropBundleRefused domain mode b
 
 -- the words settle the answer: an operation that has an effect is accepted, with that reply and that book after it
 abbrev pub AcceptedAsSaid : Type 0
-AcceptedAsSaid = (own : Bytes) (op : Op) (b : Book) (d : Done) → AscendingBook b → EffectOf own op b d → MatchResult (op_of own op b) (λ c. (c.reply ≡ d.reply) × (after c.writes b ≡ after d.writes b)) (λ r. ⊥)
+AcceptedAsSaid = (own : Bytes) (op : Op) (b : Book) (d : OpEffect) → AscendingBook b → EffectOf own op b d → MatchResult (op_of own op b) (λ c. (c.reply ≡ d.reply) × (after c.writes b ≡ after d.writes b)) (λ r. ⊥)
 
 -- and on a lawful book an operation that has a refusal is refused, for that
 abbrev pub RefusedAsSaid : Type 0
 RefusedAsSaid = (own : Bytes) (most : ℕ) (op : Op) (b : Book) (r : OpRefusal) → Lawful own most b → RefusalOf op b r → op_of own op b ≡ Err r
 
 -- two writes of one row
-abbrev pub SameRow : Write → Write → Type 0
+abbrev pub SameRow : RowWrite → RowWrite → Type 0
 SameRow (wrote_entry c) (wrote_entry d) = c.key ≡ d.key
 SameRow (wrote_entry c) (wrote_agent d) = ⊥
 SameRow (wrote_entry c) (wrote_bundle d) = ⊥
@@ -164,7 +164,7 @@ SameRow (wrote_bundle c) (wrote_agent d) = ⊥
 SameRow (wrote_bundle c) (wrote_bundle d) = c.key ≡ d.key
 
 -- no two of these writes are of one row
-abbrev pub DifferentRows : List Write → Type 0
+abbrev pub DifferentRows : List RowWrite → Type 0
 DifferentRows [] = ⊤
 DifferentRows (w ∷ ws) = AllByRecursion (λ v. SameRow w v → ⊥) ws × DifferentRows ws
 
@@ -185,7 +185,7 @@ pub record StopsAt (domain : Bytes) (ops : List Op) (b : Book) (n : ℕ) (r : Op
   pub rest : List Op
   pub split : ops ≡ front ++ op ∷ rest
   pub index : n ≡ length front
-  pub done : Ran
+  pub done : RunEffect
   pub accepted : run domain front b ≡ Ok done
   pub refused : op_of domain op (after done.writes b) ≡ Err r
 
@@ -194,7 +194,7 @@ RunStops = (domain : Bytes) (ops : List Op) (b : Book) (n : ℕ) (r : OpRefusal)
 
 -- the replies and writes of one operation more, on the book that the others left
 abbrev pub RunGoesOn : Type 0
-RunGoesOn = (domain : Bytes) (ops : List Op) (op : Op) (b : Book) (t : Ran) → run domain ops b ≡ Ok t → MatchResult (op_of domain op (after t.writes b)) (λ d. run domain (ops ++ op ∷ []) b ≡ Ok (record { replies = t.replies ++ d.reply ∷ []; writes = t.writes ++ d.writes })) (λ r. run domain (ops ++ op ∷ []) b ≡ Err (record { op = length ops; reason = r }))
+RunGoesOn = (domain : Bytes) (ops : List Op) (op : Op) (b : Book) (t : RunEffect) → run domain ops b ≡ Ok t → MatchResult (op_of domain op (after t.writes b)) (λ d. run domain (ops ++ op ∷ []) b ≡ Ok (record { replies = t.replies ++ d.reply ∷ []; writes = t.writes ++ d.writes })) (λ r. run domain (ops ++ op ∷ []) b ≡ Err (record { op = length ops; reason = r }))
 
 -- no operation leaves the book
 abbrev pub RunOfNone : Type 0
@@ -275,19 +275,19 @@ Comes batch books reply later = (reply_to batch books ≡ reply) × (books_after
 
 -- a batch with an operation that is refused is refused for it, and the books stay
 abbrev pub OpRefuses : Type 0
-OpRefuses = (batch : Batch) (books : List Book) (s : Stop) → run batch.domain batch.ops (last_book books) ≡ Err s → Comes batch books (record { place = place_of books; outcome = Refused (OfOp s.op s.reason) }) books
+OpRefuses = (batch : Batch) (books : List Book) (s : RefusedOp) → run batch.domain batch.ops (last_book books) ≡ Err s → Comes batch books (record { place = place_of books; outcome = Refused (OfOp s.op s.reason) }) books
 
 -- any other query is answered, whatever the limits, and the books stay
 abbrev pub QueriesAnswered : Type 0
-QueriesAnswered = (batch : Batch) (books : List Book) (t : Ran) → is_query batch.ops ≡ true → run batch.domain batch.ops (last_book books) ≡ Ok t → Comes batch books (record { place = place_of books; outcome = Answered t.replies }) books
+QueriesAnswered = (batch : Batch) (books : List Book) (t : RunEffect) → is_query batch.ops ≡ true → run batch.domain batch.ops (last_book books) ≡ Ok t → Comes batch books (record { place = place_of books; outcome = Answered t.replies }) books
 
 -- any other batch of changes adds the book after its writes, also where this is equal to the last one, and is answered at the new place
 abbrev pub ChangesCommit : Type 0
-ChangesCommit = (batch : Batch) (books : List Book) (t : Ran) → is_query batch.ops ≡ false → run batch.domain batch.ops (last_book books) ≡ Ok t → limit_passed (place_of books) (after t.writes (last_book books)) ≡ None → Comes batch books (record { place = place_of books + 1; outcome = Committed t.replies }) (books ++ after t.writes (last_book books) ∷ [])
+ChangesCommit = (batch : Batch) (books : List Book) (t : RunEffect) → is_query batch.ops ≡ false → run batch.domain batch.ops (last_book books) ≡ Ok t → limit_passed (place_of books) (after t.writes (last_book books)) ≡ None → Comes batch books (record { place = place_of books + 1; outcome = Committed t.replies }) (books ++ after t.writes (last_book books) ∷ [])
 
 -- but where a limit is passed it is refused for the first such one, and the books stay
 abbrev pub FullRefused : Type 0
-FullRefused = (batch : Batch) (books : List Book) (t : Ran) (limit : Limit) → is_query batch.ops ≡ false → run batch.domain batch.ops (last_book books) ≡ Ok t → limit_passed (place_of books) (after t.writes (last_book books)) ≡ Some limit → Comes batch books (record { place = place_of books; outcome = Refused (Full limit) }) books
+FullRefused = (batch : Batch) (books : List Book) (t : RunEffect) (limit : Limit) → is_query batch.ops ≡ false → run batch.domain batch.ops (last_book books) ≡ Ok t → limit_passed (place_of books) (after t.writes (last_book books)) ≡ Some limit → Comes batch books (record { place = place_of books; outcome = Refused (Full limit) }) books
 
 -- the limits in words
 pub record IsWithinLimits (b : Book) : Type 0 where

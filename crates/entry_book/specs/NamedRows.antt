@@ -4,7 +4,7 @@ use Rattle.entry_book.specs.declared.op.Op.{Op}
 use Rattle.entry_book.specs.declared.op.Op.TheVariants.{Create, Update, Delete, Show, ShowAgent, ShowBundle, Children, Authorised, Trust, Prune, SetAgent, DropAgent, SetBundle, DropBundle}
 use Rattle.entry_book.specs.Rows.{Bytes, Entry}
 use Rattle.entry_book.specs.Book.{Book, users_of, expired_before}
-use Rattle.entry_book.specs.Writes.{Write, wrote_entry, wrote_agent, wrote_bundle}
+use Rattle.entry_book.specs.Writes.{RowWrite, wrote_entry, wrote_agent, wrote_bundle}
 
 -- A row by its name: the entry of an id, the agent of an ID, or the bundle of a trust domain.
 pub data RowName : Type 0 where
@@ -12,7 +12,7 @@ pub data RowName : Type 0 where
   agent_of : Bytes → RowName
   bundle_of : Bytes → RowName
 
-abbrev pub row_written : Write → RowName
+abbrev pub row_written : RowWrite → RowName
 row_written (wrote_entry c) = entry_of c.key
 row_written (wrote_agent c) = agent_of c.key
 row_written (wrote_bundle c) = bundle_of c.key

@@ -17,17 +17,17 @@ use Rattle.entry_book.specs.declared.reply.OpRefusal.TheVariants.{IdTaken, Simil
 use Rattle.entry_book.specs.Rows.{Bytes, Entry, at_revision, entry_key}
 use Rattle.entry_book.specs.Order.{first}
 use Rattle.entry_book.specs.Book.{Book, entry_at, agent_at, bundle_at, group_of, children_of, names, users_of, expired_before}
-use Rattle.entry_book.specs.Writes.{Write, wrote_entry, wrote_agent, wrote_bundle}
+use Rattle.entry_book.specs.Writes.{RowWrite, wrote_entry, wrote_agent, wrote_bundle}
 use Rattle.entry_book.specs.Authorised.{authorised}
 
-pub record Done : Type 0 where
+pub record OpEffect : Type 0 where
   pub reply : OpReply
-  pub writes : List Write
+  pub writes : List RowWrite
 
-abbrev pub Answer : Type 0
-Answer = Result Done OpRefusal
+abbrev pub OpResult : Type 0
+OpResult = Result OpEffect OpRefusal
 
-abbrev pub done : OpReply → List Write → Answer
+abbrev pub done : OpReply → List RowWrite → OpResult
 done r ws = Ok (record { reply = r; writes = ws })
 
 -- ---- an entry that is put into the book: similar entry, then missing bundle; it replies with the entry
@@ -42,20 +42,20 @@ lacking [] b = None
 lacking (d ∷ ds) b = if is_some (bundle_at d b) then lacking ds b else Some d
 
 -- the entry in the place of the old one of its id, where there is one
-abbrev pub put : Option Entry → Entry → Write
+abbrev pub put : Option Entry → Entry → RowWrite
 put old e = wrote_entry (record { key = e.id; old = old; new = Some e })
 
-abbrev pub put_named : Option Bytes → Option Entry → Entry → Answer
+abbrev pub put_named : Option Bytes → Option Entry → Entry → OpResult
 put_named (Some d) old e = Err (NoBundle d)
 put_named None old e = done (replied.Entry e) (put old e ∷ [])
 
-abbrev pub put_beside : Option Entry → Option Entry → Entry → Book → Answer
+abbrev pub put_beside : Option Entry → Option Entry → Entry → Book → OpResult
 put_beside (Some o) old e b = Err (Similar o.id)
 put_beside None old e b = put_named (lacking e.domains b) old e
 
 -- ---- create: taken id, and then as above; the entry is at revision 0
 
-abbrev pub create_over : Option Entry → Entry → Book → Answer
+abbrev pub create_over : Option Entry → Entry → Book → OpResult
 create_over (Some o) e b = Err IdTaken
 create_over None e b = put_beside (similar e b) None e b
 
@@ -66,30 +66,30 @@ abbrev pub is_stale : Option ℕ → Entry → Bool
 is_stale None e = false
 is_stale (Some expected) e = not (nat_eq expected e.revision)
 
-abbrev pub update_when : Bool → Entry → NewEntry → Book → Answer
+abbrev pub update_when : Bool → Entry → NewEntry → Book → OpResult
 update_when true old e b = Err StaleRevision
 update_when false old e b = put_beside (similar (at_revision (old.revision + 1) e) b) (Some old) (at_revision (old.revision + 1) e) b
 
-abbrev pub update_over : Option Entry → NewEntry → Option ℕ → Book → Answer
+abbrev pub update_over : Option Entry → NewEntry → Option ℕ → Book → OpResult
 update_over None e expected b = Err NoEntry
 update_over (Some old) e expected b = update_when (is_stale expected old) old e b
 
 -- ---- delete: missing entry, stale revision; it replies with the entry that is gone
 
-abbrev pub removed : Entry → Write
+abbrev pub removed : Entry → RowWrite
 removed e = wrote_entry (record { key = e.id; old = Some e; new = None })
 
-abbrev pub delete_when : Bool → Entry → Answer
+abbrev pub delete_when : Bool → Entry → OpResult
 delete_when true e = Err StaleRevision
 delete_when false e = done (replied.Entry e) (removed e ∷ [])
 
-abbrev pub delete_over : Option Entry → Option ℕ → Answer
+abbrev pub delete_over : Option Entry → Option ℕ → OpResult
 delete_over None expected = Err NoEntry
 delete_over (Some e) expected = delete_when (is_stale expected e) e
 
 -- ---- questions of an agent: missing agent
 
-abbrev pub for_agent : Option Agent → (Agent → Answer) → Answer
+abbrev pub for_agent : Option Agent → (Agent → OpResult) → OpResult
 for_agent None f = Err NoAgent
 for_agent (Some a) f = f a
 
@@ -102,10 +102,10 @@ bundles_of es b = filter (is_named es) b.bundles
 
 -- ---- set_agent and drop_agent; a missing agent can't be dropped
 
-abbrev pub agent_set : Agent → Book → Answer
+abbrev pub agent_set : Agent → Book → OpResult
 agent_set a b = done (replied.Agent a) (wrote_agent (record { key = a.id; old = agent_at a.id b; new = Some a }) ∷ [])
 
-abbrev pub agent_dropped : Agent → Answer
+abbrev pub agent_dropped : Agent → OpResult
 agent_dropped a = done (replied.Agent a) (wrote_agent (record { key = a.id; old = Some a; new = None }) ∷ [])
 
 -- ---- set_bundle: never refused; a new bundle has sequence 0, and each further set adds 1
@@ -114,38 +114,38 @@ abbrev pub next_sequence : Option Bundle → ℕ
 next_sequence None = 0
 next_sequence (Some old) = old.sequence + 1
 
-abbrev pub bundle_put : Option Bundle → Bundle → Answer
+abbrev pub bundle_put : Option Bundle → Bundle → OpResult
 bundle_put old d = done (replied.Bundle d) (wrote_bundle (record { key = d.domain; old = old; new = Some d }) ∷ [])
 
-abbrev pub bundle_set : Bytes → Bytes → Option Bundle → Answer
+abbrev pub bundle_set : Bytes → Bytes → Option Bundle → OpResult
 bundle_set domain text old = bundle_put old (record { domain = domain; text = text; sequence = next_sequence old })
 
 -- ---- drop_bundle: missing bundle, then bundle in use; it replies with the ids deleted and the ids dissociated
 
-abbrev pub bundle_removed : Bundle → Write
+abbrev pub bundle_removed : Bundle → RowWrite
 bundle_removed d = wrote_bundle (record { key = d.domain; old = Some d; new = None })
 
 -- the entry without the domain, at its next revision
 abbrev pub dissociated : Bytes → Entry → Entry
 dissociated domain e = record e { domains = filter (λ d. not (bytes_eq d domain)) e.domains; revision = e.revision + 1 }
 
-abbrev pub freed : Bytes → Entry → Write
+abbrev pub freed : Bytes → Entry → RowWrite
 freed domain e = put (Some e) (dissociated domain e)
 
 -- the entries are those that name the bundle's domain
-abbrev pub drop_in : DropMode → List Entry → Bundle → Answer
+abbrev pub drop_in : DropMode → List Entry → Bundle → OpResult
 drop_in mode.Restrict [] d = done (replied.Dropped [] []) (bundle_removed d ∷ [])
 drop_in mode.Restrict (e ∷ es) d = Err BundleInUse
 drop_in mode.Delete es d = done (replied.Dropped (map entry_key es) []) (map removed es ++ bundle_removed d ∷ [])
 drop_in mode.Dissociate es d = done (replied.Dropped [] (map entry_key es)) (map (freed d.domain) es ++ bundle_removed d ∷ [])
 
-abbrev pub drop_over : Option Bundle → Bytes → DropMode → Book → Answer
+abbrev pub drop_over : Option Bundle → Bytes → DropMode → Book → OpResult
 drop_over None domain mode b = Err (NoBundle domain)
 drop_over (Some d) domain mode b = drop_in mode (users_of d.domain b) d
 
 -- ---- the plain op, in the book of a trust domain
 
-abbrev pub op_of : Bytes → Op → Book → Answer
+abbrev pub op_of : Bytes → Op → Book → OpResult
 op_of own (Create e) b = create_over (entry_at e.id b) (at_revision 0 e) b
 op_of own (Update e expected) b = update_over (entry_at e.id b) e expected b
 op_of own (Delete k expected) b = delete_over (entry_at k b) expected

@@ -5,27 +5,27 @@ use Rattle.entry_book.specs.declared.reply.OpReply.{OpReply}
 use Rattle.entry_book.specs.declared.reply.OpRefusal.{OpRefusal}
 use Rattle.entry_book.specs.Rows.{Bytes}
 use Rattle.entry_book.specs.Book.{Book}
-use Rattle.entry_book.specs.Writes.{Write, after}
-use Rattle.entry_book.specs.Ops.{Done, Answer, op_of}
+use Rattle.entry_book.specs.Writes.{RowWrite, after}
+use Rattle.entry_book.specs.Ops.{OpEffect, OpResult, op_of}
 
-pub record Ran : Type 0 where
+pub record RunEffect : Type 0 where
   pub replies : List OpReply
-  pub writes : List Write
+  pub writes : List RowWrite
 
 -- A refused operation: its index, from 0, and why it is refused.
-pub record Stop : Type 0 where
+pub record RefusedOp : Type 0 where
   pub op : ℕ
   pub reason : OpRefusal
 
 -- the replies and the writes of all operations, or the one that was refused
 abbrev pub RunResult : Type 0
-RunResult = Result Ran Stop
+RunResult = Result RunEffect RefusedOp
 
-abbrev pub onto : Done → RunResult → RunResult
+abbrev pub onto : OpEffect → RunResult → RunResult
 onto d (Ok t) = Ok (record { replies = d.reply ∷ t.replies; writes = d.writes ++ t.writes })
 onto d (Err s) = Err (record s { op = s.op + 1 })
 
-abbrev pub then_run : Answer → (Done → RunResult) → RunResult
+abbrev pub then_run : OpResult → (OpEffect → RunResult) → RunResult
 then_run (Err r) f = Err (record { op = 0; reason = r })
 then_run (Ok d) f = onto d (f d)
 

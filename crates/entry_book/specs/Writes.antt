@@ -7,38 +7,38 @@ use Rattle.entry_book.specs.Order.{with_row}
 use Rattle.entry_book.specs.Book.{Book}
 
 -- One row's change: the row at a key as it was found, and as it is put. Either may be absent.
-pub record Change (X : Type 0) : Type 0 where
+pub record RowChange (X : Type 0) : Type 0 where
   pub key : Bytes
   pub old : Option X
   pub new : Option X
 
-pub data Write : Type 0 where
-  wrote_entry : Change Entry → Write
-  wrote_agent : Change Agent → Write
-  wrote_bundle : Change Bundle → Write
+pub data RowWrite : Type 0 where
+  wrote_entry : RowChange Entry → RowWrite
+  wrote_agent : RowChange Agent → RowWrite
+  wrote_bundle : RowChange Bundle → RowWrite
 
-abbrev pub after_write : Write → Book → Book
+abbrev pub after_write : RowWrite → Book → Book
 after_write (wrote_entry c) b = record b { entries = with_row entry_key c.key c.new b.entries }
 after_write (wrote_agent c) b = record b { agents = with_row agent_key c.key c.new b.agents }
 after_write (wrote_bundle c) b = record b { bundles = with_row bundle_key c.key c.new b.bundles }
 
 -- the book after these writes, one after another
-abbrev pub after : List Write → Book → Book
+abbrev pub after : List RowWrite → Book → Book
 after [] b = b
 after (w ∷ ws) b = after ws (after_write w b)
 
 -- ---- a write finds the row that it names, or no row where it names none, and what it puts has its key
 
-pub record FitsRows {X : Type 0} (row_key : X → Bytes) (c : Change X) (rows : List X) : Type 0 where
+pub record FitsRows {X : Type 0} (row_key : X → Bytes) (c : RowChange X) (rows : List X) : Type 0 where
   pub found : filter (λ x. bytes_eq (row_key x) c.key) rows ≡ option_to_list c.old
   pub keyed : IfSome c.new (λ x. row_key x ≡ c.key)
 
-abbrev pub FitsBook : Write → Book → Type 0
+abbrev pub FitsBook : RowWrite → Book → Type 0
 FitsBook (wrote_entry c) b = FitsRows entry_key c b.entries
 FitsBook (wrote_agent c) b = FitsRows agent_key c b.agents
 FitsBook (wrote_bundle c) b = FitsRows bundle_key c b.bundles
 
 -- each on the book that the earlier ones left
-abbrev pub FitAll : List Write → Book → Type 0
+abbrev pub FitAll : List RowWrite → Book → Type 0
 FitAll [] b = ⊤
 FitAll (w ∷ ws) b = FitsBook w b × FitAll ws (after_write w b)

@@ -9,7 +9,7 @@ use Rattle.plain_book.specs.declared.run.BatchRun.TheVariants.{Accepted, Refused
 use Rattle.entry_book.specs.Rows.{Bytes}
 use Rattle.entry_book.specs.Book.{Book}
 use Rattle.entry_book.specs.Writes.{after}
-use Rattle.entry_book.specs.Ops.{Answer, Done, op_of}
+use Rattle.entry_book.specs.Ops.{OpResult, OpEffect, op_of}
 use Rattle.entry_book.specs.Batches.{IsMadeFor, IsProperOp, op_fault}
 use Rattle.entry_book.specs.Lawful.{Lawful}
 use Rattle.entry_book.specs.Runs.{RunResult, onto, then_run, run}
@@ -31,7 +31,7 @@ same_answer a b = a ≡ b
 ok_is : {X E : Type 0} (x y : X) → same_answer {X = X} {E = E} (Ok x) (Ok y) → x ≡ y
 ok_is x y e = cc
 
-accepted_is : (own : Bytes) (m : ℕ) (o : Answer) (reply : OpReply) (b c : Book) → IfOk o (λ d. Lawful own m (after d.writes b)) → Ok (reply, c) ≡ performed o b → Lawful own m c
+accepted_is : (own : Bytes) (m : ℕ) (o : OpResult) (reply : OpReply) (b c : Book) → IfOk o (λ d. Lawful own m (after d.writes b)) → Ok (reply, c) ≡ performed o b → Lawful own m c
 accepted_is own m (Ok d) reply b c h e = let q = ok_is (reply, c) (d.reply, after d.writes b) e in subst (Lawful own m) (sym (ap (λ t. t.1) q)) h
 accepted_is own m (Err r) reply b c h e = cc
 
@@ -46,11 +46,11 @@ keeps_at own ops m n op reply b c made l k e h =
 -- ---- what the run comes to
 
 -- an accepted operation more
-onto_more : (n : ℕ) (replies : List OpReply) (b : Book) (d : Done) (r : RunResult) → resumed n replies b (onto d r) ≡ resumed (n + 1) (replies ++ d.reply ∷ []) (after d.writes b) r
+onto_more : (n : ℕ) (replies : List OpReply) (b : Book) (d : OpEffect) (r : RunResult) → resumed n replies b (onto d r) ≡ resumed (n + 1) (replies ++ d.reply ∷ []) (after d.writes b) r
 onto_more n replies b d (Ok t) = ap (λ l. Accepted l (after (d.writes ++ t.writes) b)) (sym (append_assoc replies (d.reply ∷ []) t.replies)) ∙ ap (Accepted ((replies ++ d.reply ∷ []) ++ t.replies)) (after-append d.writes t.writes b)
 onto_more n replies b d (Err s) = let q : n + (s.op + 1) ≡ n + 1 + s.op = omega arith in ap (λ m. RefusedAt m s.reason) q
 
-then_more : (n : ℕ) (replies : List OpReply) (b c : Book) (o : Answer) (f : Done → RunResult) (reply : OpReply) (g : Book → RunResult) → ((d : Done) → f d ≡ g (after d.writes b)) → Ok (reply, c) ≡ performed o b → resumed n replies b (then_run o f) ≡ resumed (n + 1) (replies ++ reply ∷ []) c (g c)
+then_more : (n : ℕ) (replies : List OpReply) (b c : Book) (o : OpResult) (f : OpEffect → RunResult) (reply : OpReply) (g : Book → RunResult) → ((d : OpEffect) → f d ≡ g (after d.writes b)) → Ok (reply, c) ≡ performed o b → resumed n replies b (then_run o f) ≡ resumed (n + 1) (replies ++ reply ∷ []) c (g c)
 then_more n replies b c (Ok d) f reply g h e =
     let q = ok_is (reply, c) (d.reply, after d.writes b) e in
     let r : d.reply ≡ reply = sym (ap (λ t. t.0) q) in
@@ -65,7 +65,7 @@ goes_on domain ops n op replies reply b c l e h =
     ∙ then_more n replies b c (op_of domain op b) (λ d. run domain (drop (n + 1) ops) (after d.writes b)) reply (λ x. run domain (drop (n + 1) ops) x) (λ d. refl) h)
 
 -- a refused operation
-then_stop : (n : ℕ) (replies : List OpReply) (b : Book) (o : Answer) (f : Done → RunResult) (r : OpRefusal) → Err r ≡ performed o b → resumed n replies b (then_run o f) ≡ RefusedAt n r
+then_stop : (n : ℕ) (replies : List OpReply) (b : Book) (o : OpResult) (f : OpEffect → RunResult) (r : OpRefusal) → Err r ≡ performed o b → resumed n replies b (then_run o f) ≡ RefusedAt n r
 then_stop n replies b (Ok d) f r e = cc
 then_stop n replies b (Err s) f r e = let q : n + 0 ≡ n = omega arith in let k : s ≡ r = cc in ap (λ m. RefusedAt m s) q ∙ ap (RefusedAt n) k
 

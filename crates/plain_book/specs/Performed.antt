@@ -9,10 +9,10 @@ use Rattle.entry_book.specs.Rows.{Entry}
 use Rattle.entry_book.specs.Order.{Within}
 use Rattle.entry_book.specs.Book.{Book}
 use Rattle.entry_book.specs.Writes.{after}
-use Rattle.entry_book.specs.Ops.{Answer}
+use Rattle.entry_book.specs.Ops.{OpResult}
 use Rattle.entry_book.specs.Runs.{RunResult}
 
-abbrev pub performed : Answer → Book → Result (OpReply × Book) OpRefusal
+abbrev pub performed : OpResult → Book → Result (OpReply × Book) OpRefusal
 performed (Ok d) b = Ok (d.reply, after d.writes b)
 performed (Err r) b = Err r
 

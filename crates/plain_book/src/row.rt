@@ -9,7 +9,7 @@ use entry_book::{Agent, Bundle, Entry};
 use std::alloc::{AllocError, Global};
 
 /// A row of a book: it has a key, by whose bytes rows are ordered.
-pub(crate) trait Row: Drop {
+pub(crate) trait BookRow: Drop {
     ghost key: { Self → List ℕ };
 
     /// Does this row's key stand before the other's?
@@ -22,7 +22,7 @@ pub(crate) trait Row: Drop {
 }
 
 #[tactic(auto, unfolding(entry_book::specs::Order::is_before))]
-impl Row for Entry {
+impl BookRow for Entry {
     ghost key = { λ entry. entry.id };
 
     fn is_before(&self, other: &Self) -> bool {
@@ -35,7 +35,7 @@ impl Row for Entry {
 }
 
 #[tactic(auto, unfolding(entry_book::specs::Order::is_before))]
-impl Row for Agent {
+impl BookRow for Agent {
     ghost key = { λ agent. agent.id };
 
     fn is_before(&self, other: &Self) -> bool {
@@ -48,7 +48,7 @@ impl Row for Agent {
 }
 
 #[tactic(auto, unfolding(entry_book::specs::Order::is_before))]
-impl Row for Bundle {
+impl BookRow for Bundle {
     ghost key = { λ bundle. bundle.domain };
 
     fn is_before(&self, other: &Self) -> bool {
@@ -61,7 +61,7 @@ impl Row for Bundle {
 }
 
 /// Copies the rows that stand before this one.
-fn push_before<T: Row>(rows: &[T], row: &T, out: &mut Vec<T>) -> Result<(), AllocError>
+fn push_before<T: BookRow>(rows: &[T], row: &T, out: &mut Vec<T>) -> Result<(), AllocError>
     ensures { OnOk result (out.new.items ≡ out.old.items
         ++ filter (λ other. is_before (T.key other) (T.key row.now)) rows.now) }
 {
@@ -74,7 +74,7 @@ fn push_before<T: Row>(rows: &[T], row: &T, out: &mut Vec<T>) -> Result<(), Allo
 }
 
 /// Copies the rows that stand behind this one.
-fn push_behind<T: Row>(rows: &[T], row: &T, out: &mut Vec<T>) -> Result<(), AllocError>
+fn push_behind<T: BookRow>(rows: &[T], row: &T, out: &mut Vec<T>) -> Result<(), AllocError>
     ensures { OnOk result (out.new.items ≡ out.old.items
         ++ filter (λ other. is_before (T.key row.now) (T.key other)) rows.now) }
 {
@@ -87,7 +87,7 @@ fn push_behind<T: Row>(rows: &[T], row: &T, out: &mut Vec<T>) -> Result<(), Allo
 }
 
 /// The rows with this one in the place of the one of its key. The error is want of memory.
-pub(crate) fn with_row<T: Row>(alloc: Global, rows: &[T], row: T) -> Result<Vec<T>, AllocError>
+pub(crate) fn with_row<T: BookRow>(alloc: Global, rows: &[T], row: T) -> Result<Vec<T>, AllocError>
     ensures { IfOk result (λ new. new.items ≡ with_row T.key (T.key row) (Some row) rows.now) }
 {
     let mut out = Vec::new(alloc);
@@ -100,7 +100,11 @@ pub(crate) fn with_row<T: Row>(alloc: Global, rows: &[T], row: T) -> Result<Vec<
 
 /// The rows without the one of this row's key. The error is want of memory.
 #[tactic(auto, unfolding(entry_book::specs::Order::with_row))]
-pub(crate) fn without_row<T: Row>(alloc: Global, rows: &[T], row: &T) -> Result<Vec<T>, AllocError>
+pub(crate) fn without_row<T: BookRow>(
+    alloc: Global,
+    rows: &[T],
+    row: &T,
+) -> Result<Vec<T>, AllocError>
     ensures { IfOk result (λ new. new.items ≡ with_row T.key (T.key row.now) None rows.now) }
 {
     let mut out = Vec::new(alloc);

@@ -8,7 +8,7 @@ use Rattle.entry_book.specs.declared.op.Op.{Op}
 use Rattle.serde_json.specs.Data.{Data, Items, Members}
 use Rattle.serde_json.specs.Find.{as_object}
 use Rattle.reg_lines.specs.declared.fault.Fault.{Fault}
-use Rattle.reg_lines.specs.declared.request.Request.{Request}
+use Rattle.reg_lines.specs.declared.reading.request.Request.{Request}
 use Rattle.reg_lines.specs.declared.fault.Key.TheVariants as key
 use Rattle.reg_lines.specs.Batches.{unless_refused, batch_of, items_at, batch_in}
 use Rattle.reg_lines.specs.Fields.{◌>>=◌, tries_at, no_others}

@@ -10,7 +10,7 @@ use Rattle.rand_chacha.specs.ChaCha.{ChaCha}
 use Rattle.serde_json.specs.Find.{as_object}
 use Rattle.reg_lines.specs.declared.fault.Code.TheVariants as code
 use Rattle.reg_lines.specs.declared.fault.Fault.{Fault}
-use Rattle.reg_lines.specs.declared.request.Request.{Request}
+use Rattle.reg_lines.specs.declared.reading.request.Request.{Request}
 use Rattle.reg_lines.specs.Fields.{◌>>=◌, at_line}
 use Rattle.reg_lines.specs.Kept.{KeptSpells}
 use Rattle.reg_lines.specs.Lines.{has_lf, kept, kept_bytes, IsLine}

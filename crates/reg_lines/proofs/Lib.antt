@@ -3,7 +3,7 @@ pub mod Draws
 pub mod SeedIds
 pub mod LinesLemmas
 pub mod FirstLf
-pub mod HeldLemmas
+pub mod ReadBufferLemmas
 pub mod InputLemmas
 pub mod Puts
 pub mod Escapes

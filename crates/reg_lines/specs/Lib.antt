@@ -1,4 +1,4 @@
-pub mod Counted
+pub mod CountedDevice
 pub mod Lines
 pub mod Stream
 pub mod Json

@@ -4,7 +4,7 @@ use Rattle.spiffe_name.specs.declared.refusals.Failure.{Failure}
 use Rattle.spiffe_name.specs.declared.refusals.Failure.TheVariants.{NoMemory, Refused}
 use Rattle.reg_lines.specs.declared.fault.Fault.{Fault}
 use Rattle.reg_lines.specs.declared.fault.Field.{Field}
-use Rattle.reg_lines.specs.declared.refusal.LineRefusal.{LineRefusal}
+use Rattle.reg_lines.specs.declared.printing.refusal.LineRefusal.{LineRefusal}
 use Rattle.reg_lines.specs.Codes.{code_text, field_text}
 use Rattle.reg_lines.specs.Json.{text_json}
 

@@ -9,7 +9,7 @@ use Rattle.rand_chacha.specs.ChaCha.{ChaCha}
 use Rattle.reg_lines.specs.declared.fault.Code.TheVariants as code
 use Rattle.reg_lines.specs.declared.fault.Fault.{Fault}
 use Rattle.reg_lines.specs.declared.fault.Key.TheVariants as key
-use Rattle.reg_lines.specs.declared.request.Request.{Request}
+use Rattle.reg_lines.specs.declared.reading.request.Request.{Request}
 use Rattle.reg_lines.specs.Batches.{items_at, batch_in}
 use Rattle.reg_lines.specs.Fields.{◌>>=◌, at_line, tries_at, no_others}
 

@@ -21,7 +21,7 @@ use Rattle.entry_book.specs.declared.reply.Refusal.TheVariants.{Full, OfOp}
 use Rattle.entry_book.specs.declared.reply.Reply.{Reply}
 use Rattle.reg_lines.specs.declared.fault.Fault.{Fault}
 use Rattle.reg_lines.specs.declared.fault.Field.{Field}
-use Rattle.reg_lines.specs.declared.refusal.LineRefusal.{LineRefusal}
+use Rattle.reg_lines.specs.declared.printing.refusal.LineRefusal.{LineRefusal}
 use Rattle.reg_lines.specs.Codes.{code_text, field_text}
 use Rattle.reg_lines.specs.Refusals.{refusal_json}
 use Rattle.reg_lines.specs.Replies.{reply_json, uuid_text}

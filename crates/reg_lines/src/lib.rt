@@ -1,7 +1,7 @@
 //! Which lines do bytes hold, and which bytes print a value?
 //!
 //! Bytes come in from a [`Source`] and go out to a [`Sink`]: two traits whose ghost members say
-//! which bytes are left or written, where that is known, and how many calls have failed. [`Counted`]
+//! which bytes are left or written, where that is known, and how many calls have failed. [`CountedDevice`]
 //! makes either of a reader or a writer of std.
 //!
 //! - [`Input`] reads a source line by line into a [`Line`], whose memory is taken once. It tells
@@ -20,49 +20,24 @@
 //!
 //! [`lines_law`] says what the lines of bytes are, and [`kept_law`] that what is kept of a line is enough; [`KEPT_BYTES`]
 //! and [`most_lines`] are the limits.
+//!
+//! - `devices`: bytes in and out, and the lines that they are.
+//! - `reading`: which request a line spells; `fault`: what can be wrong with it.
+//! - `printing`: which bytes print a value.
 #![tactic(auto)]
 
-mod batch;
-mod book_rows;
-mod counted;
+mod devices;
 mod fault;
-mod fields;
-mod held;
-mod ids;
-mod input;
-mod limits;
-mod line;
-mod lines;
-mod names;
-mod ops;
-mod output;
 mod printing;
-mod refusal;
-mod replies;
-mod request;
-mod sink;
-mod source;
-mod text;
-mod tries;
-mod values;
-mod waiting;
+mod reading;
 
-pub use counted::Counted;
+pub use devices::{
+    CountedDevice, Input, KEPT_BYTES, Line, Output, Sink, SinkFailed, Source, SourceFailed,
+    flush_before_waiting, kept_law, lines_law, most_lines,
+};
 pub use fault::{Code, Fault, Field, Key};
-pub use fields::unknown_keys_law;
-pub use ids::{Ids, ids_law};
-pub use input::Input;
-pub use limits::{KEPT_BYTES, most_lines};
-pub use line::Line;
-pub use lines::{kept_law, lines_law};
-pub use output::Output;
-pub use printing::{PrintJson, print_line, print_list, print_number};
-pub use refusal::LineRefusal;
-pub use replies::CallReply;
-pub use request::{Request, read_request};
-pub use sink::{Sink, SinkFailed};
-pub use source::{Source, SourceFailed};
-pub use text::print_text;
-pub use tries::Tries;
-pub use values::printed_law;
-pub use waiting::flush_before_waiting;
+pub use printing::{
+    CallReply, LineRefusal, PrintJson, print_line, print_list, print_number, print_text,
+    printed_law,
+};
+pub use reading::{Ids, Request, Tries, ids_law, read_request, unknown_keys_law};

@@ -4,7 +4,7 @@ ghost use Rattle.std.specs.Prelude.{◌≡◌};
 
 use plain_book::PlainBook;
 use reg_lines::{
-    CallReply, Counted, Ids, LineRefusal, Output, PrintJson, print_line, read_request,
+    CallReply, CountedDevice, Ids, LineRefusal, Output, PrintJson, print_line, read_request,
 };
 use serde_json::Value;
 use spiffe_name::{Failure, TrustDomain};
@@ -16,7 +16,7 @@ use std::test::Fail;
 /// value that it reads there.
 pub(crate) fn printed<T: PrintJson>(alloc: Global, value: &T) -> Result<String, Fail> {
     let mut bytes = Vec::new(alloc);
-    let mut output = Output::new(Counted::new(&mut bytes));
+    let mut output = Output::new(CountedDevice::new(&mut bytes));
     print_line(value, &mut output);
     output.flush();
     if output.has_failed() {

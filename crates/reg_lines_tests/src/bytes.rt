@@ -3,7 +3,7 @@
 ghost use Rattle.std.specs.Prelude.{◌<◌, ◌^◌};
 
 use crate::engine::{Ended, number_lines, number_text};
-use reg_lines::{Counted, Input, KEPT_BYTES, Line, Output};
+use reg_lines::{CountedDevice, Input, KEPT_BYTES, Line, Output};
 use std::alloc::{AllocError, Global};
 use std::test::Fail;
 use test_devices::{Giver, Pace, Taker, Trouble};
@@ -20,8 +20,8 @@ fn run(
     most: u32,
 ) -> Result<Result<(), Ended>, AllocError> {
     let mut line = Line::new(alloc)?;
-    let mut input = Input::new(Counted::new(giver));
-    let mut output = Output::new(Counted::new(taker));
+    let mut input = Input::new(CountedDevice::new(giver));
+    let mut output = Output::new(CountedDevice::new(taker));
     Ok(number_lines(&mut input, &mut output, &mut line, u64::from(most)))
 }
 
@@ -61,8 +61,8 @@ fn a_writer_that_takes_nothing_has_failed(rt: HostRuntime) -> Result<(), Fail> {
     let mut full = [0u8; 5];
     let mut giver = Giver::new(TEXT, Pace::All, Trouble::NONE);
     let mut line = Line::new(rt.alloc())?;
-    let mut input = Input::new(Counted::new(&mut giver));
-    let mut output = Output::new(Counted::new(full.as_mut_slice()));
+    let mut input = Input::new(CountedDevice::new(&mut giver));
+    let mut output = Output::new(CountedDevice::new(full.as_mut_slice()));
     let ended = number_lines(&mut input, &mut output, &mut line, 100);
     assert_eq!(rt; ended, Err(Ended::Output));
     drop(output);
@@ -77,7 +77,7 @@ fn long_line(alloc: Global, len: usize) -> Result<(usize, bool), Fail>
     let mut text = vec![in alloc; b'x'; len]?;
     text.extend_from_slice(b"\nnext")?;
     let mut line = Line::new(alloc)?;
-    let mut input = Input::new(Counted::new(text.as_slice()));
+    let mut input = Input::new(CountedDevice::new(text.as_slice()));
     input.read_line(&mut line).ok().ok_or("a failed read")?;
     let kept = line.as_bytes().len();
     input.read_line(&mut line).ok().ok_or("a failed read")?;
@@ -105,7 +105,7 @@ fn bytes_come_out_in_order_past_the_edge_of_the_buffer(rt: HostRuntime) -> Resul
     }
     for len in [1, 7, 4_000, 8_191, 8_192, 8_193, 20_000] {
         let mut taker = Taker::new(rt.alloc(), Pace::All, Trouble::NONE);
-        let mut output = Output::new(Counted::new(&mut taker));
+        let mut output = Output::new(CountedDevice::new(&mut taker));
         for piece in bytes.chunks(len) {
             output.put(piece);
         }

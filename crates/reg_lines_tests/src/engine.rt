@@ -5,7 +5,9 @@ ghost use Rattle.reg_lines.specs.Runs.{AppendsRun, AppendsRunFront, TakesLines, 
 ghost use Rattle.reg_lines_tests.specs.Numbered.{numbered};
 ghost use Rattle.reg_lines.specs.Stream.{IsOut, Puts};
 
-use reg_lines::{Counted, Input, Line, Output, Sink, Source, flush_before_waiting, print_number};
+use reg_lines::{
+    CountedDevice, Input, Line, Output, Sink, Source, flush_before_waiting, print_number,
+};
 use std::alloc::Global;
 
 /// Why the engine ended early.
@@ -80,8 +82,8 @@ pub(crate) fn number_text(
     requires { most < 2 ^ 63 }
     ensures { IfOk result (λ v. AppendsRun numbered 0 (first_lines most text.now) (Some []) (Some v.items)) }
 {
-    let mut input = Input::new(Counted::new(text));
-    let mut output = Output::new(Counted::new(Vec::new(alloc)));
+    let mut input = Input::new(CountedDevice::new(text));
+    let mut output = Output::new(CountedDevice::new(Vec::new(alloc)));
     number_lines(&mut input, &mut output, line, most)?;
     Ok(output.into_sink().into_inner())
 }

@@ -8,8 +8,8 @@ use Rattle.reg_lines.specs.Stream.{InputState, IsOut, OutputState, Puts}
 use Rattle.reg_lines.proofs.Puts.{Puts-then, Puts-same}
 use Rattle.reg_lines.proofs.RunLemmas.{RunsFrom, RunsFrom-start, RunsFrom-flush, RunsFrom-more, IsRun-on, IsRun-append, AppendsRun-so_far, all_put, front_put, front_longer, lines_done, lines_end, lines_more}
 use Rattle.regd.specs.Driver.{AnswersKept, AppendsClosed, AppendsClosedFront, Closes, RunsOver, Steps}
-use Rattle.regd.specs.declared.faults.Fault.{Fault}
-use Rattle.regd.specs.declared.faults.Fault.TheVariants as fault
+use Rattle.regd.specs.declared.faults.RunFault.{RunFault}
+use Rattle.regd.specs.declared.faults.RunFault.TheVariants as fault
 
 -- a run that goes on answers the line
 step_on : {State : Type 0} (ends : State → Bool) (answers : State → List ℕ → State → List ℕ → Type 0) (now next : State) (line reply : List ℕ) → ends now ≡ false → answers now line next reply → Steps ends answers now line next reply
@@ -143,7 +143,7 @@ output_memory e = cc
 
 -- the ends of a run
 
-pub RunsOver-no_memory : {State : Type 0} (step : State → List ℕ → State → List ℕ → Type 0) (closes : State → List ℕ → Type 0) {V : Type 0} (result : Result V Fault) → ((s : State) (l : List ℕ) → (next : State) × (reply : List ℕ) × step s l next reply) → ((s : State) → (end : List ℕ) × closes s end) → (first : State) (input : InputState) (output : OutputState) → output.failures ≡ 0 → output.held ≡ [] → result ≡ Err fault.NoMemory → RunsOver step closes first input input output output result
+pub RunsOver-no_memory : {State : Type 0} (step : State → List ℕ → State → List ℕ → Type 0) (closes : State → List ℕ → Type 0) {V : Type 0} (result : Result V RunFault) → ((s : State) (l : List ℕ) → (next : State) × (reply : List ℕ) × step s l next reply) → ((s : State) → (end : List ℕ) × closes s end) → (first : State) (input : InputState) (output : OutputState) → output.failures ≡ 0 → output.held ≡ [] → result ≡ Err fault.NoMemory → RunsOver step closes first input input output output result
 RunsOver-no_memory step closes (Ok x) some some_end first input output f h e = absurd (cc)
 RunsOver-no_memory step closes (Err e) some some_end first input output f h is =
     let is_memory : e ≡ fault.NoMemory = cc in
@@ -181,7 +181,7 @@ RunsOver-input step closes some some_end first input rest left output out count 
       front = AppendsClosedFront-of step closes some some_end first input.left left output out count most_lines last f h l w;
     }
 
-pub RunsOver-finished : {State : Type 0} (step : State → List ℕ → State → List ℕ → Type 0) (closes : State → List ℕ → Type 0) (stands : State → Type 0) {V : Type 0} (result : Result V Fault) (first : State) (input rest : InputState) (output mid out : OutputState) → output.failures ≡ 0 → output.held ≡ [] → rest.failures ≡ 0 → IsThrough step stands first input.left output mid → ((now : State) → stands now → Closes closes now mid out) → OnOk result ((out.failures ≡ 0) × IsOut out) → IfErr result (λ e. (e ≡ fault.Output) × (0 < out.failures)) → RunsOver step closes first input rest output out result
+pub RunsOver-finished : {State : Type 0} (step : State → List ℕ → State → List ℕ → Type 0) (closes : State → List ℕ → Type 0) (stands : State → Type 0) {V : Type 0} (result : Result V RunFault) (first : State) (input rest : InputState) (output mid out : OutputState) → output.failures ≡ 0 → output.held ≡ [] → rest.failures ≡ 0 → IsThrough step stands first input.left output mid → ((now : State) → stands now → Closes closes now mid out) → OnOk result ((out.failures ≡ 0) × IsOut out) → IfErr result (λ e. (e ≡ fault.Output) × (0 < out.failures)) → RunsOver step closes first input rest output out result
 RunsOver-finished step closes stands (Ok x) first input rest output mid out f h r w k ok err =
     record {
       text = closed_text step closes first w.state input.left output mid out most_lines f h ok.0 ok.1.0 w.put (k w.state w.stood);

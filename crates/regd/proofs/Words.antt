@@ -22,7 +22,7 @@ use Rattle.spiffe_name.specs.declared.Failure.{Failure}
 use Rattle.spiffe_name.specs.declared.Failure.TheVariants.{NoMemory, Refused}
 use Rattle.spiffe_name.specs.declared.IdRefusal.{IdRefusal}
 use Rattle.regd.specs.CommandLine.{IsFaultOf, TellsNoSeed, domain_word, line_faults, option_in, regd_command, seed_text}
-use Rattle.regd.specs.declared.faults.LineFault.TheVariants.{Seed}
+use Rattle.regd.specs.declared.faults.CommandLineFault.TheVariants.{Seed}
 use Rattle.regd.specs.Conversions.{fault_of_domain, fault_of_kind, fault_of_refusal}
 
 -- the parser's account holds of the program

@@ -9,9 +9,9 @@ use Rattle.reg_lines.specs.Refusals.{fault_json, no_memory_json}
 use Rattle.reg_lines.specs.Replies.{reply_json}
 use Rattle.reg_lines.specs.Requests.{spelled}
 use Rattle.reg_lines.specs.Stream.{InputState, OutputState, Puts}
-use Rattle.reg_lines.specs.declared.request.Request.{Request}
+use Rattle.reg_lines.specs.declared.reading.request.Request.{Request}
 use Rattle.regd.specs.Driver.{RunsOver}
-use Rattle.regd.specs.declared.faults.Fault.{Fault as RunFault}
+use Rattle.regd.specs.declared.faults.RunFault.{RunFault}
 use Rattle.reg_lines.specs.declared.fault.Fault.{Fault}
 
 -- What a run has come to: the list of all books, the ids that are still to be given, and how many calls were run and

@@ -5,8 +5,8 @@ use Rattle.clap.specs.Words.{App, IsAmong, Kinds, Row, Rule, Text, fault_of, fir
 use Rattle.clap.specs.Simple.{on_top}
 use Rattle.hex.specs.Hex.{IsBytes, encode_lower}
 use Rattle.spiffe_name.specs.Domain.{domain_refusal}
-use Rattle.regd.specs.declared.faults.LineFault.{LineFault}
-use Rattle.regd.specs.declared.faults.LineFault.TheVariants.{Refused, Domain, Seed, NotText, NoMemory}
+use Rattle.regd.specs.declared.faults.CommandLineFault.{CommandLineFault}
+use Rattle.regd.specs.declared.faults.CommandLineFault.TheVariants.{Refused, Domain, Seed, NotText, NoMemory}
 
 -- ---- the program, as it is told to the parser
 
@@ -73,7 +73,7 @@ TellsNoSeed text = (seed : List ℕ) → length seed ≡ 32 → IsBytes seed →
 
 -- the words have this fault: the parser refuses them; or it takes them, and the domain that they give (the empty text,
 -- where they give none) is no trust domain; or it is one, and the text that tells the seed tells none
-abbrev pub IsFaultOf : List Text → LineFault → Type 0
+abbrev pub IsFaultOf : List Text → CommandLineFault → Type 0
 IsFaultOf words (Refused error) = IsAmong (kind_of error) (line_faults words)
 IsFaultOf words (Domain refusal) =
     (line_faults words ≡ []) × (domain_refusal (unwrap_or (domain_word words) []) ≡ Some refusal)

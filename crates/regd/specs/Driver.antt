@@ -4,8 +4,8 @@ use Rattle.std.specs.Io.KnownBytes.{Appends}
 use Rattle.reg_lines.specs.Lines.{most_lines}
 use Rattle.reg_lines.specs.Runs.{IsRun, AppendsRun, StepsKept, TakesLines, first_lines}
 use Rattle.reg_lines.specs.Stream.{AppendsFront, InputState, IsOut, OutputState, Puts}
-use Rattle.regd.specs.declared.faults.Fault.{Fault}
-use Rattle.regd.specs.declared.faults.Fault.TheVariants as fault
+use Rattle.regd.specs.declared.faults.RunFault.{RunFault}
+use Rattle.regd.specs.declared.faults.RunFault.TheVariants as fault
 
 -- One line of a run that may end before its lines do: a run that has ended leaves the lines that follow without a reply.
 abbrev pub Steps : {State : Type 0} → (State → Bool) → (State → List ℕ → State → List ℕ → Type 0) → State → List ℕ → State → List ℕ → Type 0
@@ -34,7 +34,7 @@ AppendsClosedFront step closes first lines old new = (text : List ℕ) × IsClos
 
 -- What a run over an input and an output has done. The input was as the first of the two input states says and is as the
 -- second says, and so for the output.
-pub record RunsOver {State : Type 0} {T : Type 0} (step : State → List ℕ → State → List ℕ → Type 0) (closes : State → List ℕ → Type 0) (first : State) (input rest : InputState) (output out : OutputState) (result : Result T Fault) : Type 0 where
+pub record RunsOver {State : Type 0} {T : Type 0} (step : State → List ℕ → State → List ℕ → Type 0) (closes : State → List ℕ → Type 0) (first : State) (input rest : InputState) (output out : OutputState) (result : Result T RunFault) : Type 0 where
   -- each line got its reply, in order, and the last text came behind them
   pub text : OnOk result (IfSome input.left (λ bytes. AppendsClosed step closes first (first_lines most_lines bytes) output.written out.written))
   -- then no device has failed, and all is out

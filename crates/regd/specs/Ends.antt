@@ -3,10 +3,10 @@ use Rattle.std.specs.Prelude.{codes, ℕ, ◌++◌, List, [], ◌∷◌, Option,
 use Rattle.clap.specs.declared.error.Error.{Error}
 use Rattle.spiffe_name.specs.Codes.{id_code}
 use Rattle.regd.specs.declared.ended.Ended.{Ended}
-use Rattle.regd.specs.declared.faults.Fault.{Fault}
-use Rattle.regd.specs.declared.faults.Fault.TheVariants as run
-use Rattle.regd.specs.declared.faults.LineFault.{LineFault}
-use Rattle.regd.specs.declared.faults.LineFault.TheVariants as line
+use Rattle.regd.specs.declared.faults.RunFault.{RunFault}
+use Rattle.regd.specs.declared.faults.RunFault.TheVariants as run
+use Rattle.regd.specs.declared.faults.CommandLineFault.{CommandLineFault}
+use Rattle.regd.specs.declared.faults.CommandLineFault.TheVariants as line
 use Rattle.regd.specs.declared.told.Told.{Told}
 use Rattle.regd.specs.declared.told.Told.TheVariants as told
 
@@ -29,14 +29,14 @@ abbrev pub with : ℕ → Told Error → Ended
 with status told = record { status = status; told = told }
 
 -- the end of a run that had its settings
-abbrev pub ended_by_run : Result Unit Fault → Ended
+abbrev pub ended_by_run : Result Unit RunFault → Ended
 ended_by_run (Ok _) = with 0 told.Nothing
 ended_by_run (Err run.Input) = with 1 told.Input
 ended_by_run (Err run.Output) = with 1 told.Output
 ended_by_run (Err run.NoMemory) = with 1 told.NoMemory
 
 -- the end for a command line that is none
-abbrev pub ended_by_line : LineFault → Ended
+abbrev pub ended_by_line : CommandLineFault → Ended
 ended_by_line (line.Refused error) = with 2 (told.Parser error)
 ended_by_line (line.Domain refusal) = with 2 (told.Domain refusal)
 ended_by_line line.Seed = with 2 told.Seed
@@ -44,6 +44,6 @@ ended_by_line line.NotText = with 2 told.NotText
 ended_by_line line.NoMemory = with 1 told.NoMemory
 
 -- the end, by what the command line and then the run answered
-abbrev pub ended_of : Result (Result Unit Fault) LineFault → Ended
+abbrev pub ended_of : Result (Result Unit RunFault) CommandLineFault → Ended
 ended_of (Ok answered) = ended_by_run answered
 ended_of (Err fault) = ended_by_line fault

@@ -5,24 +5,24 @@ use Rattle.clap.specs.declared.error.ErrorKind.TheVariants.{DisplayHelp, Missing
 use Rattle.regd.specs.CommandLine.{domain_word, first_seed, line_faults, seed_text}
 
 -- the parser takes the words, and they give this domain
-pub record Gives (words : List Text) (domain : Text) : Type 0 where
+pub record GivesDomain (words : List Text) (domain : Text) : Type 0 where
   pub taken : line_faults words ≡ []
   pub given : domain_word words ≡ Some domain
 
 -- `regd plain --domain=D` gives D
 abbrev pub JoinedDomain : Type 0
 JoinedDomain = (name domain : Text)
-    → Gives (name ∷ codes "plain" ∷ (codes "--domain=" ++ domain) ∷ []) domain
+    → GivesDomain (name ∷ codes "plain" ∷ (codes "--domain=" ++ domain) ∷ []) domain
 
 -- `regd plain --domain D` gives D, where D begins with no hyphen (45)
 abbrev pub DomainApart : Type 0
 DomainApart = (name rest : Text) (first : ℕ) → first ≢ 45
-    → Gives (name ∷ codes "plain" ∷ codes "--domain" ∷ (first ∷ rest) ∷ []) (first ∷ rest)
+    → GivesDomain (name ∷ codes "plain" ∷ codes "--domain" ∷ (first ∷ rest) ∷ []) (first ∷ rest)
 
 -- `regd plain --domain=D --seed=S` gives D, and the seed that S tells
 abbrev pub JoinedSeed : Type 0
 JoinedSeed = (name domain seed : Text)
-    → Gives (name ∷ codes "plain" ∷ (codes "--domain=" ++ domain) ∷ (codes "--seed=" ++ seed) ∷ []) domain
+    → GivesDomain (name ∷ codes "plain" ∷ (codes "--domain=" ++ domain) ∷ (codes "--seed=" ++ seed) ∷ []) domain
     × (seed_text (name ∷ codes "plain" ∷ (codes "--domain=" ++ domain) ∷ (codes "--seed=" ++ seed) ∷ []) ≡ seed)
 
 -- where no seed is given, 64 zeros tell it

@@ -4,7 +4,7 @@ ghost use Rattle.std.specs.Prelude.{◌≡◌, ◌+◌, ◌<◌, ◌^◌, ℕ, B
 ghost use Rattle.reg_lines.specs.Stream.{IsOut, Puts};
 ghost use Rattle.regd.specs.Driver.{AnswersKept, Closes, RunsOver, Steps};
 
-use crate::faults::Fault;
+use crate::faults::RunFault;
 use reg_lines::{Input, Line, Output, Sink, Source, flush_before_waiting, most_lines};
 use std::alloc::Global;
 
@@ -60,7 +60,7 @@ pub fn run_lines<A: Answerer, S: Source, K: Sink>(
     answerer: &mut A,
     input: &mut Input<S>,
     output: &mut Output<K>,
-) -> Result<(), Fault>
+) -> Result<(), RunFault>
     requires fresh { A.lines answerer.old ≡ 0 }
     requires input { input.old.failures ≡ 0 }
     requires output { output.old.failures ≡ 0 }
@@ -72,10 +72,10 @@ pub fn run_lines<A: Answerer, S: Source, K: Sink>(
     for count in 0..most_lines() {
         flush_before_waiting(input, output);
         if output.has_failed() {
-            return Err(Fault::Output);
+            return Err(RunFault::Output);
         }
         match input.read_line(&mut line) {
-            Err(_) => return Err(Fault::Input),
+            Err(_) => return Err(RunFault::Input),
             Ok(false) => return finish(alloc, answerer, output),
             Ok(true) => {
                 if !answerer.answer(alloc, line.as_bytes(), output) {
@@ -92,16 +92,16 @@ fn finish<A: Answerer, K: Sink>(
     alloc: Global,
     answerer: &mut A,
     output: &mut Output<K>,
-) -> Result<(), Fault>
+) -> Result<(), RunFault>
     ensures closed { (now : A.State) → A.stands answerer.old now
         → Closes (A.closes (A.setting answerer.old)) now output.old output.new }
     ensures ok { OnOk result ((output.new.failures ≡ 0) × IsOut output.new) }
-    ensures err { IfErr result (λ fault. (fault ≡ Fault.Output) × (0 < output.new.failures)) }
+    ensures err { IfErr result (λ fault. (fault ≡ RunFault.Output) × (0 < output.new.failures)) }
 {
     answerer.close(alloc, output);
     output.flush();
     if output.has_failed() {
-        return Err(Fault::Output);
+        return Err(RunFault::Output);
     }
     Ok(())
 }

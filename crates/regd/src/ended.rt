@@ -3,7 +3,7 @@
 ghost use Rattle.std.specs.Prelude.{◌≡◌};
 ghost use Rattle.regd.specs.Ends.{ended_of};
 
-use crate::faults::{Fault, LineFault};
+use crate::faults::{CommandLineFault, RunFault};
 use crate::told::Told;
 
 /// The end of a run, as the caller gets to know it.
@@ -18,18 +18,21 @@ pub struct Ended {
 
 impl Ended {
     /// The end, by why the command line is none, or else by what the run of its settings answered.
-    pub fn of(answered: Result<Result<(), Fault>, LineFault>) -> Ended
+    pub fn of(answered: Result<Result<(), RunFault>, CommandLineFault>) -> Ended
         ensures { result ≡ ended_of answered }
     {
         match answered {
             Ok(Ok(())) => Ended::with(0, Told::Nothing),
-            Ok(Err(Fault::Input)) => Ended::with(1, Told::Input),
-            Ok(Err(Fault::Output)) => Ended::with(1, Told::Output),
-            Ok(Err(Fault::NoMemory)) | Err(LineFault::NoMemory) => Ended::with(1, Told::NoMemory),
-            Err(LineFault::Refused(error)) => Ended::with(2, Told::Parser(error)),
-            Err(LineFault::Domain(refusal)) => Ended::with(2, Told::Domain(refusal)),
-            Err(LineFault::Seed) => Ended::with(2, Told::Seed),
-            Err(LineFault::NotText) => Ended::with(2, Told::NotText),
+            Ok(Err(RunFault::Input)) => Ended::with(1, Told::Input),
+            Ok(Err(RunFault::Output)) => Ended::with(1, Told::Output),
+            Ok(Err(RunFault::NoMemory)) | Err(CommandLineFault::NoMemory) => Ended::with(
+                1,
+                Told::NoMemory,
+            ),
+            Err(CommandLineFault::Refused(error)) => Ended::with(2, Told::Parser(error)),
+            Err(CommandLineFault::Domain(refusal)) => Ended::with(2, Told::Domain(refusal)),
+            Err(CommandLineFault::Seed) => Ended::with(2, Told::Seed),
+            Err(CommandLineFault::NotText) => Ended::with(2, Told::NotText),
         }
     }
 

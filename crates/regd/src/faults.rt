@@ -2,7 +2,7 @@
 
 ghost use Rattle.std.specs.Prelude.{◌≡◌};
 ghost use Rattle.regd.specs.Conversions.{fault_of_domain, fault_of_refusal};
-ghost use Rattle.regd.specs.declared.faults.LineFault.TheVariants.{NoMemory};
+ghost use Rattle.regd.specs.declared.faults.CommandLineFault.TheVariants.{NoMemory};
 
 use clap::error::ErrorKind;
 use spiffe_name::{Failure, IdRefusal};
@@ -10,7 +10,7 @@ use std::alloc::AllocError;
 
 /// Why a run stopped.
 #[derive(Clone, Copy, Debug, PartialEq, Eq, Drop)]
-pub enum Fault {
+pub enum RunFault {
     /// A read of the input failed.
     Input,
     /// A write of the output failed, or a flush.
@@ -19,19 +19,19 @@ pub enum Fault {
     NoMemory,
 }
 
-impl From<AllocError> for Fault {
-    ghost use Rattle.regd.specs.declared.faults.Fault.TheVariants.{NoMemory as WantOfMemory};
+impl From<AllocError> for RunFault {
+    ghost use Rattle.regd.specs.declared.faults.RunFault.TheVariants.{NoMemory as WantOfMemory};
 
     ghost from_gives = { λ _ fault. fault ≡ WantOfMemory };
 
-    fn from(_: AllocError) -> Fault {
-        Fault::NoMemory
+    fn from(_: AllocError) -> RunFault {
+        RunFault::NoMemory
     }
 }
 
 /// Why a command line is none.
 #[derive(Debug, Drop)]
-pub enum LineFault {
+pub enum CommandLineFault {
     /// The command-line parser refuses the words, or they ask for help.
     Refused(clap::Error),
     /// The domain isn't one, for this reason.
@@ -44,32 +44,32 @@ pub enum LineFault {
     NoMemory,
 }
 
-impl From<AllocError> for LineFault {
+impl From<AllocError> for CommandLineFault {
     ghost from_gives = { λ _ fault. fault ≡ NoMemory };
 
-    fn from(_: AllocError) -> LineFault {
-        LineFault::NoMemory
+    fn from(_: AllocError) -> CommandLineFault {
+        CommandLineFault::NoMemory
     }
 }
 
-impl From<clap::Error> for LineFault {
+impl From<clap::Error> for CommandLineFault {
     ghost from_gives = { λ error fault. fault ≡ fault_of_refusal error };
 
-    fn from(error: clap::Error) -> LineFault {
+    fn from(error: clap::Error) -> CommandLineFault {
         match error.kind() {
-            ErrorKind::OutOfMemory => LineFault::NoMemory,
-            _ => LineFault::Refused(error),
+            ErrorKind::OutOfMemory => CommandLineFault::NoMemory,
+            _ => CommandLineFault::Refused(error),
         }
     }
 }
 
-impl From<Failure<IdRefusal>> for LineFault {
+impl From<Failure<IdRefusal>> for CommandLineFault {
     ghost from_gives = { λ failure fault. fault ≡ fault_of_domain failure };
 
-    fn from(failure: Failure<IdRefusal>) -> LineFault {
+    fn from(failure: Failure<IdRefusal>) -> CommandLineFault {
         match failure {
-            Failure::NoMemory => LineFault::NoMemory,
-            Failure::Refused(refusal) => LineFault::Domain(refusal),
+            Failure::NoMemory => CommandLineFault::NoMemory,
+            Failure::Refused(refusal) => CommandLineFault::Domain(refusal),
         }
     }
 }

@@ -4,7 +4,7 @@
 //! - [`Answerer`]: what answers the lines of an input; [`run_lines`]: a run of any of them over the bytes.
 //! - [`plain`]: the program `regd plain`, from the bytes of request lines to the bytes of reply lines; [`run_plain`]: the
 //!   same for what the settings give.
-//! - [`Fault`] and [`LineFault`]: why a run stopped, and why a command line is none.
+//! - [`RunFault`] and [`CommandLineFault`]: why a run stopped, and why a command line is none.
 //! - [`a_line_gives_its_domain`]: which words give which domain.
 //! - [`Ended`]: what the caller gets to know of that, the exit status and what standard error gets, a [`Told`].
 #![tactic(auto)]
@@ -20,10 +20,10 @@ mod told;
 
 pub use driver::{Answerer, run_lines};
 pub use ended::Ended;
-pub use faults::{Fault, LineFault};
+pub use faults::{CommandLineFault, RunFault};
 pub use laws::a_line_gives_its_domain;
 pub use plain_engine::{plain, run_plain};
-use reg_lines::{Counted, Input, Output};
+use reg_lines::{CountedDevice, Input, Output};
 pub use settings::Settings;
 use std::process::ExitCode;
 use std::rt::Env;
@@ -38,26 +38,28 @@ fn main(rt: HostRuntime) -> ExitCode {
 }
 
 /// From the command line to the end of the input: why the command line is none, or else what the run answered.
-fn run<R: Env + io::Input + Print + AllocGlobal>(rt: &R) -> Result<Result<(), Fault>, LineFault> {
+fn run<R: Env + io::Input + Print + AllocGlobal>(
+    rt: &R,
+) -> Result<Result<(), RunFault>, CommandLineFault> {
     let settings = settings_of_process(rt)?;
-    let mut input = Input::new(Counted::new(rt.reader()));
-    let mut output = Output::new(Counted::new(io::writer(rt)));
+    let mut input = Input::new(CountedDevice::new(rt.reader()));
+    let mut output = Output::new(CountedDevice::new(io::writer(rt)));
     Ok(run_plain(rt.alloc(), settings, &mut input, &mut output))
 }
 
 /// The settings that the words of the process ask for.
-fn settings_of_process<R: Env + AllocGlobal>(rt: &R) -> Result<Settings, LineFault> {
+fn settings_of_process<R: Env + AllocGlobal>(rt: &R) -> Result<Settings, CommandLineFault> {
     let words = words_of_process(rt)?;
     let texts: Vec<&str> = words.iter().map(String::as_str).collect(rt.alloc())?;
     Settings::from_words(rt.alloc(), &texts)
 }
 
 /// The words of the process, its own name first.
-fn words_of_process<R: Env + AllocGlobal>(rt: &R) -> Result<Vec<String>, LineFault> {
+fn words_of_process<R: Env + AllocGlobal>(rt: &R) -> Result<Vec<String>, CommandLineFault> {
     match env::args(rt) {
         Ok(words) => Ok(words.collect(rt.alloc())?),
-        Err(error) if error.kind() == io::ErrorKind::OutOfMemory => Err(LineFault::NoMemory),
-        Err(_) => Err(LineFault::NotText),
+        Err(error) if error.kind() == io::ErrorKind::OutOfMemory => Err(CommandLineFault::NoMemory),
+        Err(_) => Err(CommandLineFault::NotText),
     }
 }
 

@@ -6,7 +6,7 @@ ghost use Rattle.entry_book.specs.History.{Stands};
 ghost use Rattle.regd.specs.Answers.{AnswersBatch, AnswersLine, RunsPlain};
 
 use crate::driver::{Answerer, run_lines};
-use crate::faults::Fault;
+use crate::faults::RunFault;
 use crate::settings::Settings;
 use entry_book::Batch;
 use plain_book::PlainBook;
@@ -27,7 +27,7 @@ pub fn plain<S: Source, K: Sink>(
     seed: [u8; 32],
     input: &mut Input<S>,
     output: &mut Output<K>,
-) -> Result<(), Fault>
+) -> Result<(), RunFault>
     requires input { input.old.failures ≡ 0 }
     requires output { output.old.failures ≡ 0 }
     requires none_held { output.old.held ≡ [] }
@@ -43,7 +43,7 @@ pub fn run_plain<S: Source, K: Sink>(
     settings: Settings,
     input: &mut Input<S>,
     output: &mut Output<K>,
-) -> Result<(), Fault>
+) -> Result<(), RunFault>
     requires input { input.old.failures ≡ 0 }
     requires output { output.old.failures ≡ 0 }
     requires none_held { output.old.held ≡ [] }

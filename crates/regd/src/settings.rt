@@ -1,6 +1,6 @@
 //! What does a command line ask for?
 
-use crate::faults::LineFault;
+use crate::faults::CommandLineFault;
 use crate::seed::{FIRST_SEED, seed_of};
 use clap::{Arg, ArgMatches, Command};
 use spiffe_name::TrustDomain;
@@ -30,7 +30,7 @@ impl Settings {
 
     /// Reads a command line, the program's own name first: all words by the command-line parser, then the domain, and
     /// then the seed, which is 64 zeros where none is given. The error is the first fault, or want of memory; a request for help is a refusal, too, with the help as its text.
-    pub fn from_words(alloc: Global, words: &[&str]) -> Result<Settings, LineFault>
+    pub fn from_words(alloc: Global, words: &[&str]) -> Result<Settings, CommandLineFault>
         ensures taken { IfOk result (λ _. line_faults (texts words.now) ≡ []) }
         ensures domain { IfOk result (λ settings. domain_word (texts words.now) ≡ Some settings.domain) }
         ensures seed { IfOk result (λ settings. encode_lower settings.seed ≡ seed_text (texts words.now)) }
@@ -41,7 +41,7 @@ impl Settings {
         let domain = TrustDomain::parse(alloc, word)?;
         let text = option_word(&matches, "plain", "seed").unwrap_or(FIRST_SEED);
         let Some(seed) = seed_of(text) else {
-            return Err(LineFault::Seed);
+            return Err(CommandLineFault::Seed);
         };
         Ok(Settings { domain, seed })
     }

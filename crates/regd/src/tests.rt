@@ -8,7 +8,7 @@ mod refusals;
 mod runs;
 mod story;
 
-use crate::{Ended, Fault, LineFault, Settings, a_line_gives_its_domain};
+use crate::{CommandLineFault, Ended, RunFault, Settings, a_line_gives_its_domain};
 use spiffe_name::IdRefusal;
 use std::alloc::Global;
 use std::test::Fail;
@@ -20,7 +20,7 @@ fn told(alloc: Global, words: &[&str]) -> Result<(u8, String), Fail> {
             let [.., last] = settings.seed();
             Ok((0, format!(in alloc; "{} {last}", settings.domain())?))
         }
-        Err(LineFault::NoMemory) => Err(Fail::from("no memory")),
+        Err(CommandLineFault::NoMemory) => Err(Fail::from("no memory")),
         Err(fault) => {
             let ended = Ended::of(Err(fault));
             Ok((ended.status, ended.told.to_string(alloc)?))
@@ -159,17 +159,21 @@ fn the_parser_refuses_every_other_word(rt: HostRuntime) -> Result<(), Fail> {
 fn each_end_has_its_status_and_its_text(rt: HostRuntime) -> Result<(), Fail> {
     let ends = [
         (Ok(Ok(())), 0, ""),
-        (Ok(Err(Fault::Input)), 1, "regd: input failed\n"),
-        (Ok(Err(Fault::Output)), 1, "regd: output failed\n"),
-        (Ok(Err(Fault::NoMemory)), 1, "regd: out of memory\n"),
+        (Ok(Err(RunFault::Input)), 1, "regd: input failed\n"),
+        (Ok(Err(RunFault::Output)), 1, "regd: output failed\n"),
+        (Ok(Err(RunFault::NoMemory)), 1, "regd: out of memory\n"),
         (
-            Err(LineFault::Domain(IdRefusal::DomainTooLong)),
+            Err(CommandLineFault::Domain(IdRefusal::DomainTooLong)),
             2,
             "regd: domain I4\n",
         ),
-        (Err(LineFault::Seed), 2, "regd: seed\n"),
-        (Err(LineFault::NotText), 2, "regd: a word isn't UTF-8\n"),
-        (Err(LineFault::NoMemory), 1, "regd: out of memory\n"),
+        (Err(CommandLineFault::Seed), 2, "regd: seed\n"),
+        (
+            Err(CommandLineFault::NotText),
+            2,
+            "regd: a word isn't UTF-8\n",
+        ),
+        (Err(CommandLineFault::NoMemory), 1, "regd: out of memory\n"),
     ];
     for (answered, status, want) in ends {
         let ended = Ended::of(answered);

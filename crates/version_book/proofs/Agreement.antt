@@ -9,12 +9,12 @@ use Rattle.entry_book.proofs.Sets.{ascending_filter, from_within_filter, within_
 use Rattle.entry_book.specs.Rows.{Bytes, entry_key, agent_key, bundle_key}
 use Rattle.entry_book.specs.Order.{Within, Ascending, with_row}
 use Rattle.entry_book.specs.Book.{Book, AscendingBook}
-use Rattle.entry_book.specs.Writes.{Change, Write, wrote_entry, wrote_agent, wrote_bundle, FitsRows, FitsBook, after, after_write}
-use Rattle.version_book.specs.declared.mark.Named.{Named}
+use Rattle.entry_book.specs.Writes.{RowChange, RowWrite, wrote_entry, wrote_agent, wrote_bundle, FitsRows, FitsBook, after, after_write}
+use Rattle.version_book.specs.declared.mark.MarkKind.{MarkKind}
 use Rattle.version_book.specs.Marks.{Agree, reads, hits, passes, seen, names_entry, names_agent, names_bundle}
 use Rattle.version_book.specs.Laws.{AgreeAfter, ReadsAfter, Unhit}
 
-reads-after_write : (m : Named) (w : Write) (b : Book) → reads m (after_write w b) ≡ after_write (seen m w) (reads m b)
+reads-after_write : (m : MarkKind) (w : RowWrite) (b : Book) → reads m (after_write w b) ≡ after_write (seen m w) (reads m b)
 reads-after_write m (wrote_entry c) b = ap (λ rows. record (reads m b) { entries = rows }) (filter-with_row entry_key (names_entry m) c.key c.new b.entries)
 reads-after_write m (wrote_agent c) b = ap (λ rows. record (reads m b) { agents = rows }) (filter-with_row agent_key (names_agent m) c.key c.new b.agents)
 reads-after_write m (wrote_bundle c) b = ap (λ rows. record (reads m b) { bundles = rows }) (filter-with_row bundle_key (names_bundle m) c.key c.new b.bundles)
@@ -45,13 +45,13 @@ module _ {X : Type 0} (key : X → Bytes) (p : X → Bool) where
   not_old (Some y) x w h = ⊎_elim (λ e. ap p (sym e) ∙ h) (λ n. absurd n) w
 
   -- a row of the key of a write that fits is its old row
-  pub old_fails : (c : Change X) (rows : List X) → FitsRows key c rows → passes p c.old ≡ false → (x : X) → Within rows x → key x ≡ c.key → p x ≡ false
+  pub old_fails : (c : RowChange X) (rows : List X) → FitsRows key c rows → passes p c.old ≡ false → (x : X) → Within rows x → key x ≡ c.key → p x ≡ false
   old_fails c rows f h x w e = not_old c.old x (subst (λ l. Within l x) f.found (within_filter (λ x. bytes_eq (key x) c.key) rows x w (text_same (key x) c.key e))) h
 
-  unhit_change : (c : Change X) (rows : List X) → Ascending key rows → FitsRows key c rows → passes p c.old ≡ false → passes p c.new ≡ false → filter p rows ≡ filter p (with_row key c.key c.new rows)
+  unhit_change : (c : RowChange X) (rows : List X) → Ascending key rows → FitsRows key c rows → passes p c.old ≡ false → passes p c.new ≡ false → filter p rows ≡ filter p (with_row key c.key c.new rows)
   unhit_change c rows a f old new = sym (unhit_rows c.key c.new rows a (old_fails c rows f old) new)
 
-unhit_write : (w : Write) (b : Book) (m : Named) → AscendingBook b → FitsBook w b → hits w m ≡ false → Agree b (after_write w b) m
+unhit_write : (w : RowWrite) (b : Book) (m : MarkKind) → AscendingBook b → FitsBook w b → hits w m ≡ false → Agree b (after_write w b) m
 unhit_write (wrote_entry c) b m a f h = let r = or_parts _ _ (or_parts _ _ h).1 in ap (λ rows. record (reads m b) { entries = rows }) (unhit_change entry_key (names_entry m) c b.entries a.entries f r.0 r.1)
 unhit_write (wrote_agent c) b m a f h = let r = or_parts _ _ h in ap (λ rows. record (reads m b) { agents = rows }) (unhit_change agent_key (names_agent m) c b.agents a.agents f r.0 r.1)
 unhit_write (wrote_bundle c) b m a f h = let r = or_parts _ _ h in ap (λ rows. record (reads m b) { bundles = rows }) (unhit_change bundle_key (names_bundle m) c b.bundles a.bundles f r.0 r.1)

@@ -8,7 +8,7 @@ use Rattle.version_shelf.specs.Shelf.{IsInOrder, get}
 use Rattle.entry_book.specs.Rows.{Bytes}
 use Rattle.entry_book.specs.Order.{Within}
 use Rattle.entry_book.proofs.Sets.{from_within_filter, text_is}
-use Rattle.version_book.specs.declared.numbered.Numbered.{Numbered}
+use Rattle.version_book.specs.declared.committed_row.CommittedRow.{CommittedRow}
 use Rattle.version_book.specs.Stores.{IsKeyed, TellRows}
 use Rattle.version_book.proofs.Shelves.{row_at}
 
@@ -18,26 +18,26 @@ alone None (Some y) e = cc
 alone (Some x) None e = cc
 alone (Some x) (Some y) e = let q : x ≡ y = cc in ap Some q
 
-abbrev commit_of : {X : Type 0} → Option (Numbered X) → Option ℕ
+abbrev commit_of : {X : Type 0} → Option (CommittedRow X) → Option ℕ
 commit_of o = option_map (λ r. r.commit) o
 
-module _ {X : Type 0} (key : X → Bytes) (k : Bytes) (old new : List (Bytes × Numbered X)) (old_order : IsInOrder (slice_cmp nat_cmp) old) (new_order : IsInOrder (slice_cmp nat_cmp) new) (old_keyed : IsKeyed key old) (new_keyed : IsKeyed key new) where
-  abbrev in_old : List (Numbered X)
+module _ {X : Type 0} (key : X → Bytes) (k : Bytes) (old new : List (Bytes × CommittedRow X)) (old_order : IsInOrder (slice_cmp nat_cmp) old) (new_order : IsInOrder (slice_cmp nat_cmp) new) (old_keyed : IsKeyed key old) (new_keyed : IsKeyed key new) where
+  abbrev in_old : List (CommittedRow X)
   in_old = filter (λ r. bytes_eq (key r.row) k) (values_of old)
 
-  abbrev in_new : List (Numbered X)
+  abbrev in_new : List (CommittedRow X)
   in_new = filter (λ r. bytes_eq (key r.row) k) (values_of new)
 
   pub same_commit : in_old ≡ in_new → commit_of (get (slice_cmp nat_cmp) old k) ≡ commit_of (get (slice_cmp nat_cmp) new k)
   same_commit e = ap commit_of (alone _ _ (sym (row_at key k old old_order old_keyed) ∙ (e ∙ row_at key k new new_order new_keyed)))
 
-  is_row : (s : List (Bytes × Numbered X)) (r : Numbered X) (o : Option (Numbered X)) → filter (λ r. bytes_eq (key r.row) k) (values_of s) ≡ option_to_list o → o ≡ Some r → Within (values_of s) r × (key r.row ≡ k)
+  is_row : (s : List (Bytes × CommittedRow X)) (r : CommittedRow X) (o : Option (CommittedRow X)) → filter (λ r. bytes_eq (key r.row) k) (values_of s) ≡ option_to_list o → o ≡ Some r → Within (values_of s) r × (key r.row ≡ k)
   is_row s r o e q =
       let w : Within (filter (λ r. bytes_eq (key r.row) k) (values_of s)) r = subst (λ l. Within l r) (sym (e ∙ ap option_to_list q)) (inl refl) in
       let f = from_within_filter (λ r. bytes_eq (key r.row) k) (values_of s) r w in
       (f.0, text_is (key r.row) k f.1)
 
-  same_row : TellRows key (values_of old) (values_of new) → (o p : Option (Numbered X)) → in_old ≡ option_to_list o → in_new ≡ option_to_list p → commit_of o ≡ commit_of p → o ≡ p
+  same_row : TellRows key (values_of old) (values_of new) → (o p : Option (CommittedRow X)) → in_old ≡ option_to_list o → in_new ≡ option_to_list p → commit_of o ≡ commit_of p → o ≡ p
   same_row t None None e f c = refl
   same_row t None (Some s) e f c = cc
   same_row t (Some r) None e f c = cc

@@ -6,7 +6,7 @@ use Rattle.entry_book.specs.Book.{Book, AscendingBook}
 use Rattle.entry_book.specs.Writes.{FitAll, after}
 use Rattle.entry_book.specs.Runs.{run}
 use Rattle.entry_book.specs.Lawful.{Lawful}
-use Rattle.version_book.specs.Numbered.{book_of}
+use Rattle.version_book.specs.CommittedRows.{book_of}
 use Rattle.version_book.specs.Laws.{RunMayApply}
 use Rattle.version_book.proofs.Rooms.{room_in_run}
 

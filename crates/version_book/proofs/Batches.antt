@@ -12,7 +12,7 @@ use Rattle.entry_book.specs.Runs.{RunResult, run}
 use Rattle.entry_book.specs.Limits.{limit_passed}
 use Rattle.entry_book.specs.History.{Verdict, refuses, answers, adds, adds_within, verdict, verdict_when, last_book, last_or, place_of, books_with, books_after, books_from, reply_to, reply_with, is_committed, CommitAll}
 use Rattle.entry_book.specs.Worked.{replies_from}
-use Rattle.version_book.specs.Numbered.{State, book_of}
+use Rattle.version_book.specs.CommittedRows.{State, book_of}
 use Rattle.version_book.specs.History.{Commits, Follows, IsLast, state_with, writes_in, writes_of}
 use Rattle.version_book.specs.Laws.{BookAtPlace, BooksJoin, BooksLead, CommitsJoin, FollowsOne, FollowsParts, RepliesCount, RepliesFollow, RepliesJoin}
 use Rattle.version_book.proofs.Histories.{books_follow, follows_on}

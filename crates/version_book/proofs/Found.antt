@@ -20,8 +20,8 @@ use Rattle.entry_book.specs.Order.{Ascending, Within, is_before}
 use Rattle.entry_book.proofs.Items.{within_get}
 use Rattle.entry_book.proofs.Keys.{same_key}
 use Rattle.entry_book.proofs.Sets.{All-within, All-from_within, within_filter, from_within_filter, ascending_filter, same_sets, before-trans, before-total, text_is, text_same}
-use Rattle.version_book.specs.declared.numbered.Numbered.{Numbered}
-use Rattle.version_book.specs.Numbered.{of_row, row_of}
+use Rattle.version_book.specs.declared.committed_row.CommittedRow.{CommittedRow}
+use Rattle.version_book.specs.CommittedRows.{of_row, row_of}
 use Rattle.version_book.specs.Index.{IsIndex, Covers, is_between}
 
 -- ---- members of a mapped list, and of a list by an index
@@ -102,13 +102,13 @@ sorted_is es sorted k d h = subst (λ n. is_lt (slice_cmp nat_cmp (get_or es n d
 
 -- ---- the entries of a range of an index
 
-abbrev pub entry_of : {K : Type 0} → K × Numbered Entry → Entry
+abbrev pub entry_of : {K : Type 0} → K × CommittedRow Entry → Entry
 entry_of x = x.1.row
 
-ascending_rows : (rows : List (Numbered Entry)) → Ascending (of_row entry_key) rows → Ascending entry_key (map row_of rows)
+ascending_rows : (rows : List (CommittedRow Entry)) → Ascending (of_row entry_key) rows → Ascending entry_key (map row_of rows)
 ascending_rows [] a = tt
 ascending_rows (r ∷ rs) a = (
-  All-from_within (λ e. is_before r.row.id e.id ≡ true) (map row_of rs) (λ e w. let s = from_within_map row_of rs e w in subst (λ (x : Entry). is_before r.row.id x.id ≡ true) s.2 (All-within (λ (s : Numbered Entry). is_before r.row.id s.row.id ≡ true) rs s.0 a.0 s.1)),
+  All-from_within (λ e. is_before r.row.id e.id ≡ true) (map row_of rs) (λ e w. let s = from_within_map row_of rs e w in subst (λ (x : Entry). is_before r.row.id x.id ≡ true) s.2 (All-within (λ (s : CommittedRow Entry). is_before r.row.id s.row.id ≡ true) rs s.0 a.0 s.1)),
   ascending_rows rs a.1,
 )
 
@@ -116,15 +116,15 @@ within_keys : {K V : Type 0} (rows : List (K × V)) (r : K × V) → Within rows
 within_keys [] r w = absurd w
 within_keys (s ∷ rs) r w = ⊎_elim (λ e. inl (ap (λ x. x.0) e)) (λ v. inr (within_keys rs r v)) w
 
-module _ {K : Type 0} {cmp : K → K → Ordering} (o : IsTotalOrder cmp) (keys : Entry → List K) (rows : List (Numbered Entry)) (index : List (K × Numbered Entry)) (i : IsIndex keys rows index) (ascending : Ascending (of_row entry_key) rows) (lo hi : K) (p : Entry → Bool) (covers : Covers cmp keys lo hi p) where
-  one_key : (k l : K) (r s : Numbered Entry) → Within index (k, r) × (is_between cmp lo hi k ≡ true) → Within index (l, s) × (is_between cmp lo hi l ≡ true) → r.row.id ≡ s.row.id → k ≡ l
+module _ {K : Type 0} {cmp : K → K → Ordering} (o : IsTotalOrder cmp) (keys : Entry → List K) (rows : List (CommittedRow Entry)) (index : List (K × CommittedRow Entry)) (i : IsIndex keys rows index) (ascending : Ascending (of_row entry_key) rows) (lo hi : K) (p : Entry → Bool) (covers : Covers cmp keys lo hi p) where
+  one_key : (k l : K) (r s : CommittedRow Entry) → Within index (k, r) × (is_between cmp lo hi k ≡ true) → Within index (l, s) × (is_between cmp lo hi l ≡ true) → r.row.id ≡ s.row.id → k ≡ l
   one_key k l r s a b e =
       let x = i.sound k r a.0 in
       let y = i.sound l s b.0 in
       let same : r ≡ s = same_key (of_row entry_key) rows ascending r s x.0 y.0 e in
-      covers.once r.row k l x.1 (subst (λ (t : Numbered Entry). Within (keys t.row) l) (sym same) y.1) a.1 b.1
+      covers.once r.row k l x.1 (subst (λ (t : CommittedRow Entry). Within (keys t.row) l) (sym same) y.1) a.1 b.1
 
-  apart : (found : List (K × Numbered Entry)) → IsInOrder cmp found → ((k : K) (r : Numbered Entry) → Within found (k, r) → Within index (k, r) × (is_between cmp lo hi k ≡ true)) → Apart (map entry_of found)
+  apart : (found : List (K × CommittedRow Entry)) → IsInOrder cmp found → ((k : K) (r : CommittedRow Entry) → Within found (k, r) → Within index (k, r) × (is_between cmp lo hi k ≡ true)) → Apart (map entry_of found)
   apart [] sorted all = tt
   apart (x ∷ xs) sorted all = (
     All-from_within (λ y. x.1.row.id ≢ y.id) (map entry_of xs) (λ e w q.
@@ -137,7 +137,7 @@ module _ {K : Type 0} {cmp : K → K → Ordering} (o : IsTotalOrder cmp) (keys 
     apart xs (sorted_tail cmp x.0 (keys_of xs) sorted) (λ k r w. all k r (inr w)),
   )
 
-  all_between : (k : K) (r : Numbered Entry) → Within (rows_between cmp index lo hi) (k, r) → Within index (k, r) × (is_between cmp lo hi k ≡ true)
+  all_between : (k : K) (r : CommittedRow Entry) → Within (rows_between cmp index lo hi) (k, r) → Within index (k, r) × (is_between cmp lo hi k ≡ true)
   all_between k r w = from_within_filter (λ row. is_ge (cmp row.0 lo) && is_lt (cmp row.0 hi)) index (k, r) w
 
   from_found : (e : Entry) → Within (map entry_of (rows_between cmp index lo hi)) e → Within (filter p (map row_of rows)) e

@@ -12,19 +12,19 @@ use Rattle.entry_book.specs.declared.reply.OpReply.{OpReply}
 use Rattle.entry_book.specs.Rows.{Bytes, entry_key, agent_key, bundle_key}
 use Rattle.entry_book.specs.Order.{Within, Ascending, with_row}
 use Rattle.entry_book.specs.Book.{Book, AscendingBook, empty_book}
-use Rattle.entry_book.specs.Writes.{Change, Write, wrote_entry, wrote_agent, wrote_bundle, FitsRows, FitsBook, FitAll, after, after_write}
+use Rattle.entry_book.specs.Writes.{RowChange, RowWrite, wrote_entry, wrote_agent, wrote_bundle, FitsRows, FitsBook, FitAll, after, after_write}
 use Rattle.entry_book.specs.Batches.{Batch, is_query}
 use Rattle.entry_book.specs.Runs.{RunResult, run}
 use Rattle.entry_book.specs.Lawful.{Lawful}
 use Rattle.entry_book.specs.Laws.{IsWithinLimits}
 use Rattle.entry_book.specs.Limits.{limit_passed}
 use Rattle.entry_book.specs.History.{Verdict, adds, adds_within, verdict, verdict_when, last_book, place_of, books_with, books_after, reply_with, is_committed}
-use Rattle.version_book.specs.declared.mark.Named.{Named}
-use Rattle.version_book.specs.declared.numbered.Numbered.{Numbered}
+use Rattle.version_book.specs.declared.mark.MarkKind.{MarkKind}
+use Rattle.version_book.specs.declared.committed_row.CommittedRow.{CommittedRow}
 use Rattle.version_book.specs.Marks.{hits, passes, names_entry, names_agent, names_bundle}
-use Rattle.version_book.specs.Numbered.{Rows, State, AllUpTo, row_of, numbered, of_row, book_of, marked, next_state, rows_after, rows_after_write}
+use Rattle.version_book.specs.CommittedRows.{CommittedRows, State, AllUpTo, row_of, numbered, of_row, book_of, marked, next_state, rows_after, rows_after_write}
 use Rattle.version_book.specs.History.{Commits, Follows, any_hits, state_with, writes_in, writes_of}
-use Rattle.version_book.specs.Laws.{BatchCommits, FollowsOn, BooksFollow, DomainStays, LawfulFollows, LimitsFollow, UnhitHistory}
+use Rattle.version_book.specs.Laws.{BatchCommits, FollowsJoined, BooksFollow, DomainStays, LawfulFollows, LimitsFollow, UnhitHistory}
 use Rattle.version_book.proofs.Agreement.{old_fails, unhit_rows}
 use Rattle.version_book.proofs.NamedRows.{book_after, book_after_write}
 use Rattle.version_book.proofs.Numbers.{all_up_to_next, ascending_rows}
@@ -46,11 +46,11 @@ batch_commits batch s t m q e l =
     )
 
 -- what holds of the writes of each run holds of those of a batch that commits
-of_writes : (P : List Write → Type 0) (query : Bool) (n : ℕ) (b c : Book) (replies : List OpReply) (r : RunResult) → verdict_when query n b r ≡ adds replies c → IfOk r (λ t. P t.writes) → P (writes_in r)
+of_writes : (P : List RowWrite → Type 0) (query : Bool) (n : ℕ) (b c : Book) (replies : List OpReply) (r : RunResult) → verdict_when query n b r ≡ adds replies c → IfOk r (λ t. P t.writes) → P (writes_in r)
 of_writes P query n b c replies (Ok t) e h = h
 of_writes P query n b c replies (Err s) e h = cc
 
-of_batch : (P : List Write → Type 0) (batch : Batch) (s : State) → Commits batch s → IfOk (run batch.domain batch.ops (book_of s.rows)) (λ t. P t.writes) → P (writes_of batch (book_of s.rows))
+of_batch : (P : List RowWrite → Type 0) (batch : Batch) (s : State) → Commits batch s → IfOk (run batch.domain batch.ops (book_of s.rows)) (λ t. P t.writes) → P (writes_of batch (book_of s.rows))
 of_batch P batch s c h = of_writes P (is_query batch.ops) s.number (book_of s.rows) (book_of (state_with batch s).rows) c.replies (run batch.domain batch.ops (book_of s.rows)) c.added h
 
 -- the writes of a batch that commits find the rows that they name
@@ -62,7 +62,7 @@ ascending_next batch s a c = subst AscendingBook (sym (book_after (s.number + 1)
 
 -- ---- many batches
 
-pub follows_on : FollowsOn
+pub follows_on : FollowsJoined
 follows_on [] second s t u f g = subst (λ x. Follows x second u) (sym f) g
 follows_on (batch ∷ first) second s t u f g = (f.0, follows_on first second (state_with batch s) t u f.1 g)
 
@@ -93,7 +93,7 @@ lawful_follows (batch ∷ batches) older newer l u f = lawful_follows batches (s
 
 -- ---- writes that don't hit leave the rows with their numbers
 
-within_rows : {X : Type 0} (rows : List (Numbered X)) (r : Numbered X) → Within rows r → Within (map row_of rows) r.row
+within_rows : {X : Type 0} (rows : List (CommittedRow X)) (r : CommittedRow X) → Within rows r → Within (map row_of rows) r.row
 within_rows [] r w = absurd w
 within_rows (x ∷ xs) r w = elim w [ inl e ↦ inl (ap row_of e) | inr v ↦ inr (within_rows xs r v) ]
 
@@ -101,15 +101,15 @@ passes_numbered : {X : Type 0} (p : X → Bool) (n : ℕ) (o : Option X) → pas
 passes_numbered p n None h = h
 passes_numbered p n (Some x) h = h
 
-unhit_numbered : {X : Type 0} (key : X → Bytes) (p : X → Bool) (n : ℕ) (c : Change X) (rows : List (Numbered X)) → Ascending key (map row_of rows) → FitsRows key c (map row_of rows) → passes p c.old ≡ false → passes p c.new ≡ false → filter (of_row p) rows ≡ filter (of_row p) (with_row (of_row key) c.key (option_map (numbered n) c.new) rows)
+unhit_numbered : {X : Type 0} (key : X → Bytes) (p : X → Bool) (n : ℕ) (c : RowChange X) (rows : List (CommittedRow X)) → Ascending key (map row_of rows) → FitsRows key c (map row_of rows) → passes p c.old ≡ false → passes p c.new ≡ false → filter (of_row p) rows ≡ filter (of_row p) (with_row (of_row key) c.key (option_map (numbered n) c.new) rows)
 unhit_numbered key p n c rows a f old new = sym (unhit_rows (of_row key) (of_row p) c.key (option_map (numbered n) c.new) rows (ascending_rows key rows a) (λ r w e. old_fails key p c (map row_of rows) f old r.row (within_rows rows r w) e) (passes_numbered p n c.new new))
 
-unhit_write : (m : Named) (n : ℕ) (w : Write) (rows : Rows) → AscendingBook (book_of rows) → FitsBook w (book_of rows) → hits w m ≡ false → marked m rows ≡ marked m (rows_after_write n w rows)
+unhit_write : (m : MarkKind) (n : ℕ) (w : RowWrite) (rows : CommittedRows) → AscendingBook (book_of rows) → FitsBook w (book_of rows) → hits w m ≡ false → marked m rows ≡ marked m (rows_after_write n w rows)
 unhit_write m n (wrote_entry c) rows a f h = let r = or_parts _ _ (or_parts _ _ h).1 in ap (λ es. record (marked m rows) { entries = es }) (unhit_numbered entry_key (names_entry m) n c rows.entries a.entries f r.0 r.1)
 unhit_write m n (wrote_agent c) rows a f h = let r = or_parts _ _ h in ap (λ us. record (marked m rows) { agents = us }) (unhit_numbered agent_key (names_agent m) n c rows.agents a.agents f r.0 r.1)
 unhit_write m n (wrote_bundle c) rows a f h = let r = or_parts _ _ h in ap (λ ds. record (marked m rows) { bundles = ds }) (unhit_numbered bundle_key (names_bundle m) n c rows.bundles a.bundles f r.0 r.1)
 
-unhit_writes : (m : Named) (n : ℕ) (ws : List Write) (rows : Rows) → AscendingBook (book_of rows) → FitAll ws (book_of rows) → list_any (λ w. hits w m) ws ≡ false → marked m rows ≡ marked m (rows_after n ws rows)
+unhit_writes : (m : MarkKind) (n : ℕ) (ws : List RowWrite) (rows : CommittedRows) → AscendingBook (book_of rows) → FitAll ws (book_of rows) → list_any (λ w. hits w m) ws ≡ false → marked m rows ≡ marked m (rows_after n ws rows)
 unhit_writes m n [] rows a f h = refl
 unhit_writes m n (w ∷ ws) rows a f h =
     let r = or_parts (hits w m) (list_any (λ w. hits w m) ws) h in

@@ -3,13 +3,13 @@ use Rattle.std.proofs.Common.{◌≡◌, ◌≢◌, ◌⊎◌, List, [], ◌∷�
 use Rattle.std.specs.declared.cmp.Ordering.{Ordering}
 use Rattle.std.specs.declared.cmp.Ordering.TheVariants.{Less, Equal, Greater}
 use Rattle.std.specs.Ordering.{is_eq, is_lt, is_gt}
-use Rattle.version_shelf.specs.Shelf.{rows_below, rows_above, with_row as with_key, without_row as without_key}
+use Rattle.version_shelf.specs.Shelf.{rows_below, rows_above, with_key, without_key}
 use Rattle.entry_book.specs.Rows.{Entry, entry_key}
 use Rattle.entry_book.specs.Order.{Ascending, Within, with_row}
 use Rattle.entry_book.proofs.Keys.{same_key, from_with_row, within_with_row, new_with_row}
 use Rattle.entry_book.proofs.Sets.{All-within, within_filter, from_within_filter, within_left, within_right, from_within_append}
-use Rattle.version_book.specs.declared.numbered.Numbered.{Numbered}
-use Rattle.version_book.specs.Numbered.{of_row}
+use Rattle.version_book.specs.declared.committed_row.CommittedRow.{CommittedRow}
+use Rattle.version_book.specs.CommittedRows.{of_row}
 use Rattle.version_book.specs.Index.{IsIndex, KeysTell, TellsKeys}
 use Rattle.version_book.specs.Stores.{IsAbsent}
 
@@ -84,10 +84,10 @@ module _ {K V : Type 0} (cmp : K → K → Ordering) (tells : TellsKeys cmp) whe
 
 -- ---- an index with all keys of a row, and without them
 
-module _ {K : Type 0} (keys : Entry → List K) (tell : KeysTell keys) (rows : List (Numbered Entry)) (old new : List (K × Numbered Entry)) (i : IsIndex keys rows old) where
-  pub index_with : (row : Numbered Entry) → IsAbsent entry_key row.row.id rows → Puts (keys row.row) row old new → IsIndex keys (with_row (of_row entry_key) row.row.id (Some row) rows) new
+module _ {K : Type 0} (keys : Entry → List K) (tell : KeysTell keys) (rows : List (CommittedRow Entry)) (old new : List (K × CommittedRow Entry)) (i : IsIndex keys rows old) where
+  pub index_with : (row : CommittedRow Entry) → IsAbsent entry_key row.row.id rows → Puts (keys row.row) row old new → IsIndex keys (with_row (of_row entry_key) row.row.id (Some row) rows) new
   index_with row absent p =
-      let other : (r : Numbered Entry) → Within rows r → r.row.id ≢ row.row.id = λ r w. All-within (λ r. r.row.id ≡ row.row.id → ⊥) rows r absent w in
+      let other : (r : CommittedRow Entry) → Within rows r → r.row.id ≢ row.row.id = λ r w. All-within (λ r. r.row.id ≡ row.row.id → ⊥) rows r absent w in
       record {
         sound = λ k r w. ⊎_elim
             (λ n. (subst (Within (with_row (of_row entry_key) row.row.id (Some row) rows)) (sym n.1) (new_with_row (of_row entry_key) row.row.id row rows), subst (λ s. Within (keys s.row) k) (sym n.1) n.0))
@@ -99,7 +99,7 @@ module _ {K : Type 0} (keys : Entry → List K) (tell : KeysTell keys) (rows : L
             (from_with_row (of_row entry_key) row.row.id (Some row) rows r w);
       }
 
-  pub index_without : (row : Numbered Entry) → Ascending (of_row entry_key) rows → Within rows row → Takes (keys row.row) old new → IsIndex keys (with_row (of_row entry_key) row.row.id None rows) new
+  pub index_without : (row : CommittedRow Entry) → Ascending (of_row entry_key) rows → Within rows row → Takes (keys row.row) old new → IsIndex keys (with_row (of_row entry_key) row.row.id None rows) new
   index_without row sorted there p = record {
     sound = λ k r w.
         let o = p.sound k r w in

@@ -5,14 +5,14 @@ use Rattle.std.specs.Ordering.{nat_cmp}
 use Rattle.std.specs.Cmp.Lexicographic.{slice_cmp}
 use Rattle.std.specs.Map.{values_of}
 use Rattle.std.proofs.lemmas.List.Elements.{filter-append}
-use Rattle.version_shelf.specs.Shelf.{IsInOrder, get}
+use Rattle.version_shelf.specs.Shelf.{IsInOrder, get, most_rows}
 use Rattle.entry_book.specs.Rows.{Bytes, Entry, entry_key}
 use Rattle.entry_book.specs.Order.{Within, Ascending, is_before, with_row}
 use Rattle.entry_book.proofs.Sets.{All-from_within, from_within_filter, within_filter, before-trans, before-irrefl, text_is, text_same}
 use Rattle.entry_book.proofs.Keys.{from_with_row, without_none}
-use Rattle.version_book.specs.declared.numbered.Numbered.{Numbered}
-use Rattle.version_book.specs.Numbered.{of_row, row_of}
-use Rattle.version_book.specs.Room.{count_of_names, most_rows}
+use Rattle.version_book.specs.declared.committed_row.CommittedRow.{CommittedRow}
+use Rattle.version_book.specs.CommittedRows.{of_row, row_of}
+use Rattle.version_book.specs.Room.{count_of_names}
 use Rattle.version_book.specs.Stores.{IsAbsent, IsKeyed}
 use Rattle.version_book.proofs.NamedRows.{map-with_row}
 use Rattle.version_book.proofs.Shelves.{filter-twice, filter-apart, row_at}
@@ -85,7 +85,7 @@ length-map f (x ∷ xs) = let rest = length-map f xs in omega (arith, rest)
 
 -- ---- the rows of a version without one, and with another
 
-module _ (k : Bytes) (rows : List (Numbered Entry)) where
+module _ (k : Bytes) (rows : List (CommittedRow Entry)) where
   rows_without : map row_of (with_row (of_row entry_key) k None rows) ≡ with_row entry_key k None (map row_of rows)
   rows_without = map-with_row row_of entry_key k None rows
 
@@ -107,8 +107,8 @@ module _ (k : Bytes) (rows : List (Numbered Entry)) where
       (λ r w. ⊎_elim (λ n. absurd n) (λ o. o.1) (from_with_row (of_row entry_key) k None rows r w))
 
 -- the row of a key, and what is left where there is none
-module _ (k : Bytes) (shelf : List (Bytes × Numbered Entry)) (sorted : IsInOrder (slice_cmp nat_cmp) shelf) (keyed : IsKeyed entry_key shelf) where
-  pub row_within : (r : Numbered Entry) → get (slice_cmp nat_cmp) shelf k ≡ Some r → Within (values_of shelf) r × (r.row.id ≡ k)
+module _ (k : Bytes) (shelf : List (Bytes × CommittedRow Entry)) (sorted : IsInOrder (slice_cmp nat_cmp) shelf) (keyed : IsKeyed entry_key shelf) where
+  pub row_within : (r : CommittedRow Entry) → get (slice_cmp nat_cmp) shelf k ≡ Some r → Within (values_of shelf) r × (r.row.id ≡ k)
   row_within r e =
       let alone : filter (λ r. bytes_eq r.row.id k) (values_of shelf) ≡ r ∷ [] = row_at entry_key k shelf sorted keyed ∙ ap option_to_list e in
       let there = from_within_filter (λ r. bytes_eq r.row.id k) (values_of shelf) r (subst (λ l. Within l r) (sym alone) (inl refl)) in

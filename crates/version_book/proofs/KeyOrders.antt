@@ -13,9 +13,9 @@ use denote.RattleType.{RattleType}
 use Rattle.uuid.specs.contracts.Uuid as uuid
 use Rattle.entry_book.specs.contracts.shared.Shared as shared
 use Rattle.spiffe_name.specs.contracts.spiffe_id.SpiffeId as spiffe_id
-use Rattle.version_book.specs.contracts.key.Edge as edge
-use Rattle.version_book.specs.declared.key.Edge.{Edge}
-use Rattle.version_book.specs.declared.key.Edge.TheVariants.{Start, At, End}
+use Rattle.version_book.specs.contracts.key.KeyPart as edge
+use Rattle.version_book.specs.declared.key.KeyPart.{KeyPart}
+use Rattle.version_book.specs.declared.key.KeyPart.TheVariants.{Start, At, End}
 use Rattle.version_book.specs.Index.{GroupKey, UserKey, ExpiryKey, group_keys, user_keys, expiry_keys, TellsKeys, KeysTell}
 
 -- ---- orders that tell their keys
@@ -32,7 +32,7 @@ pub tells_numbers : TellsKeys nat_cmp
 tells_numbers k l h = nat_cmp-IsAntisymmetric k l (equal_from _ h)
 
 -- what the derived order of edges answers
-pub record IsEdgeOrder {T : Type 0} (at : T → T → Ordering) (cmp : Edge T → Edge T → Ordering) : Type 0 where
+pub record IsEdgeOrder {T : Type 0} (at : T → T → Ordering) (cmp : KeyPart T → KeyPart T → Ordering) : Type 0 where
   pub start_start : cmp Start Start ≡ Equal
   pub start_at : (y : T) → cmp Start (At y) ≡ Less
   pub start_end : cmp Start End ≡ Less
@@ -49,7 +49,7 @@ not_less o e h = cc
 not_greater : {G : Type 0} (o : Ordering) → o ≡ Greater → is_eq o ≡ true → G
 not_greater o e h = cc
 
-pub tells_edges : {T : Type 0} {at : T → T → Ordering} {cmp : Edge T → Edge T → Ordering} → IsEdgeOrder at cmp → TellsKeys at → TellsKeys cmp
+pub tells_edges : {T : Type 0} {at : T → T → Ordering} {cmp : KeyPart T → KeyPart T → Ordering} → IsEdgeOrder at cmp → TellsKeys at → TellsKeys cmp
 tells_edges o tells Start Start h = refl
 tells_edges o tells Start (At y) h = not_less _ (o.start_at y) h
 tells_edges o tells Start End h = not_less _ o.start_end h
@@ -87,16 +87,16 @@ abbrev pub bytes_cmp : Bytes → Bytes → Ordering
 bytes_cmp x y = slice_cmp nat_cmp x y
 
 -- the order that the derive gives to edges of a type
-abbrev pub edges_cmp : (T : RattleType) → (T.Denot → T.Denot → Ordering) → Edge T.Denot → Edge T.Denot → Ordering
+abbrev pub edges_cmp : (T : RattleType) → (T.Denot → T.Denot → Ordering) → KeyPart T.Denot → KeyPart T.Denot → Ordering
 edges_cmp T cmp x y = by Less Greater (edge.enum T).parts (λ _ _. Equal, (λ a b. cmp a.0 b.0, (λ _ _. Equal, tt {0}))) (edge.as_values T x) (edge.as_values T y)
 
 pub edges_order : (T : RattleType) (cmp : T.Denot → T.Denot → Ordering) → IsEdgeOrder cmp (edges_cmp T cmp)
 edges_order T cmp = record { start_start = refl; start_at = λ _. refl; start_end = refl; at_start = λ _. refl; at_at = λ _ _. refl; at_end = λ _. refl; end_start = refl; end_at = λ _. refl; end_end = refl }
 
-abbrev pub id_cmp : Edge Bytes → Edge Bytes → Ordering
+abbrev pub id_cmp : KeyPart Bytes → KeyPart Bytes → Ordering
 id_cmp x y = edges_cmp uuid.the_row bytes_cmp x y
 
-abbrev pub identity_cmp : Edge Bytes → Edge Bytes → Ordering
+abbrev pub identity_cmp : KeyPart Bytes → KeyPart Bytes → Ordering
 identity_cmp x y = edges_cmp (shared.the_row spiffe_id.the_row) bytes_cmp x y
 
 abbrev pub group_cmp : GroupKey → GroupKey → Ordering

@@ -8,10 +8,10 @@ use Rattle.entry_book.specs.declared.bundle.Bundle.{Bundle}
 use Rattle.entry_book.specs.Rows.{Bytes, Entry, entry_key, agent_key, bundle_key}
 use Rattle.entry_book.specs.Order.{is_before, with_row}
 use Rattle.entry_book.specs.Book.{Book, group_of, children_of, users_of, expired_before}
-use Rattle.entry_book.specs.Writes.{Write, wrote_entry, wrote_agent, wrote_bundle, after, after_write}
-use Rattle.version_book.specs.declared.numbered.Numbered.{Numbered}
+use Rattle.entry_book.specs.Writes.{RowWrite, wrote_entry, wrote_agent, wrote_bundle, after, after_write}
+use Rattle.version_book.specs.declared.committed_row.CommittedRow.{CommittedRow}
 use Rattle.version_book.specs.Marks.{names_entry, names_agent, names_bundle}
-use Rattle.version_book.specs.Numbered.{Rows, row_of, numbered, of_row, book_of, rows_after_write}
+use Rattle.version_book.specs.CommittedRows.{CommittedRows, row_of, numbered, of_row, book_of, rows_after_write}
 use Rattle.version_book.specs.Laws.{entries_alone, ReadsEntry, ReadsGroup, ReadsChildren, ReadsUsers, ReadsExpiring, ReadsAgent, ReadsBundle, BookAfter, BookReads}
 
 -- ---- what each mark reads
@@ -73,10 +73,10 @@ row_again : {X : Type 0} (n : ℕ) (o : Option X) → option_map row_of (option_
 row_again n None = refl
 row_again n (Some x) = refl
 
-rows-with_row : {X : Type 0} (key : X → Bytes) (n : ℕ) (k : Bytes) (new : Option X) (rows : List (Numbered X)) → map row_of (with_row (of_row key) k (option_map (numbered n) new) rows) ≡ with_row key k new (map row_of rows)
+rows-with_row : {X : Type 0} (key : X → Bytes) (n : ℕ) (k : Bytes) (new : Option X) (rows : List (CommittedRow X)) → map row_of (with_row (of_row key) k (option_map (numbered n) new) rows) ≡ with_row key k new (map row_of rows)
 rows-with_row key n k new rows = map-with_row row_of key k (option_map (numbered n) new) rows ∙ ap (λ o. with_row key k o (map row_of rows)) (row_again n new)
 
-pub book_after_write : (n : ℕ) (w : Write) (rows : Rows) → book_of (rows_after_write n w rows) ≡ after_write w (book_of rows)
+pub book_after_write : (n : ℕ) (w : RowWrite) (rows : CommittedRows) → book_of (rows_after_write n w rows) ≡ after_write w (book_of rows)
 book_after_write n (wrote_entry c) rows = ap (λ es. record (book_of rows) { entries = es }) (rows-with_row entry_key n c.key c.new rows.entries)
 book_after_write n (wrote_agent c) rows = ap (λ us. record (book_of rows) { agents = us }) (rows-with_row agent_key n c.key c.new rows.agents)
 book_after_write n (wrote_bundle c) rows = ap (λ ds. record (book_of rows) { bundles = ds }) (rows-with_row bundle_key n c.key c.new rows.bundles)

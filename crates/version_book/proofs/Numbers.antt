@@ -7,35 +7,35 @@ use Rattle.entry_book.proofs.Sets.{All-within, All-from_within}
 use Rattle.entry_book.specs.Rows.{Bytes, entry_key, agent_key, bundle_key}
 use Rattle.entry_book.specs.Order.{Within, Ascending, is_before, with_row}
 use Rattle.entry_book.specs.Book.{AscendingBook}
-use Rattle.entry_book.specs.Writes.{Write, wrote_entry, wrote_agent, wrote_bundle}
+use Rattle.entry_book.specs.Writes.{RowWrite, wrote_entry, wrote_agent, wrote_bundle}
 use Rattle.entry_book.specs.Batches.{Batch}
-use Rattle.version_book.specs.declared.numbered.Numbered.{Numbered}
-use Rattle.version_book.specs.Numbered.{Rows, State, AllUpTo, row_of, numbered, of_row, book_of, next_state, rows_after, rows_after_write}
+use Rattle.version_book.specs.declared.committed_row.CommittedRow.{CommittedRow}
+use Rattle.version_book.specs.CommittedRows.{CommittedRows, State, AllUpTo, row_of, numbered, of_row, book_of, next_state, rows_after, rows_after_write}
 use Rattle.version_book.specs.History.{Follows, state_with, writes_of}
 use Rattle.version_book.specs.Stores.{NumbersTell, TellRows}
 
 -- rows of the newer ones whose numbers aren't above n are of the older ones
-abbrev WereThere : {X : Type 0} → ℕ → List (Numbered X) → List (Numbered X) → Type 0
+abbrev WereThere : {X : Type 0} → ℕ → List (CommittedRow X) → List (CommittedRow X) → Type 0
 WereThere n older newer = (r : _) → Within newer r → r.commit ≤ n → Within older r
 
 module _ {X : Type 0} (key : X → Bytes) where
   -- rows with numbers are in order where the rows are
-  all_rows : (P : X → Type 0) (rows : List (Numbered X)) → AllByRecursion P (map row_of rows) → AllByRecursion (λ r. P r.row) rows
+  all_rows : (P : X → Type 0) (rows : List (CommittedRow X)) → AllByRecursion P (map row_of rows) → AllByRecursion (λ r. P r.row) rows
   all_rows P [] h = tt
   all_rows P (r ∷ rs) h = (h.0, all_rows P rs h.1)
 
-  pub ascending_rows : (rows : List (Numbered X)) → Ascending key (map row_of rows) → Ascending (of_row key) rows
+  pub ascending_rows : (rows : List (CommittedRow X)) → Ascending key (map row_of rows) → Ascending (of_row key) rows
   ascending_rows [] a = tt
   ascending_rows (r ∷ rs) a = (all_rows (λ y. is_before (key r.row) (key y) ≡ true) rs a.0, ascending_rows rs a.1)
 
   -- what a write puts has its number
-  number_of_new : (n : ℕ) (new : Option X) (r : Numbered X) → Within (option_to_list (option_map (numbered n) new)) r → r.commit ≡ n
+  number_of_new : (n : ℕ) (new : Option X) (r : CommittedRow X) → Within (option_to_list (option_map (numbered n) new)) r → r.commit ≡ n
   number_of_new n None r w = absurd w
   number_of_new n (Some x) r w = ⊎_elim (λ e. ap (λ r. r.commit) (sym e)) (λ v. absurd v) w
 
   -- ---- no number is above the version's
 
-  up_to_with_row : (n : ℕ) (k : Bytes) (new : Option X) (rows : List (Numbered X)) → AllByRecursion (λ r. r.commit ≤ n) rows → AllByRecursion (λ r. r.commit ≤ n) (with_row (of_row key) k (option_map (numbered n) new) rows)
+  up_to_with_row : (n : ℕ) (k : Bytes) (new : Option X) (rows : List (CommittedRow X)) → AllByRecursion (λ r. r.commit ≤ n) rows → AllByRecursion (λ r. r.commit ≤ n) (with_row (of_row key) k (option_map (numbered n) new) rows)
   up_to_with_row n k new rows h = All-from_within (λ r. r.commit ≤ n) (with_row (of_row key) k (option_map (numbered n) new) rows)
       (λ r w. ⊎_elim
       (λ v. let e = number_of_new n new r v in omega arith)
@@ -44,52 +44,52 @@ module _ {X : Type 0} (key : X → Bytes) where
 
   -- ---- rows whose numbers aren't above n were there before
 
-  were_there_with_row : (n m : ℕ) (k : Bytes) (new : Option X) (older newer : List (Numbered X)) → n < m → WereThere n older newer → WereThere n older (with_row (of_row key) k (option_map (numbered m) new) newer)
+  were_there_with_row : (n m : ℕ) (k : Bytes) (new : Option X) (older newer : List (CommittedRow X)) → n < m → WereThere n older newer → WereThere n older (with_row (of_row key) k (option_map (numbered m) new) newer)
   were_there_with_row n m k new older newer l h r w u = ⊎_elim
       (λ v. let e = number_of_new m new r v in absurd (omega arith))
       (λ v. h r v.0 u)
       (from_with_row (of_row key) k (option_map (numbered m) new) newer r w)
 
-  tell : (n : ℕ) (older newer : List (Numbered X)) → Ascending key (map row_of older) → AllByRecursion (λ r. r.commit ≤ n) older → WereThere n older newer → TellRows key older newer
+  tell : (n : ℕ) (older newer : List (CommittedRow X)) → Ascending key (map row_of older) → AllByRecursion (λ r. r.commit ≤ n) older → WereThere n older newer → TellRows key older newer
   tell n older newer a u h r s v w e f =
       let l = All-within (λ r. r.commit ≤ n) older r u v in
       same_key (of_row key) older (ascending_rows older a) r s v (h s w (omega arith)) e
 
 -- ---- no number is above the version's
 
-up_to_more : {X : Type 0} (n : ℕ) (rows : List (Numbered X)) → AllByRecursion (λ r. r.commit ≤ n) rows → AllByRecursion (λ r. r.commit ≤ n + 1) rows
+up_to_more : {X : Type 0} (n : ℕ) (rows : List (CommittedRow X)) → AllByRecursion (λ r. r.commit ≤ n) rows → AllByRecursion (λ r. r.commit ≤ n + 1) rows
 up_to_more n [] h = tt
 up_to_more n (r ∷ rs) h = let l = h.0 in (omega arith, up_to_more n rs h.1)
 
-up_to_write : (n : ℕ) (w : Write) (rows : Rows) → AllUpTo n rows → AllUpTo n (rows_after_write n w rows)
+up_to_write : (n : ℕ) (w : RowWrite) (rows : CommittedRows) → AllUpTo n rows → AllUpTo n (rows_after_write n w rows)
 up_to_write n (wrote_entry c) rows h = record { entries = up_to_with_row entry_key n c.key c.new rows.entries h.entries; agents = h.agents; bundles = h.bundles }
 up_to_write n (wrote_agent c) rows h = record { entries = h.entries; agents = up_to_with_row agent_key n c.key c.new rows.agents h.agents; bundles = h.bundles }
 up_to_write n (wrote_bundle c) rows h = record { entries = h.entries; agents = h.agents; bundles = up_to_with_row bundle_key n c.key c.new rows.bundles h.bundles }
 
-up_to_writes : (n : ℕ) (ws : List Write) (rows : Rows) → AllUpTo n rows → AllUpTo n (rows_after n ws rows)
+up_to_writes : (n : ℕ) (ws : List RowWrite) (rows : CommittedRows) → AllUpTo n rows → AllUpTo n (rows_after n ws rows)
 up_to_writes n [] rows h = h
 up_to_writes n (w ∷ ws) rows h = up_to_writes n ws (rows_after_write n w rows) (up_to_write n w rows h)
 
-pub all_up_to_next : (ws : List Write) (s : State) → AllUpTo s.number s.rows → AllUpTo (s.number + 1) (next_state ws s).rows
+pub all_up_to_next : (ws : List RowWrite) (s : State) → AllUpTo s.number s.rows → AllUpTo (s.number + 1) (next_state ws s).rows
 all_up_to_next ws s h = up_to_writes (s.number + 1) ws s.rows (record { entries = up_to_more s.number s.rows.entries h.entries; agents = up_to_more s.number s.rows.agents h.agents; bundles = up_to_more s.number s.rows.bundles h.bundles })
 
 -- ---- rows whose numbers aren't above n were there before
 
-record AllWereThere (n : ℕ) (older newer : Rows) : Type 0 where
+record AllWereThere (n : ℕ) (older newer : CommittedRows) : Type 0 where
   entries : WereThere n older.entries newer.entries
   agents : WereThere n older.agents newer.agents
   bundles : WereThere n older.bundles newer.bundles
 
-there_after_write : (n m : ℕ) (w : Write) (older newer : Rows) → n < m → AllWereThere n older newer → AllWereThere n older (rows_after_write m w newer)
+there_after_write : (n m : ℕ) (w : RowWrite) (older newer : CommittedRows) → n < m → AllWereThere n older newer → AllWereThere n older (rows_after_write m w newer)
 there_after_write n m (wrote_entry c) older newer l h = record { entries = were_there_with_row entry_key n m c.key c.new older.entries newer.entries l h.entries; agents = h.agents; bundles = h.bundles }
 there_after_write n m (wrote_agent c) older newer l h = record { entries = h.entries; agents = were_there_with_row agent_key n m c.key c.new older.agents newer.agents l h.agents; bundles = h.bundles }
 there_after_write n m (wrote_bundle c) older newer l h = record { entries = h.entries; agents = h.agents; bundles = were_there_with_row bundle_key n m c.key c.new older.bundles newer.bundles l h.bundles }
 
-there_after : (n m : ℕ) (ws : List Write) (older newer : Rows) → n < m → AllWereThere n older newer → AllWereThere n older (rows_after m ws newer)
+there_after : (n m : ℕ) (ws : List RowWrite) (older newer : CommittedRows) → n < m → AllWereThere n older newer → AllWereThere n older (rows_after m ws newer)
 there_after n m [] older newer l h = h
 there_after n m (w ∷ ws) older newer l h = there_after n m ws older (rows_after_write m w newer) l (there_after_write n m w older newer l h)
 
-there_since : (n : ℕ) (older : Rows) (batches : List Batch) (s newer : State) → n ≤ s.number → AllWereThere n older s.rows → Follows s batches newer → AllWereThere n older newer.rows
+there_since : (n : ℕ) (older : CommittedRows) (batches : List Batch) (s newer : State) → n ≤ s.number → AllWereThere n older s.rows → Follows s batches newer → AllWereThere n older newer.rows
 there_since n older [] s newer l h f = subst (λ t. AllWereThere n older t.rows) f h
 there_since n older (batch ∷ batches) s newer l h f = there_since n older batches (state_with batch s) newer (omega arith) (there_after n (s.number + 1) (writes_of batch (book_of s.rows)) older s.rows (omega arith) h) f.1
 

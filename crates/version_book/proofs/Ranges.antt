@@ -9,12 +9,12 @@ use Rattle.std.proofs.lemmas.Cmp.{ranked, by_ranked}
 use Rattle.entry_book.specs.Rows.{Bytes, Entry}
 use Rattle.entry_book.specs.Book.{in_group, names, expires_before}
 use Rattle.entry_book.proofs.Sets.{text_is, within_any, from_any}
-use Rattle.version_book.specs.declared.key.Edge.{Edge}
-use Rattle.version_book.specs.declared.key.Edge.TheVariants.{Start, At, End}
-use Rattle.version_book.specs.declared.mark.Named.{Named}
-use Rattle.version_book.specs.declared.mark.Named.TheVariants as mark
-use Rattle.version_book.specs.declared.mark.Span.TheVariants.{Groups, Users, Expiries}
-use Rattle.version_book.specs.Index.{GroupKey, UserKey, ExpiryKey, group_keys, user_keys, expiry_keys, is_between, Covers, span_of}
+use Rattle.version_book.specs.declared.key.KeyPart.{KeyPart}
+use Rattle.version_book.specs.declared.key.KeyPart.TheVariants.{Start, At, End}
+use Rattle.version_book.specs.declared.mark.MarkKind.{MarkKind}
+use Rattle.version_book.specs.declared.mark.MarkKind.TheVariants as mark
+use Rattle.version_book.specs.declared.mark.IndexRange.TheVariants.{Groups, Users, Expiries}
+use Rattle.version_book.specs.Index.{GroupKey, UserKey, ExpiryKey, group_keys, user_keys, expiry_keys, is_between, Covers, index_range_of}
 use Rattle.version_book.specs.Marks.{names_entry}
 use Rattle.version_book.proofs.KeyOrders.{bytes_cmp, group_cmp, user_cmp, expiry_cmp, from_users, within_users, from_expiry}
 
@@ -65,7 +65,7 @@ covers_children parent = covers_one group_cmp (λ e. (e.parent, At e.identity, A
 pub covers_users : (domain : Bytes) → Covers user_cmp user_keys (domain, Start) (domain, End) (names domain)
 covers_users domain =
     let test : (d id : Bytes) → is_between user_cmp (domain, Start) (domain, End) (d, At id) ≡ bytes_eq d domain = λ d id. around (bytes_cmp d domain) ∙ sym (texts_ties d domain) in
-    let here : (id : Bytes) (k : UserKey) → k.1 ≡ At id → is_between user_cmp (domain, Start) (domain, End) k ≡ true → bytes_eq k.0 domain ≡ true = λ id k q b. sym (test k.0 id) ∙ (ap (λ (x : Edge Bytes). is_between user_cmp (domain, Start) (domain, End) (k.0, x)) (sym q) ∙ b) in
+    let here : (id : Bytes) (k : UserKey) → k.1 ≡ At id → is_between user_cmp (domain, Start) (domain, End) k ≡ true → bytes_eq k.0 domain ≡ true = λ id k q b. sym (test k.0 id) ∙ (ap (λ (x : KeyPart Bytes). is_between user_cmp (domain, Start) (domain, End) (k.0, x)) (sym q) ∙ b) in
     record {
       sound = λ e k w b. let r = from_users e.id e.domains k w in within_any (λ d. bytes_eq d domain) e.domains k.0 r.0 (here e.id k r.1 b);
       complete = λ e t. let r = from_any (λ d. bytes_eq d domain) e.domains t in ((r.0, At e.id), within_users e.id e.domains r.0 r.1, test r.0 e.id ∙ r.2);
@@ -99,7 +99,7 @@ covers_expiries moment =
 
 -- ---- the ranges of marks
 
-pub covers_groups_of : (m : Named) (lo hi : GroupKey) → span_of m ≡ Groups lo hi → Covers group_cmp group_keys lo hi (names_entry m)
+pub covers_groups_of : (m : MarkKind) (lo hi : GroupKey) → index_range_of m ≡ Groups lo hi → Covers group_cmp group_keys lo hi (names_entry m)
 covers_groups_of (mark.Entry id) lo hi e = cc
 covers_groups_of (mark.Group parent identity) lo hi e =
     let low : (parent, At identity, Start) ≡ lo = cc in
@@ -114,7 +114,7 @@ covers_groups_of (mark.Expiring moment) lo hi e = cc
 covers_groups_of (mark.Agent id) lo hi e = cc
 covers_groups_of (mark.Bundle domain) lo hi e = cc
 
-pub covers_users_of : (m : Named) (lo hi : UserKey) → span_of m ≡ Users lo hi → Covers user_cmp user_keys lo hi (names_entry m)
+pub covers_users_of : (m : MarkKind) (lo hi : UserKey) → index_range_of m ≡ Users lo hi → Covers user_cmp user_keys lo hi (names_entry m)
 covers_users_of (mark.Entry id) lo hi e = cc
 covers_users_of (mark.Group parent identity) lo hi e = cc
 covers_users_of (mark.Children parent) lo hi e = cc
@@ -126,7 +126,7 @@ covers_users_of (mark.Expiring moment) lo hi e = cc
 covers_users_of (mark.Agent id) lo hi e = cc
 covers_users_of (mark.Bundle domain) lo hi e = cc
 
-pub covers_expiries_of : (m : Named) (lo hi : ExpiryKey) → span_of m ≡ Expiries lo hi → Covers expiry_cmp expiry_keys lo hi (names_entry m)
+pub covers_expiries_of : (m : MarkKind) (lo hi : ExpiryKey) → index_range_of m ≡ Expiries lo hi → Covers expiry_cmp expiry_keys lo hi (names_entry m)
 covers_expiries_of (mark.Entry id) lo hi e = cc
 covers_expiries_of (mark.Group parent identity) lo hi e = cc
 covers_expiries_of (mark.Children parent) lo hi e = cc

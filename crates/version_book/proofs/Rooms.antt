@@ -21,10 +21,10 @@ use Rattle.entry_book.specs.declared.op.Op.TheVariants.{Create, Update, Delete, 
 use Rattle.entry_book.specs.Rows.{Bytes, Entry, at_revision, given_of, entry_key, agent_key, bundle_key}
 use Rattle.entry_book.specs.Order.{Within, is_before, with_row}
 use Rattle.entry_book.specs.Book.{Book, AscendingBook, entry_at, agent_at, bundle_at, names, users_of, expired_before}
-use Rattle.entry_book.specs.Writes.{Write, wrote_entry, wrote_agent, wrote_bundle, FitsBook, FitAll, after, after_write}
+use Rattle.entry_book.specs.Writes.{RowWrite, wrote_entry, wrote_agent, wrote_bundle, FitsBook, FitAll, after, after_write}
 use Rattle.entry_book.specs.Batches.{IsProperOp, entry_fault, op_fault, is_foreign, has_no_path, is_outside}
-use Rattle.entry_book.specs.Ops.{Done, Answer, similar, lacking, put_named, put_beside, create_over, is_stale, update_when, update_over, removed, delete_when, delete_over, for_agent, agent_dropped, bundle_removed, freed, drop_in, drop_over, op_of}
-use Rattle.entry_book.specs.Runs.{Ran, Stop, RunResult, onto, then_run, run}
+use Rattle.entry_book.specs.Ops.{OpEffect, OpResult, similar, lacking, put_named, put_beside, create_over, is_stale, update_when, update_over, removed, delete_when, delete_over, for_agent, agent_dropped, bundle_removed, freed, drop_in, drop_over, op_of}
+use Rattle.entry_book.specs.Runs.{RunEffect, RefusedOp, RunResult, onto, then_run, run}
 use Rattle.entry_book.specs.Lawful.{Lawful}
 use Rattle.version_book.specs.Laws.{RoomInRun}
 use Rattle.version_book.specs.Room.{RoomFor, RoomAll, count_of_names}
@@ -99,17 +99,17 @@ module _ {X : Type 0} (key : X → Bytes) where
 
 -- ---- the sizes of a book, through writes that fit
 
-abbrev growth : Write → ℕ
+abbrev growth : RowWrite → ℕ
 growth (wrote_entry c) = grows c.old c.new
 growth (wrote_agent c) = grows c.old c.new
 growth (wrote_bundle c) = grows c.old c.new
 
-growth_by_one : (w : Write) → growth w ≤ 1
+growth_by_one : (w : RowWrite) → growth w ≤ 1
 growth_by_one (wrote_entry c) = grows_by_one c.old c.new
 growth_by_one (wrote_agent c) = grows_by_one c.old c.new
 growth_by_one (wrote_bundle c) = grows_by_one c.old c.new
 
-abbrev growth_of : List Write → ℕ
+abbrev growth_of : List RowWrite → ℕ
 growth_of [] = 0
 growth_of (w ∷ ws) = growth w + growth_of ws
 
@@ -117,7 +117,7 @@ abbrev HasFewNames : Entry → Type 0
 HasFewNames e = length e.domains ≤ 8
 
 -- an entry that is put has few names
-abbrev PutsFewNames : Write → Type 0
+abbrev PutsFewNames : RowWrite → Type 0
 PutsFewNames (wrote_entry c) = IfSome c.new HasFewNames
 PutsFewNames (wrote_agent c) = ⊤
 PutsFewNames (wrote_bundle c) = ⊤
@@ -136,7 +136,7 @@ few_after k new rows h n = All-from_within HasFewNames (with_row entry_key k new
     new_few None e h w = absurd w
     new_few (Some x) e h w = ⊎_elim (λ q. subst HasFewNames q h) (λ v. absurd v) w
 
-small_after : (n : ℕ) (w : Write) (b : Book) → FitsBook w b → PutsFewNames w → IsSmall n b → IsSmall (n + growth w) (after_write w b)
+small_after : (n : ℕ) (w : RowWrite) (b : Book) → FitsBook w b → PutsFewNames w → IsSmall n b → IsSmall (n + growth w) (after_write w b)
 small_after n (wrote_entry c) b f p s =
     let a = s.entries in let u = s.agents in let d = s.bundles in
     let g = size_after entry_key c.key c.old c.new b.entries f.found in
@@ -158,12 +158,12 @@ if_some : {X : Type 0} (P : X → Type 0) (o : Option X) → ((x : X) → P x) �
 if_some P None h = tt
 if_some P (Some x) h = h x
 
-room_for : (n : ℕ) (w : Write) (b : Book) → n ≤ 64 → IsSmall n (after_write w b) → RoomFor w b
+room_for : (n : ℕ) (w : RowWrite) (b : Book) → n ≤ 64 → IsSmall n (after_write w b) → RoomFor w b
 room_for n (wrote_entry c) b l s = if_some _ c.new (λ e. let a = s.entries in let r = names_le (after_write (wrote_entry c) b).entries s.few in (omega arith, omega arith))
 room_for n (wrote_agent c) b l s = if_some _ c.new (λ x. let a = s.agents in omega arith)
 room_for n (wrote_bundle c) b l s = if_some _ c.new (λ d. let a = s.bundles in omega arith)
 
-room_all : (n : ℕ) (ws : List Write) (b : Book) → n + growth_of ws ≤ 64 → FitAll ws b → AllByRecursion PutsFewNames ws → IsSmall n b → RoomAll ws b
+room_all : (n : ℕ) (ws : List RowWrite) (b : Book) → n + growth_of ws ≤ 64 → FitAll ws b → AllByRecursion PutsFewNames ws → IsSmall n b → RoomAll ws b
 room_all n [] b l f p s = tt
 room_all n (w ∷ ws) b l f p s =
     let t = small_after n w b f.0 p.0 s in
@@ -189,7 +189,7 @@ few_names own e h = let q = few_domains own e h in grind (arith, nat_tests, q)
 
 -- ---- each operation adds at most one row
 
-record AreModest (n : ℕ) (ws : List Write) : Type 0 where
+record AreModest (n : ℕ) (ws : List RowWrite) : Type 0 where
   grow : growth_of ws ≤ n
   few : AllByRecursion PutsFewNames ws
 
@@ -197,20 +197,20 @@ all_append : {X : Type 0} (P : X → Type 0) (xs ys : List X) → AllByRecursion
 all_append P [] ys h k = k
 all_append P (x ∷ xs) ys h k = (h.0, all_append P xs ys h.1 k)
 
-growth-append : (xs ys : List Write) → growth_of (xs ++ ys) ≡ growth_of xs + growth_of ys
+growth-append : (xs ys : List RowWrite) → growth_of (xs ++ ys) ≡ growth_of xs + growth_of ys
 growth-append [] ys = omega arith
 growth-append (x ∷ xs) ys = let h = growth-append xs ys in omega arith
 
-modest_both : (m n : ℕ) (xs ys : List Write) → AreModest m xs → AreModest n ys → AreModest (m + n) (xs ++ ys)
+modest_both : (m n : ℕ) (xs ys : List RowWrite) → AreModest m xs → AreModest n ys → AreModest (m + n) (xs ++ ys)
 modest_both m n xs ys h k = record { grow = let a = h.grow in let b = k.grow in let c = growth-append xs ys in omega arith; few = all_append PutsFewNames xs ys h.few k.few }
 
-modest_one : (w : Write) → PutsFewNames w → AreModest 1 (w ∷ [])
+modest_one : (w : RowWrite) → PutsFewNames w → AreModest 1 (w ∷ [])
 modest_one w p = record { grow = let h = growth_by_one w in omega arith; few = (p, tt) }
 
 modest_none : AreModest 1 []
 modest_none = record { grow = omega arith; few = tt }
 
-modest_more : (ws : List Write) → AreModest 0 ws → AreModest 1 ws
+modest_more : (ws : List RowWrite) → AreModest 0 ws → AreModest 1 ws
 modest_more ws h = record { grow = let k = h.grow in omega arith; few = h.few }
 
 modest_removed : (es : List Entry) → AreModest 0 (map removed es)
@@ -225,7 +225,7 @@ modest_freed domain (e ∷ es) h =
     let k = h.0 in
     record { grow = let g = r.grow in omega arith; few = (omega arith, r.few) }
 
-abbrev IsModest : Answer → Type 0
+abbrev IsModest : OpResult → Type 0
 IsModest o = IfOk o (λ d. AreModest 1 d.writes)
 
 named_modest : (q : Option Bytes) (old : Option Entry) (e : Entry) → HasFewNames e → IsModest (put_named q old e)
@@ -256,7 +256,7 @@ delete_modest : (o : Option Entry) (expected : Option ℕ) → IsModest (delete_
 delete_modest None expected = tt
 delete_modest (Some e) expected = delete_modest_when (is_stale expected e) e
 
-read_modest : (o : Option Agent) (f : Agent → Answer) → ((a : Agent) → IsModest (f a)) → IsModest (for_agent o f)
+read_modest : (o : Option Agent) (f : Agent → OpResult) → ((a : Agent) → IsModest (f a)) → IsModest (for_agent o f)
 read_modest None f h = tt
 read_modest (Some a) f h = h a
 
@@ -297,11 +297,11 @@ op_modest own (DropBundle k m) b f h = drop_modest (bundle_at k b) k m b h
 abbrev RunsModestly : ℕ → RunResult → Type 0
 RunsModestly n r = IfOk r (λ t. AreModest n t.writes)
 
-onto_modest : (n : ℕ) (d : Done) (r : RunResult) → AreModest 1 d.writes → RunsModestly n r → RunsModestly (1 + n) (onto d r)
+onto_modest : (n : ℕ) (d : OpEffect) (r : RunResult) → AreModest 1 d.writes → RunsModestly n r → RunsModestly (1 + n) (onto d r)
 onto_modest n d (Ok t) h k = modest_both 1 n d.writes t.writes h k
 onto_modest n d (Err s) h k = tt
 
-then_modest : (own : Bytes) (m n : ℕ) (b : Book) (o : Answer) (f : Done → RunResult) → IfOk o (λ d. Lawful own m (after d.writes b)) → IsModest o → ((d : Done) → Lawful own m (after d.writes b) → RunsModestly n (f d)) → RunsModestly (1 + n) (then_run o f)
+then_modest : (own : Bytes) (m n : ℕ) (b : Book) (o : OpResult) (f : OpEffect → RunResult) → IfOk o (λ d. Lawful own m (after d.writes b)) → IsModest o → ((d : OpEffect) → Lawful own m (after d.writes b) → RunsModestly n (f d)) → RunsModestly (1 + n) (then_run o f)
 then_modest own m n b (Ok d) f l h k = onto_modest n d (f d) h (k d l)
 then_modest own m n b (Err r) f l h k = tt
 
@@ -312,8 +312,8 @@ run_modest own m (op ∷ ops) b p f l =
     subst (λ n. RunsModestly n (run own (op ∷ ops) b)) q
     (then_modest own (m + 1) (length ops) b (op_of own op b) (λ d. run own ops (after d.writes b)) (op_keeps own m op b p.0 f.0 l) (op_modest own op b f.0 (few_in own m b l)) (λ d k. run_modest own (m + 1) ops (after d.writes b) p.1 f.1 k))
 
-of_run : (P : Ran → Type 0) (r : RunResult) (t : Ran) → r ≡ Ok t → IfOk r P → P t
-of_run P r t e h = let k : IfOk {E = Stop} (Ok t) P = subst (λ r. IfOk r P) e h in k
+of_run : (P : RunEffect → Type 0) (r : RunResult) (t : RunEffect) → r ≡ Ok t → IfOk r P → P t
+of_run P r t e h = let k : IfOk {E = RefusedOp} (Ok t) P = subst (λ r. IfOk r P) e h in k
 
 pub room_in_run : RoomInRun
 room_in_run own most batch b t made l w e =

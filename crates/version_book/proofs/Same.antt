@@ -11,10 +11,10 @@ use Rattle.version_shelf.specs.Shelf.{IsInOrder, rows_between}
 use Rattle.entry_book.specs.Rows.{Entry, entry_key}
 use Rattle.entry_book.specs.Order.{Within, Ascending}
 use Rattle.entry_book.proofs.Sets.{All-within, ascending_filter, from_within_filter, within_filter, same_sets}
-use Rattle.version_book.specs.declared.key.Edge.TheVariants.{Start, At, End}
-use Rattle.version_book.specs.declared.numbered.Numbered.{Numbered}
+use Rattle.version_book.specs.declared.key.KeyPart.TheVariants.{Start, At, End}
+use Rattle.version_book.specs.declared.committed_row.CommittedRow.{CommittedRow}
 use Rattle.version_book.specs.Index.{Covers, IsIndex, is_between}
-use Rattle.version_book.specs.Numbered.{of_row}
+use Rattle.version_book.specs.CommittedRows.{of_row}
 use Rattle.version_book.specs.Stores.{TellRows, stamp, stamps}
 use Rattle.version_book.proofs.KeyOrders.{bytes_cmp, id_cmp, identity_cmp, group_cmp, user_cmp, expiry_cmp}
 use Rattle.version_book.proofs.Mapped.{from_within_map, within_map}
@@ -89,30 +89,30 @@ module _ {K V : Type 0} (cmp : K → K → Ordering) (turns : Turns cmp) where
 -- ---- the entries of a range and their keys
 
 module _ {K : Type 0} (cmp : K → K → Ordering) (keys : Entry → List K) (lo hi : K) (p : Entry → Bool) (covers : Covers cmp keys lo hi p) where
-  in_range : (rows : List (Numbered Entry)) (index : List (K × Numbered Entry)) → IsIndex keys rows index → (r : Numbered Entry) → Within (filter (of_row p) rows) r → (k : K) × Within (rows_between cmp index lo hi) (k, r)
+  in_range : (rows : List (CommittedRow Entry)) (index : List (K × CommittedRow Entry)) → IsIndex keys rows index → (r : CommittedRow Entry) → Within (filter (of_row p) rows) r → (k : K) × Within (rows_between cmp index lo hi) (k, r)
   in_range rows index i r w =
       let f = from_within_filter (of_row p) rows r w in
       let c = covers.complete r.row f.1 in
       (c.0, within_filter (λ row. is_between cmp lo hi row.0) index (c.0, r) (i.complete c.0 r f.0 c.1) c.2)
 
-  from_range : (rows : List (Numbered Entry)) (index : List (K × Numbered Entry)) → IsIndex keys rows index → (x : K × Numbered Entry) → Within (rows_between cmp index lo hi) x → Within (filter (of_row p) rows) x.1 × Within (keys x.1.row) x.0 × (is_between cmp lo hi x.0 ≡ true)
+  from_range : (rows : List (CommittedRow Entry)) (index : List (K × CommittedRow Entry)) → IsIndex keys rows index → (x : K × CommittedRow Entry) → Within (rows_between cmp index lo hi) x → Within (filter (of_row p) rows) x.1 × Within (keys x.1.row) x.0 × (is_between cmp lo hi x.0 ≡ true)
   from_range rows index i x w =
       let f = from_within_filter (λ row. is_between cmp lo hi row.0) index x w in
       let s = i.sound x.0 x.1 f.0 in
       (within_filter (of_row p) rows x.1 s.0 (covers.sound x.1.row x.0 s.1 f.1), s.1, f.1)
 
-  across : (rows others : List (Numbered Entry)) (one other : List (K × Numbered Entry)) → IsIndex keys rows one → IsIndex keys others other → filter (of_row p) rows ≡ filter (of_row p) others → (x : K × Numbered Entry) → Within (rows_between cmp one lo hi) x → Within (rows_between cmp other lo hi) x
+  across : (rows others : List (CommittedRow Entry)) (one other : List (K × CommittedRow Entry)) → IsIndex keys rows one → IsIndex keys others other → filter (of_row p) rows ≡ filter (of_row p) others → (x : K × CommittedRow Entry) → Within (rows_between cmp one lo hi) x → Within (rows_between cmp other lo hi) x
   across rows others one other i j e x w =
       let f = from_range rows one i x w in
       let there = from_within_filter (of_row p) others x.1 (subst (λ l. Within l x.1) e f.0) in
       within_filter (λ row. is_between cmp lo hi row.0) other x (j.complete x.0 x.1 there.0 f.1) f.2
 
   -- the same rows have the same stamps
-  pub range_same : Turns cmp → (rows others : List (Numbered Entry)) (one other : List (K × Numbered Entry)) → IsIndex keys rows one → IsIndex keys others other → IsInOrder cmp (rows_between cmp one lo hi) → IsInOrder cmp (rows_between cmp other lo hi) → filter (of_row p) rows ≡ filter (of_row p) others → stamps (rows_between cmp one lo hi) ≡ stamps (rows_between cmp other lo hi)
+  pub range_same : Turns cmp → (rows others : List (CommittedRow Entry)) (one other : List (K × CommittedRow Entry)) → IsIndex keys rows one → IsIndex keys others other → IsInOrder cmp (rows_between cmp one lo hi) → IsInOrder cmp (rows_between cmp other lo hi) → filter (of_row p) rows ≡ filter (of_row p) others → stamps (rows_between cmp one lo hi) ≡ stamps (rows_between cmp other lo hi)
   range_same turns rows others one other i j sorted ordered e = ap stamps (same_members cmp turns (rows_between cmp one lo hi) (rows_between cmp other lo hi) sorted ordered (across rows others one other i j e) (across others rows other one j i (sym e)))
 
   -- a row with the stamp of another, of which the stamp tells it, is that row
-  found : (rows others : List (Numbered Entry)) (one other : List (K × Numbered Entry)) → IsIndex keys rows one → IsIndex keys others other → ((r s : Numbered Entry) → Within rows r → Within others s → entry_key r.row ≡ entry_key s.row → r.commit ≡ s.commit → r ≡ s) → stamps (rows_between cmp one lo hi) ≡ stamps (rows_between cmp other lo hi) → (r : Numbered Entry) → Within (filter (of_row p) rows) r → Within (filter (of_row p) others) r
+  found : (rows others : List (CommittedRow Entry)) (one other : List (K × CommittedRow Entry)) → IsIndex keys rows one → IsIndex keys others other → ((r s : CommittedRow Entry) → Within rows r → Within others s → entry_key r.row ≡ entry_key s.row → r.commit ≡ s.commit → r ≡ s) → stamps (rows_between cmp one lo hi) ≡ stamps (rows_between cmp other lo hi) → (r : CommittedRow Entry) → Within (filter (of_row p) rows) r → Within (filter (of_row p) others) r
   found rows others one other i j tells e r w =
       let a = in_range rows one i r w in
       let b = from_within_map (stamp {K = K}) (rows_between cmp other lo hi) (stamp (a.0, r)) (subst (λ l. Within l (stamp {K = K} (a.0, r))) e (within_map (stamp {K = K}) (rows_between cmp one lo hi) (a.0, r) a.1)) in
@@ -121,20 +121,20 @@ module _ {K : Type 0} (cmp : K → K → Ordering) (keys : Entry → List K) (lo
       subst (Within (filter (of_row p) others)) (sym same) s.0
 
   -- the same stamps are of the same rows
-  pub range_tells : (rows others : List (Numbered Entry)) (one other : List (K × Numbered Entry)) → IsIndex keys rows one → IsIndex keys others other → Ascending (of_row entry_key) rows → Ascending (of_row entry_key) others → TellRows entry_key rows others → stamps (rows_between cmp one lo hi) ≡ stamps (rows_between cmp other lo hi) → filter (of_row p) rows ≡ filter (of_row p) others
+  pub range_tells : (rows others : List (CommittedRow Entry)) (one other : List (K × CommittedRow Entry)) → IsIndex keys rows one → IsIndex keys others other → Ascending (of_row entry_key) rows → Ascending (of_row entry_key) others → TellRows entry_key rows others → stamps (rows_between cmp one lo hi) ≡ stamps (rows_between cmp other lo hi) → filter (of_row p) rows ≡ filter (of_row p) others
   range_tells rows others one other i j a b tells e = same_sets (of_row entry_key) (filter (of_row p) rows) (filter (of_row p) others) (ascending_filter (of_row entry_key) (of_row p) rows a) (ascending_filter (of_row entry_key) (of_row p) others b)
       (found rows others one other i j tells e)
       (found others rows other one j i (λ s r v w k n. sym (tells r s w v (sym k) (sym n))) (sym e))
 
 -- ---- a row alone
 
-pub row_same : (one other : Option (Numbered Entry)) → option_to_list one ≡ option_to_list other → option_map (λ r. r.commit) one ≡ option_map (λ r. r.commit) other
+pub row_same : (one other : Option (CommittedRow Entry)) → option_to_list one ≡ option_to_list other → option_map (λ r. r.commit) one ≡ option_map (λ r. r.commit) other
 row_same None None e = refl
 row_same None (Some s) e = cc
 row_same (Some r) None e = cc
 row_same (Some r) (Some s) e = let q : r ≡ s = cc in ap (λ x. Some x.commit) q
 
-pub row_tells : (p : Entry → Bool) (rows others : List (Numbered Entry)) (one other : Option (Numbered Entry)) → filter (of_row p) rows ≡ option_to_list one → filter (of_row p) others ≡ option_to_list other → ((r s : Numbered Entry) → p r.row ≡ true → p s.row ≡ true → r.row.id ≡ s.row.id) → TellRows entry_key rows others → option_map (λ r. r.commit) one ≡ option_map (λ r. r.commit) other → filter (of_row p) rows ≡ filter (of_row p) others
+pub row_tells : (p : Entry → Bool) (rows others : List (CommittedRow Entry)) (one other : Option (CommittedRow Entry)) → filter (of_row p) rows ≡ option_to_list one → filter (of_row p) others ≡ option_to_list other → ((r s : CommittedRow Entry) → p r.row ≡ true → p s.row ≡ true → r.row.id ≡ s.row.id) → TellRows entry_key rows others → option_map (λ r. r.commit) one ≡ option_map (λ r. r.commit) other → filter (of_row p) rows ≡ filter (of_row p) others
 row_tells p rows others None None a b alone tells e = a ∙ sym b
 row_tells p rows others None (Some s) a b alone tells e = cc
 row_tells p rows others (Some r) None a b alone tells e = cc

@@ -13,11 +13,11 @@ use Rattle.version_shelf.specs.Shelf.{IsInOrder}
 use Rattle.entry_book.specs.Rows.{Bytes, Entry}
 use Rattle.entry_book.specs.Order.{Within}
 use Rattle.entry_book.proofs.Sets.{All-within, within_left, within_right}
-use Rattle.version_book.specs.declared.key.Edge.{Edge}
-use Rattle.version_book.specs.declared.key.Edge.TheVariants.{Start, At, End}
-use Rattle.version_book.specs.declared.numbered.Numbered.{Numbered}
+use Rattle.version_book.specs.declared.key.KeyPart.{KeyPart}
+use Rattle.version_book.specs.declared.key.KeyPart.TheVariants.{Start, At, End}
+use Rattle.version_book.specs.declared.committed_row.CommittedRow.{CommittedRow}
 use Rattle.version_book.specs.Index.{GroupKey, UserKey, ExpiryKey, group_keys, user_keys, expiry_keys, IsIndex}
-use Rattle.version_book.specs.Numbered.{row_of}
+use Rattle.version_book.specs.CommittedRows.{row_of}
 use Rattle.version_book.specs.Room.{count_of_names}
 use Rattle.version_book.specs.Stores.{count_of_keys}
 use Rattle.version_book.proofs.KeyOrders.{bytes_cmp, id_cmp, identity_cmp, group_cmp, user_cmp, expiry_cmp}
@@ -55,7 +55,7 @@ module _ {X : Type 0} where
 
 -- ---- each row under each of its keys
 
-abbrev all_rows : {K : Type 0} → (Entry → List K) → List (Numbered Entry) → List (K × Numbered Entry)
+abbrev all_rows : {K : Type 0} → (Entry → List K) → List (CommittedRow Entry) → List (K × CommittedRow Entry)
 all_rows keys [] = []
 all_rows keys (r ∷ rs) = map (λ k. (k, r)) (keys r.row) ++ all_rows keys rs
 
@@ -68,17 +68,17 @@ within_under v [] k w = absurd w
 within_under {K} v (c ∷ cs) k w = ⊎_elim (λ e. inl (ap (λ (d : K). (d, v)) e)) (λ u. inr (within_under v cs k u)) w
 
 module _ {K : Type 0} (keys : Entry → List K) where
-  length-all_rows : (rows : List (Numbered Entry)) → length (all_rows keys rows) ≡ count_of_keys keys rows
+  length-all_rows : (rows : List (CommittedRow Entry)) → length (all_rows keys rows) ≡ count_of_keys keys rows
   length-all_rows [] = refl
   length-all_rows (r ∷ rs) =
       let here = length-under r (keys r.row) in
       let rest = length-all_rows rs in
       length-append (map (λ k. (k, r)) (keys r.row)) (all_rows keys rs) ∙ (λ i. here i + rest i)
 
-  within_all_rows : (rows : List (Numbered Entry)) (k : K) (r : Numbered Entry) → Within rows r → Within (keys r.row) k → Within (all_rows keys rows) (k, r)
+  within_all_rows : (rows : List (CommittedRow Entry)) (k : K) (r : CommittedRow Entry) → Within rows r → Within (keys r.row) k → Within (all_rows keys rows) (k, r)
   within_all_rows [] k r w v = absurd w
   within_all_rows (s ∷ rs) k r w v = ⊎_elim
-      (λ e. within_left (map (λ k. (k, s)) (keys s.row)) (all_rows keys rs) (k, r) (subst (λ (t : Numbered Entry). Within {X = K × Numbered Entry} (map (λ k. (k, t)) (keys s.row)) (k, r)) (sym e) (within_under r (keys s.row) k (subst (λ (t : Numbered Entry). Within (keys t.row) k) (sym e) v))))
+      (λ e. within_left (map (λ k. (k, s)) (keys s.row)) (all_rows keys rs) (k, r) (subst (λ (t : CommittedRow Entry). Within {X = K × CommittedRow Entry} (map (λ k. (k, t)) (keys s.row)) (k, r)) (sym e) (within_under r (keys s.row) k (subst (λ (t : CommittedRow Entry). Within (keys t.row) k) (sym e) v))))
       (λ u. within_right (map (λ k. (k, s)) (keys s.row)) (all_rows keys rs) (k, r) (within_all_rows rs k r u v))
       w
 
@@ -96,13 +96,13 @@ module _ {K : Type 0} (cmp : K → K → Ordering) (itself : (k : K) → cmp k k
     distinct rs (sorted_tail cmp r.0 (keys_of rs) sorted),
   )
 
-  pub index_size_by : (keys : Entry → List K) (rows : List (Numbered Entry)) (index : List (K × Numbered Entry)) → IsInOrder cmp index → IsIndex keys rows index → length index ≤ count_of_keys keys rows
+  pub index_size_by : (keys : Entry → List K) (rows : List (CommittedRow Entry)) (index : List (K × CommittedRow Entry)) → IsInOrder cmp index → IsIndex keys rows index → length index ≤ count_of_keys keys rows
   index_size_by keys rows index sorted i =
       let within = no_longer index (all_rows keys rows) (distinct index sorted) (λ x w. let r = i.sound x.0 x.1 w in within_all_rows keys rows x.0 x.1 r.0 r.1) in
       let size = length-all_rows keys rows in
       omega arith
 
-pub index_size : {K : Type 0} {cmp : K → K → Ordering} → IsTotalOrder cmp → (keys : Entry → List K) (rows : List (Numbered Entry)) (index : List (K × Numbered Entry)) → IsInOrder cmp index → IsIndex keys rows index → length index ≤ count_of_keys keys rows
+pub index_size : {K : Type 0} {cmp : K → K → Ordering} → IsTotalOrder cmp → (keys : Entry → List K) (rows : List (CommittedRow Entry)) (index : List (K × CommittedRow Entry)) → IsInOrder cmp index → IsIndex keys rows index → length index ≤ count_of_keys keys rows
 index_size {K} {cmp} o keys rows index sorted i = index_size_by cmp (tied_itself o) keys rows index sorted i
 
 -- ---- the indexes of a version
@@ -113,23 +113,23 @@ then_equal a b p q = rw (p, q) refl
 bytes_itself : (x : Bytes) → bytes_cmp x x ≡ Equal
 bytes_itself x = tied_itself nat_list_cmp_total x
 
-id_itself : (x : Edge Bytes) → id_cmp x x ≡ Equal
+id_itself : (x : KeyPart Bytes) → id_cmp x x ≡ Equal
 id_itself Start = refl
 id_itself (At x) = bytes_itself x
 id_itself End = refl
 
-identity_itself : (x : Edge Bytes) → identity_cmp x x ≡ Equal
+identity_itself : (x : KeyPart Bytes) → identity_cmp x x ≡ Equal
 identity_itself Start = refl
 identity_itself (At x) = bytes_itself x
 identity_itself End = refl
 
-pub groups_size : (rows : List (Numbered Entry)) (index : List (GroupKey × Numbered Entry)) → IsInOrder group_cmp index → IsIndex group_keys rows index → length index ≤ count_of_keys group_keys rows
+pub groups_size : (rows : List (CommittedRow Entry)) (index : List (GroupKey × CommittedRow Entry)) → IsInOrder group_cmp index → IsIndex group_keys rows index → length index ≤ count_of_keys group_keys rows
 groups_size rows index sorted i = index_size_by group_cmp (λ k. then_equal _ _ (then_equal _ _ (bytes_itself k.0) (identity_itself k.1)) (id_itself k.2)) group_keys rows index sorted i
 
-pub users_size : (rows : List (Numbered Entry)) (index : List (UserKey × Numbered Entry)) → IsInOrder user_cmp index → IsIndex user_keys rows index → length index ≤ count_of_keys user_keys rows
+pub users_size : (rows : List (CommittedRow Entry)) (index : List (UserKey × CommittedRow Entry)) → IsInOrder user_cmp index → IsIndex user_keys rows index → length index ≤ count_of_keys user_keys rows
 users_size rows index sorted i = index_size_by user_cmp (λ k. then_equal _ _ (bytes_itself k.0) (id_itself k.1)) user_keys rows index sorted i
 
-pub expiries_size : (rows : List (Numbered Entry)) (index : List (ExpiryKey × Numbered Entry)) → IsInOrder expiry_cmp index → IsIndex expiry_keys rows index → length index ≤ count_of_keys expiry_keys rows
+pub expiries_size : (rows : List (CommittedRow Entry)) (index : List (ExpiryKey × CommittedRow Entry)) → IsInOrder expiry_cmp index → IsIndex expiry_keys rows index → length index ≤ count_of_keys expiry_keys rows
 expiries_size rows index sorted i = index_size_by expiry_cmp (λ k. then_equal _ _ (tied_itself nat_cmp_total k.0) (id_itself k.1)) expiry_keys rows index sorted i
 
 -- ---- how many keys there are
@@ -144,17 +144,17 @@ length_if false x = omega arith
 pub length-expiry_keys : (e : Entry) → length (expiry_keys e) ≤ 1
 length-expiry_keys e = length_if (nat_lt 0 e.expiry) (e.expiry, At e.id)
 
-pub count_of_groups : (rows : List (Numbered Entry)) → count_of_keys group_keys rows ≡ length rows
+pub count_of_groups : (rows : List (CommittedRow Entry)) → count_of_keys group_keys rows ≡ length rows
 count_of_groups [] = refl
 count_of_groups (r ∷ rs) = let rest = count_of_groups rs in omega arith
 
-pub count_of_users : (rows : List (Numbered Entry)) → count_of_keys user_keys rows ≡ count_of_names (map row_of rows)
+pub count_of_users : (rows : List (CommittedRow Entry)) → count_of_keys user_keys rows ≡ count_of_names (map row_of rows)
 count_of_users [] = refl
 count_of_users (r ∷ rs) =
     let rest = count_of_users rs in
     let here = length-user_keys r.row in
     λ i. here i + rest i
 
-pub count_of_expiries : (rows : List (Numbered Entry)) → count_of_keys expiry_keys rows ≤ length rows
+pub count_of_expiries : (rows : List (CommittedRow Entry)) → count_of_keys expiry_keys rows ≤ length rows
 count_of_expiries [] = omega arith
 count_of_expiries (r ∷ rs) = let rest = count_of_expiries rs in let here = length-expiry_keys r.row in omega arith

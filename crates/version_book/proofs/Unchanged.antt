@@ -4,16 +4,16 @@ use Rattle.std.proofs.lemmas.Bool.{both_ways, cases_Bool}
 use Rattle.std.proofs.Common.{⊎_elim}
 use Rattle.entry_book.specs.Batches.{Batch}
 use Rattle.entry_book.specs.Book.{AscendingBook}
-use Rattle.version_book.specs.declared.mark.Named.{Named}
+use Rattle.version_book.specs.declared.mark.MarkKind.{MarkKind}
 use Rattle.version_book.specs.Marks.{Agree}
-use Rattle.version_book.specs.Numbered.{State, AllUpTo, book_of, marked}
+use Rattle.version_book.specs.CommittedRows.{State, AllUpTo, book_of, marked}
 use Rattle.version_book.specs.History.{Follows, IsEarlier, any_hits}
 use Rattle.version_book.specs.Stores.{NumbersTell}
 use Rattle.version_book.proofs.Histories.{unhit_history}
 use Rattle.version_book.proofs.NamedRows.{book_reads}
 use Rattle.version_book.proofs.Numbers.{numbers_tell}
 
-module _ (m : Named) (older newer : State) (ascending : AscendingBook (book_of older.rows)) (upto : AllUpTo older.number older.rows) (result : Bool) where
+module _ (m : MarkKind) (older newer : State) (ascending : AscendingBook (book_of older.rows)) (upto : AllUpTo older.number older.rows) (result : Bool) where
   abbrev Same : Type 0
   Same = marked m older.rows ≡ marked m newer.rows
 

@@ -10,14 +10,14 @@ use Rattle.entry_book.specs.declared.bundle.Bundle.{Bundle}
 use Rattle.entry_book.specs.Rows.{Bytes, Entry, entry_key, agent_key, bundle_key}
 use Rattle.entry_book.specs.Order.{Within, with_row}
 use Rattle.entry_book.specs.Book.{Book, AscendingBook}
-use Rattle.entry_book.specs.Writes.{Change, Write, wrote_entry, wrote_agent, wrote_bundle, FitsRows, FitsBook, FitAll, after_write}
+use Rattle.entry_book.specs.Writes.{RowChange, RowWrite, wrote_entry, wrote_agent, wrote_bundle, FitsRows, FitsBook, FitAll, after_write}
 use Rattle.entry_book.specs.Batches.{Batch}
 use Rattle.entry_book.specs.History.{last_book, books_after, books_from}
-use Rattle.version_book.specs.declared.mark.Named.{Named}
-use Rattle.version_book.specs.declared.mark.Named.TheVariants as mark
-use Rattle.version_book.specs.declared.numbered.Numbered.{Numbered}
+use Rattle.version_book.specs.declared.mark.MarkKind.{MarkKind}
+use Rattle.version_book.specs.declared.mark.MarkKind.TheVariants as mark
+use Rattle.version_book.specs.declared.committed_row.CommittedRow.{CommittedRow}
 use Rattle.version_book.specs.Marks.{hits, passes, names_entry, names_agent, names_bundle}
-use Rattle.version_book.specs.Numbered.{Rows, State, row_of, numbered, of_row, book_of, rows_after, rows_after_write}
+use Rattle.version_book.specs.CommittedRows.{CommittedRows, State, row_of, numbered, of_row, book_of, rows_after, rows_after_write}
 use Rattle.version_book.specs.History.{Follows, IsLast, LastHit, SomeHit, any_hits, state_with, writes_of}
 use Rattle.version_book.specs.Laws.{HitsInBooks, LastWritten}
 use Rattle.version_book.proofs.Batches.{stands_next}
@@ -40,7 +40,7 @@ neither false b h k = k
 
 -- ---- hits, in the words of the list of all books
 
-found_in_books : (m : Named) (batches : List Batch) (older newer : State) (books : List Book) → 0 < length books → IsLast older books → Follows older batches newer → any_hits m older batches ≡ true → SomeHit m books batches
+found_in_books : (m : MarkKind) (batches : List Batch) (older newer : State) (books : List Book) → 0 < length books → IsLast older books → Follows older batches newer → any_hits m older batches ≡ true → SomeHit m books batches
 found_in_books m [] older newer books l k f h = cc
 found_in_books m (batch ∷ batches) older newer books l k f h = ⊎_elim
     (λ here.
@@ -52,7 +52,7 @@ found_in_books m (batch ∷ batches) older newer books l k f h = ⊎_elim
     record { before = batch ∷ r.before; batch = r.batch; later = r.later; split = ap (λ bs. batch ∷ bs) r.split; write = r.write; is_made = r.is_made; hit = r.hit })
     (or_cases (list_any (λ w. hits w m) (writes_of batch (book_of older.rows))) (any_hits m (state_with batch older) batches) h)
 
-from_books : (m : Named) (before : List Batch) (batch : Batch) (later : List Batch) (older newer : State) (books : List Book) → 0 < length books → IsLast older books → Follows older (before ++ batch ∷ later) newer → (w : Write) → Within (writes_of batch (last_book (books_from books before))) w → hits w m ≡ true → any_hits m older (before ++ batch ∷ later) ≡ true
+from_books : (m : MarkKind) (before : List Batch) (batch : Batch) (later : List Batch) (older newer : State) (books : List Book) → 0 < length books → IsLast older books → Follows older (before ++ batch ∷ later) newer → (w : RowWrite) → Within (writes_of batch (last_book (books_from books before))) w → hits w m ≡ true → any_hits m older (before ++ batch ∷ later) ≡ true
 from_books m [] batch later older newer books l k f w i h = left_is (list_any (λ w. hits w m) (writes_of batch (book_of older.rows))) (any_hits m (state_with batch older) later) (within_any (λ w. hits w m) (writes_of batch (book_of older.rows)) w (subst (λ b. Within (writes_of batch b) w) k.book i) h)
 from_books m (first ∷ before) batch later older newer books l k f w i h =
     let n = stands_next first older books l k f.0 in
@@ -67,7 +67,7 @@ hits_in_books m batches older newer books l k f = (
 -- ---- rows after one write
 
 -- The row is new, by this commit, and the write hits its mark; or it was there, and the write doesn't.
-abbrev Wrote : {X : Type 0} → Bool → ℕ → List (Numbered X) → Numbered X → Type 0
+abbrev Wrote : {X : Type 0} → Bool → ℕ → List (CommittedRow X) → CommittedRow X → Type 0
 Wrote hit n rows r = ((hit ≡ true) × (r.commit ≡ n)) ⊎ ((hit ≡ false) × Within rows r)
 
 differs : (k l : Bytes) → (k ≡ l → ⊥) → bytes_eq k l ≡ false
@@ -82,7 +82,7 @@ module _ {X : Type 0} (key : X → Bytes) where
   abbrev has : Bytes → X → Bool
   has k x = bytes_eq (key x) k
 
-  new_has : (n : ℕ) (new : Option X) (r : Numbered X) → Within (option_to_list (option_map (numbered n) new)) r → (passes (has (key r.row)) new ≡ true) × (r.commit ≡ n)
+  new_has : (n : ℕ) (new : Option X) (r : CommittedRow X) → Within (option_to_list (option_map (numbered n) new)) r → (passes (has (key r.row)) new ≡ true) × (r.commit ≡ n)
   new_has n None r v = absurd v
   new_has n (Some x) r v = ⊎_elim (λ e. subst (λ r. (bytes_eq (key x) (key r.row) ≡ true) × (r.commit ≡ n)) e (text_same (key x) (key x) refl, refl)) (λ w. absurd w) v
 
@@ -90,14 +90,14 @@ module _ {X : Type 0} (key : X → Bytes) where
   other_has k l None h n = refl
   other_has k l (Some x) h n = differs (key x) k (λ e. n (sym e ∙ h x (inl refl)))
 
-  old_key : (c : Change X) (rows : List X) → FitsRows key c rows → (x : X) → Within (option_to_list c.old) x → key x ≡ c.key
+  old_key : (c : RowChange X) (rows : List X) → FitsRows key c rows → (x : X) → Within (option_to_list c.old) x → key x ≡ c.key
   old_key c rows f x w = text_is (key x) c.key (from_within_filter (λ x. bytes_eq (key x) c.key) rows x (subst (λ l. Within l x) (sym f.found) w)).1
 
   -- whether the old row or the new one has this key
-  abbrev changes_row : Bytes → Change X → Bool
+  abbrev changes_row : Bytes → RowChange X → Bool
   changes_row k c = passes (has k) c.old || passes (has k) c.new
 
-  row_written : (n : ℕ) (c : Change X) (rows : List (Numbered X)) (r : Numbered X) → FitsRows key c (map row_of rows) → ((x : X) → Within (option_to_list c.new) x → key x ≡ c.key) → Within (with_row (of_row key) c.key (option_map (numbered n) c.new) rows) r → ((changes_row (key r.row) c ≡ true) × (r.commit ≡ n)) ⊎ ((changes_row (key r.row) c ≡ false) × Within rows r × (key r.row ≡ c.key → ⊥))
+  row_written : (n : ℕ) (c : RowChange X) (rows : List (CommittedRow X)) (r : CommittedRow X) → FitsRows key c (map row_of rows) → ((x : X) → Within (option_to_list c.new) x → key x ≡ c.key) → Within (with_row (of_row key) c.key (option_map (numbered n) c.new) rows) r → ((changes_row (key r.row) c ≡ true) × (r.commit ≡ n)) ⊎ ((changes_row (key r.row) c ≡ false) × Within rows r × (key r.row ≡ c.key → ⊥))
   row_written n c rows r f new v = ⊎_elim
       (λ w. let e = new_has n c.new r w in inl (right_is (passes (has (key r.row)) c.old) (passes (has (key r.row)) c.new) e.0, e.1))
       (λ w. inr (
@@ -111,7 +111,7 @@ module _ {X : Type 0} (key : X → Bytes) where
   new_key k None h x w = absurd w
   new_key k (Some y) h x w = ⊎_elim (λ e. subst (λ x. key x ≡ k) e h) (λ v. absurd v) w
 
-entry_written : (n : ℕ) (w : Write) (rows : Rows) (r : Numbered Entry) → FitsBook w (book_of rows) → Within (rows_after_write n w rows).entries r → Wrote (hits w (mark.Entry (entry_key r.row))) n rows.entries r
+entry_written : (n : ℕ) (w : RowWrite) (rows : CommittedRows) (r : CommittedRow Entry) → FitsBook w (book_of rows) → Within (rows_after_write n w rows).entries r → Wrote (hits w (mark.Entry (entry_key r.row))) n rows.entries r
 entry_written n (wrote_entry c) rows r f v = ⊎_elim
     (λ h. inl (right_is (bytes_eq c.key r.row.id) (changes_row entry_key r.row.id c) h.0, h.1))
     (λ h. inr (neither (bytes_eq c.key r.row.id) (changes_row entry_key r.row.id c) (differs c.key r.row.id (λ e. h.2 (sym e))) h.0, h.1))
@@ -119,29 +119,29 @@ entry_written n (wrote_entry c) rows r f v = ⊎_elim
 entry_written n (wrote_agent c) rows r f v = let m = mark.Entry r.row.id in inr (neither (passes (names_agent m) c.old) (passes (names_agent m) c.new) (never (names_agent m) c.old (λ x. refl)) (never (names_agent m) c.new (λ x. refl)), v)
 entry_written n (wrote_bundle c) rows r f v = let m = mark.Entry r.row.id in inr (neither (passes (names_bundle m) c.old) (passes (names_bundle m) c.new) (never (names_bundle m) c.old (λ x. refl)) (never (names_bundle m) c.new (λ x. refl)), v)
 
-agent_written : (n : ℕ) (w : Write) (rows : Rows) (r : Numbered Agent) → FitsBook w (book_of rows) → Within (rows_after_write n w rows).agents r → Wrote (hits w (mark.Agent (agent_key r.row))) n rows.agents r
+agent_written : (n : ℕ) (w : RowWrite) (rows : CommittedRows) (r : CommittedRow Agent) → FitsBook w (book_of rows) → Within (rows_after_write n w rows).agents r → Wrote (hits w (mark.Agent (agent_key r.row))) n rows.agents r
 agent_written n (wrote_entry c) rows r f v = let m = mark.Agent r.row.id in inr (neither (passes (names_entry m) c.old) (passes (names_entry m) c.new) (never (names_entry m) c.old (λ x. refl)) (never (names_entry m) c.new (λ x. refl)), v)
 agent_written n (wrote_agent c) rows r f v = ⊎_elim (λ h. inl h) (λ h. inr (h.0, h.1)) (row_written agent_key n c rows.agents r f (new_key agent_key c.key c.new f.keyed) v)
 agent_written n (wrote_bundle c) rows r f v = let m = mark.Agent r.row.id in inr (neither (passes (names_bundle m) c.old) (passes (names_bundle m) c.new) (never (names_bundle m) c.old (λ x. refl)) (never (names_bundle m) c.new (λ x. refl)), v)
 
-bundle_written : (n : ℕ) (w : Write) (rows : Rows) (r : Numbered Bundle) → FitsBook w (book_of rows) → Within (rows_after_write n w rows).bundles r → Wrote (hits w (mark.Bundle (bundle_key r.row))) n rows.bundles r
+bundle_written : (n : ℕ) (w : RowWrite) (rows : CommittedRows) (r : CommittedRow Bundle) → FitsBook w (book_of rows) → Within (rows_after_write n w rows).bundles r → Wrote (hits w (mark.Bundle (bundle_key r.row))) n rows.bundles r
 bundle_written n (wrote_entry c) rows r f v = let m = mark.Bundle r.row.domain in inr (neither (passes (names_entry m) c.old) (passes (names_entry m) c.new) (never (names_entry m) c.old (λ x. refl)) (never (names_entry m) c.new (λ x. refl)), v)
 bundle_written n (wrote_agent c) rows r f v = let m = mark.Bundle r.row.domain in inr (neither (passes (names_agent m) c.old) (passes (names_agent m) c.new) (never (names_agent m) c.old (λ x. refl)) (never (names_agent m) c.new (λ x. refl)), v)
 bundle_written n (wrote_bundle c) rows r f v = ⊎_elim (λ h. inl h) (λ h. inr (h.0, h.1)) (row_written bundle_key n c rows.bundles r f (new_key bundle_key c.key c.new f.keyed) v)
 
 -- ---- rows after batches
 
-later_hit : (m : Named) (batch : Batch) (batches : List Batch) (older : State) (n : ℕ) → LastHit m (state_with batch older) batches n → LastHit m older (batch ∷ batches) n
+later_hit : (m : MarkKind) (batch : Batch) (batches : List Batch) (older : State) (n : ℕ) → LastHit m (state_with batch older) batches n → LastHit m older (batch ∷ batches) n
 later_hit m batch batches older n h =
     let e = h.number in
     record { before = batch ∷ h.before; batch = h.batch; later = h.later; split = ap (λ bs. batch ∷ bs) h.split; number = omega arith; hit = h.hit; none_later = h.none_later }
 
 -- rows of one kind, where each write leaves them as it is told above
-module _ {X : Type 0} (mark_of : X → Named) (rows_of : Rows → List (Numbered X)) (written : (n : ℕ) (w : Write) (rows : Rows) (r : Numbered X) → FitsBook w (book_of rows) → Within (rows_of (rows_after_write n w rows)) r → Wrote (hits w (mark_of r.row)) n (rows_of rows) r) where
-  written_all : (n : ℕ) (ws : List Write) (rows : Rows) (r : Numbered X) → FitAll ws (book_of rows) → Within (rows_of (rows_after n ws rows)) r → Wrote (list_any (λ w. hits w (mark_of r.row)) ws) n (rows_of rows) r
+module _ {X : Type 0} (mark_of : X → MarkKind) (rows_of : CommittedRows → List (CommittedRow X)) (written : (n : ℕ) (w : RowWrite) (rows : CommittedRows) (r : CommittedRow X) → FitsBook w (book_of rows) → Within (rows_of (rows_after_write n w rows)) r → Wrote (hits w (mark_of r.row)) n (rows_of rows) r) where
+  written_all : (n : ℕ) (ws : List RowWrite) (rows : CommittedRows) (r : CommittedRow X) → FitAll ws (book_of rows) → Within (rows_of (rows_after n ws rows)) r → Wrote (list_any (λ w. hits w (mark_of r.row)) ws) n (rows_of rows) r
   written_all n [] rows r f v = inr (refl, v)
   written_all n (w ∷ ws) rows r f v =
-      let m : Named = mark_of r.row in
+      let m : MarkKind = mark_of r.row in
       let e : after_write w (book_of rows) ≡ book_of (rows_after_write n w rows) = sym (book_after_write n w rows) in
       ⊎_elim
       (λ h. inl (right_is (hits w m) (list_any (λ w. hits w m) ws) h.0, h.1))
@@ -151,11 +151,11 @@ module _ {X : Type 0} (mark_of : X → Named) (rows_of : Rows → List (Numbered
       (written n w rows r f.0 h.1))
       (written_all n ws (rows_after_write n w rows) r (subst (FitAll ws) e f.1) v)
 
-  last_written_of : (batches : List Batch) (older newer : State) → AscendingBook (book_of older.rows) → Follows older batches newer → (r : Numbered X) → Within (rows_of newer.rows) r → LastHit (mark_of r.row) older batches r.commit ⊎ ((any_hits (mark_of r.row) older batches ≡ false) × Within (rows_of older.rows) r)
+  last_written_of : (batches : List Batch) (older newer : State) → AscendingBook (book_of older.rows) → Follows older batches newer → (r : CommittedRow X) → Within (rows_of newer.rows) r → LastHit (mark_of r.row) older batches r.commit ⊎ ((any_hits (mark_of r.row) older batches ≡ false) × Within (rows_of older.rows) r)
   last_written_of [] older newer a f r v = inr (refl, subst (λ s. Within (rows_of s.rows) r) (sym f) v)
   last_written_of (batch ∷ batches) older newer a f r v =
-      let m : Named = mark_of r.row in
-      let ws : List Write = writes_of batch (book_of older.rows) in
+      let m : MarkKind = mark_of r.row in
+      let ws : List RowWrite = writes_of batch (book_of older.rows) in
       ⊎_elim
       (λ h. inl (later_hit m batch batches older r.commit h))
       (λ h. ⊎_elim

@@ -5,22 +5,22 @@ use Rattle.entry_book.specs.declared.reply.OpReply.{OpReply}
 use Rattle.entry_book.specs.declared.reply.Reply.{Reply}
 use Rattle.entry_book.specs.Order.{Within}
 use Rattle.entry_book.specs.Book.{Book}
-use Rattle.entry_book.specs.Writes.{Write}
+use Rattle.entry_book.specs.Writes.{RowWrite}
 use Rattle.entry_book.specs.Runs.{RunResult, run}
 use Rattle.entry_book.specs.Batches.{Batch, IsMadeFor}
 use Rattle.entry_book.specs.History.{verdict, adds, reply_with, last_book, place_of, books_from}
-use Rattle.version_book.specs.declared.mark.Named.{Named}
+use Rattle.version_book.specs.declared.mark.MarkKind.{MarkKind}
 use Rattle.version_book.specs.Marks.{hits}
-use Rattle.version_book.specs.Numbered.{State, book_of, next_state}
+use Rattle.version_book.specs.CommittedRows.{State, book_of, next_state}
 
 -- ---- one batch
 
-abbrev pub writes_in : RunResult → List Write
+abbrev pub writes_in : RunResult → List RowWrite
 writes_in (Ok t) = t.writes
 writes_in (Err s) = []
 
 -- the writes of a batch, run on a book
-abbrev pub writes_of : Batch → Book → List Write
+abbrev pub writes_of : Batch → Book → List RowWrite
 writes_of batch b = writes_in (run batch.domain batch.ops b)
 
 -- the version after a batch
@@ -50,7 +50,7 @@ abbrev pub IsEarlier : State → State → Type 0
 IsEarlier older newer = (batches : List Batch) × Follows older batches newer
 
 -- one of the batches, run one after another from the older version on, makes a write that hits the mark
-abbrev pub any_hits : Named → State → List Batch → Bool
+abbrev pub any_hits : MarkKind → State → List Batch → Bool
 any_hits m older [] = false
 any_hits m older (batch ∷ batches) = list_any (λ w. hits w m) (writes_of batch (book_of older.rows)) || any_hits m (state_with batch older) batches
 
@@ -67,17 +67,17 @@ pub record IsLast (s : State) (books : List Book) : Type 0 where
   pub place : place_of books ≡ s.number
 
 -- One of the batches, run on the book that these books and the batches before it left, makes a write that hits the mark.
-pub record SomeHit (m : Named) (books : List Book) (batches : List Batch) : Type 0 where
+pub record SomeHit (m : MarkKind) (books : List Book) (batches : List Batch) : Type 0 where
   pub before : List Batch
   pub batch : Batch
   pub later : List Batch
   pub split : batches ≡ before ++ batch ∷ later
-  pub write : Write
+  pub write : RowWrite
   pub is_made : Within (writes_of batch (last_book (books_from books before))) write
   pub hit : hits write m ≡ true
 
 -- The last of the batches that makes a write that hits the mark makes the version of this number.
-pub record LastHit (m : Named) (older : State) (batches : List Batch) (n : ℕ) : Type 0 where
+pub record LastHit (m : MarkKind) (older : State) (batches : List Batch) (n : ℕ) : Type 0 where
   pub before : List Batch
   pub batch : Batch
   pub later : List Batch

@@ -4,24 +4,24 @@ use Rattle.std.specs.declared.cmp.Ordering.{Ordering}
 use Rattle.std.specs.Ordering.{is_eq, is_lt, is_ge}
 use Rattle.entry_book.specs.Rows.{Bytes, Entry}
 use Rattle.entry_book.specs.Order.{Within}
-use Rattle.version_book.specs.declared.key.Edge.{Edge}
-use Rattle.version_book.specs.declared.key.Edge.TheVariants.{Start, At, End}
-use Rattle.version_book.specs.declared.mark.Named.{Named}
-use Rattle.version_book.specs.declared.mark.Named.TheVariants as mark
-use Rattle.version_book.specs.declared.mark.Span.{Span}
-use Rattle.version_book.specs.declared.mark.Span.TheVariants.{Row, Groups, Users, Expiries}
-use Rattle.version_book.specs.declared.numbered.Numbered.{Numbered}
+use Rattle.version_book.specs.declared.key.KeyPart.{KeyPart}
+use Rattle.version_book.specs.declared.key.KeyPart.TheVariants.{Start, At, End}
+use Rattle.version_book.specs.declared.mark.MarkKind.{MarkKind}
+use Rattle.version_book.specs.declared.mark.MarkKind.TheVariants as mark
+use Rattle.version_book.specs.declared.mark.IndexRange.{IndexRange}
+use Rattle.version_book.specs.declared.mark.IndexRange.TheVariants.{SingleRow, Groups, Users, Expiries}
+use Rattle.version_book.specs.declared.committed_row.CommittedRow.{CommittedRow}
 
 -- ---- the keys of an entry
 
 abbrev pub GroupKey : Type 0
-GroupKey = Bytes × Edge Bytes × Edge Bytes
+GroupKey = Bytes × KeyPart Bytes × KeyPart Bytes
 
 abbrev pub UserKey : Type 0
-UserKey = Bytes × Edge Bytes
+UserKey = Bytes × KeyPart Bytes
 
 abbrev pub ExpiryKey : Type 0
-ExpiryKey = ℕ × Edge Bytes
+ExpiryKey = ℕ × KeyPart Bytes
 
 -- each entry stands once under its parent and identity
 abbrev pub group_keys : Entry → List GroupKey
@@ -38,9 +38,9 @@ expiry_keys e = if nat_lt 0 e.expiry then (e.expiry, At e.id) ∷ [] else []
 -- ---- an index by such keys
 
 -- An index has each row under each of its keys, and nothing else.
-pub record IsIndex {K : Type 0} (keys : Entry → List K) (rows : List (Numbered Entry)) (index : List (K × Numbered Entry)) : Type 0 where
-  pub sound : (k : K) (r : Numbered Entry) → Within index (k, r) → Within rows r × Within (keys r.row) k
-  pub complete : (k : K) (r : Numbered Entry) → Within rows r → Within (keys r.row) k → Within index (k, r)
+pub record IsIndex {K : Type 0} (keys : Entry → List K) (rows : List (CommittedRow Entry)) (index : List (K × CommittedRow Entry)) : Type 0 where
+  pub sound : (k : K) (r : CommittedRow Entry) → Within index (k, r) → Within rows r × Within (keys r.row) k
+  pub complete : (k : K) (r : CommittedRow Entry) → Within rows r → Within (keys r.row) k → Within index (k, r)
 
 -- lo <= key < hi
 abbrev pub is_between : {K : Type 0} → (K → K → Ordering) → K → K → K → Bool
@@ -54,14 +54,14 @@ pub record Covers {K : Type 0} (cmp : K → K → Ordering) (keys : Entry → Li
 
 -- ---- the bounds of a mark's range
 
-abbrev pub span_of : Named → Span
-span_of (mark.Entry id) = Row
-span_of (mark.Group parent identity) = Groups (parent, At identity, Start) (parent, At identity, End)
-span_of (mark.Children parent) = Groups (parent, Start, Start) (parent, End, End)
-span_of (mark.Users domain) = Users (domain, Start) (domain, End)
-span_of (mark.Expiring moment) = Expiries (0, Start) (moment, Start)
-span_of (mark.Agent id) = Row
-span_of (mark.Bundle domain) = Row
+abbrev pub index_range_of : MarkKind → IndexRange
+index_range_of (mark.Entry id) = SingleRow
+index_range_of (mark.Group parent identity) = Groups (parent, At identity, Start) (parent, At identity, End)
+index_range_of (mark.Children parent) = Groups (parent, Start, Start) (parent, End, End)
+index_range_of (mark.Users domain) = Users (domain, Start) (domain, End)
+index_range_of (mark.Expiring moment) = Expiries (0, Start) (moment, Start)
+index_range_of (mark.Agent id) = SingleRow
+index_range_of (mark.Bundle domain) = SingleRow
 
 -- ---- what holds of the keys of an index
 

@@ -4,20 +4,20 @@ use Rattle.std.specs.List.{AllByRecursion}
 use Rattle.entry_book.specs.Rows.{Bytes, Entry, entry_key, agent_key, bundle_key}
 use Rattle.entry_book.specs.Order.{Within}
 use Rattle.entry_book.specs.Book.{Book, AscendingBook, entry_at, agent_at, bundle_at, group_of, children_of, users_of, expired_before, empty_book}
-use Rattle.entry_book.specs.Writes.{Write, after, FitAll}
+use Rattle.entry_book.specs.Writes.{RowWrite, after, FitAll}
 use Rattle.entry_book.specs.Batches.{Batch, IsMadeFor, is_query}
-use Rattle.entry_book.specs.Runs.{Ran, run}
+use Rattle.entry_book.specs.Runs.{RunEffect, run}
 use Rattle.entry_book.specs.Limits.{limit_passed}
 use Rattle.entry_book.specs.Lawful.{Lawful}
 use Rattle.entry_book.specs.Laws.{IsWithinLimits}
 use Rattle.entry_book.specs.History.{last_book, place_of, books_from, CommitAll}
 use Rattle.entry_book.specs.Worked.{replies_from}
-use Rattle.version_book.specs.declared.mark.Named.{Named}
-use Rattle.version_book.specs.declared.mark.Named.TheVariants as mark
-use Rattle.version_book.specs.declared.numbered.Numbered.{Numbered}
+use Rattle.version_book.specs.declared.mark.MarkKind.{MarkKind}
+use Rattle.version_book.specs.declared.mark.MarkKind.TheVariants as mark
+use Rattle.version_book.specs.declared.committed_row.CommittedRow.{CommittedRow}
 use Rattle.version_book.specs.Applying.{MayApply}
 use Rattle.version_book.specs.Marks.{reads, Agree, hits, seen}
-use Rattle.version_book.specs.Numbered.{Rows, State, book_of, marked, AllUpTo, rows_after, next_state}
+use Rattle.version_book.specs.CommittedRows.{CommittedRows, State, book_of, marked, AllUpTo, rows_after, next_state}
 use Rattle.version_book.specs.History.{Commits, Follows, IsLast, LastHit, SomeHit, any_hits, replies_on, state_after, state_with}
 use Rattle.version_book.specs.Room.{RoomAll}
 
@@ -51,35 +51,35 @@ ReadsBundle = (domain : Bytes) (b : Book) → AscendingBook b → reads (mark.Bu
 
 -- what a mark reads after writes is what it read before them, after what it sees of them
 abbrev pub ReadsAfter : Type 0
-ReadsAfter = (m : Named) (ws : List Write) (b : Book) → reads m (after ws b) ≡ after (map (seen m) ws) (reads m b)
+ReadsAfter = (m : MarkKind) (ws : List RowWrite) (b : Book) → reads m (after ws b) ≡ after (map (seen m) ws) (reads m b)
 
 -- two books that read the same at a mark still do after the same writes
 abbrev pub AgreeAfter : Type 0
-AgreeAfter = (ws : List Write) (b c : Book) (m : Named) → Agree b c m → Agree (after ws b) (after ws c) m
+AgreeAfter = (ws : List RowWrite) (b c : Book) (m : MarkKind) → Agree b c m → Agree (after ws b) (after ws c) m
 
 -- where no write hits a mark, it reads the same before and after
 abbrev pub Unhit : Type 0
-Unhit = (ws : List Write) (b : Book) (m : Named) → AscendingBook b → FitAll ws b → AllByRecursion (λ w. hits w m ≡ false) ws → Agree b (after ws b) m
+Unhit = (ws : List RowWrite) (b : Book) (m : MarkKind) → AscendingBook b → FitAll ws b → AllByRecursion (λ w. hits w m ≡ false) ws → Agree b (after ws b) m
 
 -- ---- versions
 
 -- the book of a version after writes is the book after these writes
 abbrev pub BookAfter : Type 0
-BookAfter = (n : ℕ) (ws : List Write) (rows : Rows) → book_of (rows_after n ws rows) ≡ after ws (book_of rows)
+BookAfter = (n : ℕ) (ws : List RowWrite) (rows : CommittedRows) → book_of (rows_after n ws rows) ≡ after ws (book_of rows)
 
 -- what a mark reads on a version's book is the version's rows that it names
 abbrev pub BookReads : Type 0
-BookReads = (m : Named) (rows : Rows) → reads m (book_of rows) ≡ book_of (marked m rows)
+BookReads = (m : MarkKind) (rows : CommittedRows) → reads m (book_of rows) ≡ book_of (marked m rows)
 
 -- ---- histories
 
 -- A batch of changes that runs on a version's book, and passes no limit, commits on it: the version after it has its writes.
 abbrev pub BatchCommits : Type 0
-BatchCommits = (batch : Batch) (s : State) (t : Ran) → IsMadeFor s.domain batch → is_query batch.ops ≡ false → run batch.domain batch.ops (book_of s.rows) ≡ Ok t → limit_passed s.number (after t.writes (book_of s.rows)) ≡ None → Commits batch s × (state_with batch s ≡ next_state t.writes s)
+BatchCommits = (batch : Batch) (s : State) (t : RunEffect) → IsMadeFor s.domain batch → is_query batch.ops ≡ false → run batch.domain batch.ops (book_of s.rows) ≡ Ok t → limit_passed s.number (after t.writes (book_of s.rows)) ≡ None → Commits batch s × (state_with batch s ≡ next_state t.writes s)
 
 -- histories are joined, so a history goes on with any batch that commits on its last version
-abbrev pub FollowsOn : Type 0
-FollowsOn = (first second : List Batch) (s t u : State) → Follows s first t → Follows t second u → Follows s (first ++ second) u
+abbrev pub FollowsJoined : Type 0
+FollowsJoined = (first second : List Batch) (s t u : State) → Follows s first t → Follows t second u → Follows s (first ++ second) u
 
 -- the plain book, on a list of books whose last is the older version's, commits the batches too, and its last book then is the newer version's
 abbrev pub BooksFollow : Type 0
@@ -99,15 +99,15 @@ LawfulFollows = (batches : List Batch) (older newer : State) → Lawful older.do
 
 -- where no batch since makes a write that hits a mark, both versions have the same rows there, with the same numbers
 abbrev pub UnhitHistory : Type 0
-UnhitHistory = (m : Named) (batches : List Batch) (older newer : State) → AscendingBook (book_of older.rows) → Follows older batches newer → any_hits m older batches ≡ false → marked m older.rows ≡ marked m newer.rows
+UnhitHistory = (m : MarkKind) (batches : List Batch) (older newer : State) → AscendingBook (book_of older.rows) → Follows older batches newer → any_hits m older batches ≡ false → marked m older.rows ≡ marked m newer.rows
 
 -- the run of a batch on a lawful book within the limits has room for all of its rows
 abbrev pub RoomInRun : Type 0
-RoomInRun = (own : Bytes) (most : ℕ) (batch : Batch) (b : Book) (t : Ran) → IsMadeFor own batch → Lawful own most b → IsWithinLimits b → run own batch.ops b ≡ Ok t → RoomAll t.writes b
+RoomInRun = (own : Bytes) (most : ℕ) (batch : Batch) (b : Book) (t : RunEffect) → IsMadeFor own batch → Lawful own most b → IsWithinLimits b → run own batch.ops b ≡ Ok t → RoomAll t.writes b
 
 -- the writes of a batch that runs on a lawful version within the limits may be applied to it
 abbrev pub RunMayApply : Type 0
-RunMayApply = (batch : Batch) (s : State) (t : Ran) → IsMadeFor s.domain batch → Lawful s.domain (64 * s.number) (book_of s.rows) → IsWithinLimits (book_of s.rows) → run batch.domain batch.ops (book_of s.rows) ≡ Ok t → MayApply t.writes (s.number + 1) s
+RunMayApply = (batch : Batch) (s : State) (t : RunEffect) → IsMadeFor s.domain batch → Lawful s.domain (64 * s.number) (book_of s.rows) → IsWithinLimits (book_of s.rows) → run batch.domain batch.ops (book_of s.rows) ≡ Ok t → MayApply t.writes (s.number + 1) s
 
 -- ---- lists of batches
 
@@ -149,11 +149,11 @@ RepliesFollow = (batches : List Batch) (older newer : State) (books : List Book)
 
 -- in the words of the list of all books
 abbrev pub HitsInBooks : Type 0
-HitsInBooks = (m : Named) (batches : List Batch) (older newer : State) (books : List Book) → 0 < length books → IsLast older books → Follows older batches newer → (any_hits m older batches ≡ true) ↔ SomeHit m books batches
+HitsInBooks = (m : MarkKind) (batches : List Batch) (older newer : State) (books : List Book) → 0 < length books → IsLast older books → Follows older batches newer → (any_hits m older batches ≡ true) ↔ SomeHit m books batches
 
 -- Each row has the number of the last batch that hit the row's own mark, and where none did, it is a row of the older version.
-abbrev pub HasLastNumber : {X : Type 0} → (X → Named) → List (Numbered X) → State → List Batch → List (Numbered X) → Type 0
-HasLastNumber mark_of rows older batches newer = (r : Numbered _) → Within newer r → LastHit (mark_of r.row) older batches r.commit ⊎ ((any_hits (mark_of r.row) older batches ≡ false) × Within rows r)
+abbrev pub HasLastNumber : {X : Type 0} → (X → MarkKind) → List (CommittedRow X) → State → List Batch → List (CommittedRow X) → Type 0
+HasLastNumber mark_of rows older batches newer = (r : CommittedRow _) → Within newer r → LastHit (mark_of r.row) older batches r.commit ⊎ ((any_hits (mark_of r.row) older batches ≡ false) × Within rows r)
 
 pub record HaveLastNumbers (older : State) (batches : List Batch) (newer : State) : Type 0 where
   pub entries : HasLastNumber (λ e. mark.Entry (entry_key e)) older.rows.entries older batches newer.rows.entries

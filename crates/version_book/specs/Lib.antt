@@ -3,7 +3,7 @@ pub mod History
 pub mod Index
 pub mod Laws
 pub mod Marks
-pub mod Numbered
+pub mod CommittedRows
 pub mod Room
 pub mod Stores
 pub mod Written

@@ -1,16 +1,16 @@
--- What a batch can read, and which writes hit it. A mark is the record of the crate's own type `Named`.
+-- What a batch can read, and which writes hit it. A mark is the record of the crate's own type `MarkKind`.
 use Rattle.std.specs.Prelude.{◌≡◌, Bool, false, ◌||◌, filter, Option, Some, None, bytes_eq, if◌then◌else◌}
 use Rattle.entry_book.specs.declared.agent.Agent.{Agent}
 use Rattle.entry_book.specs.declared.bundle.Bundle.{Bundle}
 use Rattle.entry_book.specs.Rows.{Bytes, Entry}
 use Rattle.entry_book.specs.Book.{Book, in_group, names, expires_before}
-use Rattle.entry_book.specs.Writes.{Change, Write, wrote_entry, wrote_agent, wrote_bundle}
-use Rattle.version_book.specs.declared.mark.Named.{Named}
-use Rattle.version_book.specs.declared.mark.Named.TheVariants as mark
+use Rattle.entry_book.specs.Writes.{RowChange, RowWrite, wrote_entry, wrote_agent, wrote_bundle}
+use Rattle.version_book.specs.declared.mark.MarkKind.{MarkKind}
+use Rattle.version_book.specs.declared.mark.MarkKind.TheVariants as mark
 
 -- ---- which rows a mark names
 
-abbrev pub names_entry : Named → Entry → Bool
+abbrev pub names_entry : MarkKind → Entry → Bool
 names_entry (mark.Entry id) e = bytes_eq e.id id
 names_entry (mark.Group parent identity) e = in_group parent identity e
 names_entry (mark.Children parent) e = bytes_eq e.parent parent
@@ -19,7 +19,7 @@ names_entry (mark.Expiring moment) e = expires_before moment e
 names_entry (mark.Agent id) e = false
 names_entry (mark.Bundle domain) e = false
 
-abbrev pub names_agent : Named → Agent → Bool
+abbrev pub names_agent : MarkKind → Agent → Bool
 names_agent (mark.Entry id) a = false
 names_agent (mark.Group parent identity) a = false
 names_agent (mark.Children parent) a = false
@@ -28,7 +28,7 @@ names_agent (mark.Expiring moment) a = false
 names_agent (mark.Agent id) a = bytes_eq a.id id
 names_agent (mark.Bundle domain) a = false
 
-abbrev pub names_bundle : Named → Bundle → Bool
+abbrev pub names_bundle : MarkKind → Bundle → Bool
 names_bundle (mark.Entry id) d = false
 names_bundle (mark.Group parent identity) d = false
 names_bundle (mark.Children parent) d = false
@@ -38,11 +38,11 @@ names_bundle (mark.Agent id) d = false
 names_bundle (mark.Bundle domain) d = bytes_eq d.domain domain
 
 -- what a mark reads on a book: the part of the book that it names, whole rows, perhaps none
-abbrev pub reads : Named → Book → Book
+abbrev pub reads : MarkKind → Book → Book
 reads m b = record { entries = filter (names_entry m) b.entries; agents = filter (names_agent m) b.agents; bundles = filter (names_bundle m) b.bundles }
 
 -- both books read the same at the mark
-abbrev pub Agree : Book → Book → Named → Type 0
+abbrev pub Agree : Book → Book → MarkKind → Type 0
 Agree b c m = reads m b ≡ reads m c
 
 -- ---- which writes hit a mark
@@ -52,7 +52,7 @@ passes p None = false
 passes p (Some x) = p x
 
 -- the mark is that of the entry of this id
-abbrev pub is_of_entry : Bytes → Named → Bool
+abbrev pub is_of_entry : Bytes → MarkKind → Bool
 is_of_entry k (mark.Entry id) = bytes_eq k id
 is_of_entry k (mark.Group parent identity) = false
 is_of_entry k (mark.Children parent) = false
@@ -62,7 +62,7 @@ is_of_entry k (mark.Agent id) = false
 is_of_entry k (mark.Bundle domain) = false
 
 -- The old row or the new one is among the rows that the mark names. A write of an entry also hits the mark of its id.
-abbrev pub hits : Write → Named → Bool
+abbrev pub hits : RowWrite → MarkKind → Bool
 hits (wrote_entry c) m = is_of_entry c.key m || (passes (names_entry m) c.old || passes (names_entry m) c.new)
 hits (wrote_agent c) m = passes (names_agent m) c.old || passes (names_agent m) c.new
 hits (wrote_bundle c) m = passes (names_bundle m) c.old || passes (names_bundle m) c.new
@@ -73,10 +73,10 @@ abbrev pub kept : {X : Type 0} → (X → Bool) → Option X → Option X
 kept p None = None
 kept p (Some x) = if p x then Some x else None
 
-abbrev pub seen_change : {X : Type 0} → (X → Bool) → Change X → Change X
+abbrev pub seen_change : {X : Type 0} → (X → Bool) → RowChange X → RowChange X
 seen_change p c = record { key = c.key; old = kept p c.old; new = kept p c.new }
 
-abbrev pub seen : Named → Write → Write
+abbrev pub seen : MarkKind → RowWrite → RowWrite
 seen m (wrote_entry c) = wrote_entry (seen_change (names_entry m) c)
 seen m (wrote_agent c) = wrote_agent (seen_change (names_agent m) c)
 seen m (wrote_bundle c) = wrote_bundle (seen_change (names_bundle m) c)

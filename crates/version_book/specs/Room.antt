@@ -1,12 +1,9 @@
--- How many rows a version may have.
+-- How many rows a version may have: as many as a shelf for each set, and for how often entries name a trust domain.
 use Rattle.std.specs.Prelude.{◌≤◌, ◌+◌, ⊤, ℕ, List, [], ◌∷◌, length, IfSome}
+use Rattle.version_shelf.specs.Shelf.{most_rows}
 use Rattle.entry_book.specs.Rows.{Entry}
 use Rattle.entry_book.specs.Book.{Book}
-use Rattle.entry_book.specs.Writes.{Write, wrote_entry, wrote_agent, wrote_bundle, after_write}
-
--- how many rows each set may have, and how often entries may name a trust domain, all in all
-abbrev pub most_rows : ℕ
-most_rows = 262144
+use Rattle.entry_book.specs.Writes.{RowWrite, wrote_entry, wrote_agent, wrote_bundle, after_write}
 
 -- how often the entries name a trust domain, all in all
 abbrev pub count_of_names : List Entry → ℕ
@@ -14,12 +11,12 @@ count_of_names [] = 0
 count_of_names (e ∷ es) = length e.domains + count_of_names es
 
 -- there is room for the row that a write puts, where it puts one
-abbrev pub RoomFor : Write → Book → Type 0
+abbrev pub RoomFor : RowWrite → Book → Type 0
 RoomFor (wrote_entry c) b = IfSome c.new (λ e. (length (after_write (wrote_entry c) b).entries ≤ most_rows) × (count_of_names (after_write (wrote_entry c) b).entries ≤ most_rows))
 RoomFor (wrote_agent c) b = IfSome c.new (λ a. length (after_write (wrote_agent c) b).agents ≤ most_rows)
 RoomFor (wrote_bundle c) b = IfSome c.new (λ d. length (after_write (wrote_bundle c) b).bundles ≤ most_rows)
 
 -- each on the book that the earlier ones left
-abbrev pub RoomAll : List Write → Book → Type 0
+abbrev pub RoomAll : List RowWrite → Book → Type 0
 RoomAll [] b = ⊤
 RoomAll (w ∷ ws) b = RoomFor w b × RoomAll ws (after_write w b)

@@ -2,44 +2,44 @@
 use Rattle.std.specs.Prelude.{◌≡◌, ◌+◌, ℕ, List, [], ◌∷◌, map, length, Option, Some, None}
 use Rattle.std.specs.declared.cmp.Ordering.{Ordering}
 use Rattle.std.specs.List.{AllByRecursion}
-use Rattle.version_shelf.specs.Shelf.{with_row, without_row}
+use Rattle.version_shelf.specs.Shelf.{with_key, without_key}
 use Rattle.entry_book.specs.Rows.{Bytes, Entry, entry_key, agent_key, bundle_key}
 use Rattle.entry_book.specs.Order.{Within}
-use Rattle.version_book.specs.declared.numbered.Numbered.{Numbered}
-use Rattle.version_book.specs.Numbered.{Rows}
+use Rattle.version_book.specs.declared.committed_row.CommittedRow.{CommittedRow}
+use Rattle.version_book.specs.CommittedRows.{CommittedRows}
 
 -- each row stands under its own key
-abbrev pub IsKeyed : {X : Type 0} → (X → Bytes) → List (Bytes × Numbered X) → Type 0
+abbrev pub IsKeyed : {X : Type 0} → (X → Bytes) → List (Bytes × CommittedRow X) → Type 0
 IsKeyed key shelf = AllByRecursion (λ row. row.0 ≡ key row.1.row) shelf
 
 -- what is compared where a range is asked to be unchanged: which row, and which commit last wrote it
-abbrev pub stamp : {K : Type 0} → K × Numbered Entry → Bytes × ℕ
+abbrev pub stamp : {K : Type 0} → K × CommittedRow Entry → Bytes × ℕ
 stamp row = (row.1.row.id, row.1.commit)
 
-abbrev pub stamps : {K : Type 0} → List (K × Numbered Entry) → List (Bytes × ℕ)
+abbrev pub stamps : {K : Type 0} → List (K × CommittedRow Entry) → List (Bytes × ℕ)
 stamps rows = map stamp rows
 
 -- how many keys the rows have, all in all
-abbrev pub count_of_keys : {K : Type 0} → (Entry → List K) → List (Numbered Entry) → ℕ
+abbrev pub count_of_keys : {K : Type 0} → (Entry → List K) → List (CommittedRow Entry) → ℕ
 count_of_keys keys [] = 0
 count_of_keys keys (r ∷ rs) = length (keys r.row) + count_of_keys keys rs
 
 -- no row has this key
-abbrev pub IsAbsent : {X : Type 0} → (X → Bytes) → Bytes → List (Numbered X) → Type 0
+abbrev pub IsAbsent : {X : Type 0} → (X → Bytes) → Bytes → List (CommittedRow X) → Type 0
 IsAbsent key k rows = AllByRecursion (λ r. key r.row ≡ k → ⊥) rows
 
 -- the rows of a shelf after a write of this key
 abbrev pub shelf_after : {K V : Type 0} → (K → K → Ordering) → K → Option V → List (K × V) → List (K × V)
-shelf_after cmp key None shelf = without_row cmp shelf key
-shelf_after cmp key (Some value) shelf = with_row cmp shelf key value
+shelf_after cmp key None shelf = without_key cmp shelf key
+shelf_after cmp key (Some value) shelf = with_key cmp shelf key value
 
 -- ---- what the numbers of rows tell of an older and a newer version of one history
 
 -- a row of a key with the number that a row of this key had before is that row
-abbrev pub TellRows : {X : Type 0} → (X → Bytes) → List (Numbered X) → List (Numbered X) → Type 0
+abbrev pub TellRows : {X : Type 0} → (X → Bytes) → List (CommittedRow X) → List (CommittedRow X) → Type 0
 TellRows key older newer = (r s : _) → Within older r → Within newer s → key r.row ≡ key s.row → r.commit ≡ s.commit → r ≡ s
 
-pub record NumbersTell (older newer : Rows) : Type 0 where
+pub record NumbersTell (older newer : CommittedRows) : Type 0 where
   pub entries : TellRows entry_key older.entries newer.entries
   pub agents : TellRows agent_key older.agents newer.agents
   pub bundles : TellRows bundle_key older.bundles newer.bundles

@@ -11,7 +11,7 @@ use uuid::Uuid;
 
 /// One row's change: the row of a key as it was found, and as it is put. Either may be absent.
 #[derive(Drop)]
-pub struct Change<K, T> {
+pub struct RowChange<K, T> {
     pub key: K,
     pub old: Option<T>,
     pub new: Option<T>,
@@ -19,25 +19,25 @@ pub struct Change<K, T> {
 
 /// The change of one row, of whichever kind.
 #[derive(Drop)]
-pub enum Write {
-    Entry(Change<Uuid, Entry>),
-    Agent(Change<Shared<SpiffeId>, Agent>),
-    Bundle(Change<Shared<TrustDomain>, Bundle>),
+pub enum RowWrite {
+    Entry(RowChange<Uuid, Entry>),
+    Agent(RowChange<Shared<SpiffeId>, Agent>),
+    Bundle(RowChange<Shared<TrustDomain>, Bundle>),
 }
 
 /// The writes of a batch, in order. Each names the row that it finds on the book that the earlier ones left, if there is
 /// one, and the row that it puts there, if there is one.
 #[derive(Drop)]
 pub struct Changes {
-    writes: Vec<Write>,
+    writes: Vec<RowWrite>,
 }
 
 impl Model for Changes {
     ghost use Rattle.std.specs.Prelude.{List, map};
-    ghost use Rattle.entry_book.specs.Writes.{Write};
+    ghost use Rattle.entry_book.specs.Writes.{RowWrite};
     ghost use Rattle.version_book.specs.Written.{write_of};
 
-    ghost Value = { List Write };
+    ghost Value = { List RowWrite };
 
     ghost view = { λ changes. map write_of changes.writes.items };
 }
@@ -55,22 +55,22 @@ fn copy_of<T: Clone + Drop>(row: &Option<T>) -> Result<Option<T>, AllocError>
 
 /// A copy of a write counts one more owner of each of its parts, and copies no text. The error is that no more owners can
 /// be counted.
-impl Clone for Write {
+impl Clone for RowWrite {
     ghost is_clone = { λ original copy. copy ≡ original };
 
-    fn clone(&self) -> Result<Write, AllocError> {
+    fn clone(&self) -> Result<RowWrite, AllocError> {
         Ok(match self {
-            Write::Entry(Change { key, old, new }) => {
+            RowWrite::Entry(RowChange { key, old, new }) => {
                 let (key, old, new) = (*key, copy_of(old)?, copy_of(new)?);
-                Write::Entry(Change { key, old, new })
+                RowWrite::Entry(RowChange { key, old, new })
             }
-            Write::Agent(Change { key, old, new }) => {
+            RowWrite::Agent(RowChange { key, old, new }) => {
                 let (key, old, new) = (key.clone()?, copy_of(old)?, copy_of(new)?);
-                Write::Agent(Change { key, old, new })
+                RowWrite::Agent(RowChange { key, old, new })
             }
-            Write::Bundle(Change { key, old, new }) => {
+            RowWrite::Bundle(RowChange { key, old, new }) => {
                 let (key, old, new) = (key.clone()?, copy_of(old)?, copy_of(new)?);
-                Write::Bundle(Change { key, old, new })
+                RowWrite::Bundle(RowChange { key, old, new })
             }
         })
     }
@@ -114,7 +114,8 @@ impl Changes {
         ensures err { OnErr result (self.new ≡ self.old) }
     {
         let key = id;
-        self.writes.push(Write::Entry(Change { key, old, new }))?;
+        self.writes
+            .push(RowWrite::Entry(RowChange { key, old, new }))?;
         Ok(())
     }
 
@@ -129,7 +130,8 @@ impl Changes {
         ensures err { OnErr result (self.new ≡ self.old) }
     {
         let key = id;
-        self.writes.push(Write::Agent(Change { key, old, new }))?;
+        self.writes
+            .push(RowWrite::Agent(RowChange { key, old, new }))?;
         Ok(())
     }
 
@@ -144,7 +146,8 @@ impl Changes {
         ensures err { OnErr result (self.new ≡ self.old) }
     {
         let key = domain;
-        self.writes.push(Write::Bundle(Change { key, old, new }))?;
+        self.writes
+            .push(RowWrite::Bundle(RowChange { key, old, new }))?;
         Ok(())
     }
 
@@ -158,7 +161,7 @@ impl Changes {
     }
 
     /// The writes, in order. Takes no memory.
-    pub fn writes(&self) -> &[Write]
+    pub fn writes(&self) -> &[RowWrite]
         ensures { map write_of result.now ≡ self.now }
     {
         self.writes.as_slice()

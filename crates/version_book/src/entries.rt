@@ -3,11 +3,11 @@
 ghost use Rattle.std.specs.Prelude.{◌≡◌, IfOk};
 ghost use Rattle.version_book.specs.Index.{group_keys, user_keys, expiry_keys};
 
-use crate::changes::Change;
+use crate::changes::RowChange;
+use crate::committed_row::{CommittedRow, is_same_row, row_alone};
 use crate::index::{entries_between, same_between, with_keys, without_keys};
-use crate::key::{Edge, ExpiryKey, GroupKey, UserKey};
-use crate::mark::{Mark, Named, Span};
-use crate::numbered::{Numbered, is_same_row, row_alone};
+use crate::key::{ExpiryKey, GroupKey, KeyPart, UserKey};
+use crate::mark::{IndexRange, Mark, MarkKind};
 use entry_book::Entry;
 use std::alloc::{AllocError, Global};
 use std::marker::Model;
@@ -18,10 +18,10 @@ use version_shelf::Shelf;
 /// numbers, in the order of their ids.
 #[derive(Drop)]
 pub(crate) struct Entries {
-    rows: Shelf<Uuid, Numbered<Entry>>,
-    groups: Shelf<GroupKey, Numbered<Entry>>,
-    users: Shelf<UserKey, Numbered<Entry>>,
-    expiries: Shelf<ExpiryKey, Numbered<Entry>>,
+    rows: Shelf<Uuid, CommittedRow<Entry>>,
+    groups: Shelf<GroupKey, CommittedRow<Entry>>,
+    users: Shelf<UserKey, CommittedRow<Entry>>,
+    expiries: Shelf<ExpiryKey, CommittedRow<Entry>>,
 }
 
 impl Model for Entries {
@@ -29,9 +29,9 @@ impl Model for Entries {
     ghost use Rattle.std.specs.Map.{values_of};
     ghost use Rattle.entry_book.specs.Order.{Ascending};
     ghost use Rattle.entry_book.specs.Rows.{Entry as BookEntry, entry_key};
-    ghost use Rattle.version_book.specs.declared.numbered.Numbered.{Numbered as NumberedRow};
+    ghost use Rattle.version_book.specs.declared.committed_row.CommittedRow.{CommittedRow as NumberedRow};
     ghost use Rattle.version_book.specs.Index.{IsIndex, group_keys, user_keys, expiry_keys};
-    ghost use Rattle.version_book.specs.Numbered.{of_row};
+    ghost use Rattle.version_book.specs.CommittedRows.{of_row};
     ghost use Rattle.version_book.specs.Stores.{IsKeyed};
 
     ghost Value = { List (NumberedRow BookEntry) };
@@ -48,8 +48,8 @@ impl Model for Entries {
 fn group_keys(alloc: Global, entry: &Entry) -> Result<Vec<GroupKey>, AllocError>
     ensures { IfOk result (λ keys. keys.items ≡ group_keys entry.now) }
 {
-    let identity = Edge::At(entry.identity().clone()?);
-    let key = (entry.parent().clone()?, identity, Edge::At(*entry.id()));
+    let identity = KeyPart::At(entry.identity().clone()?);
+    let key = (entry.parent().clone()?, identity, KeyPart::At(*entry.id()));
     let mut keys = Vec::new(alloc);
     keys.push(key)?;
     Ok(keys)
@@ -61,7 +61,7 @@ fn user_keys(alloc: Global, entry: &Entry) -> Result<Vec<UserKey>, AllocError>
 {
     let mut keys = Vec::new(alloc);
     for domain in entry.domains().as_slice() {
-        keys.push((domain.clone()?, Edge::At(*entry.id())))?;
+        keys.push((domain.clone()?, KeyPart::At(*entry.id())))?;
     }
     Ok(keys)
 }
@@ -72,7 +72,7 @@ fn expiry_keys(alloc: Global, entry: &Entry) -> Result<Vec<ExpiryKey>, AllocErro
 {
     let mut keys = Vec::new(alloc);
     if entry.expiry() > 0 {
-        keys.push((entry.expiry(), Edge::At(*entry.id())))?;
+        keys.push((entry.expiry(), KeyPart::At(*entry.id())))?;
     }
     Ok(keys)
 }
@@ -82,8 +82,9 @@ impl Entries {
     ghost use Rattle.entry_book.specs.Order.{Ascending, Within, with_row};
     ghost use Rattle.entry_book.specs.Rows.{entry_key};
     ghost use Rattle.version_book.specs.Marks.{names_entry};
-    ghost use Rattle.version_book.specs.Numbered.{numbered, of_row, row_of};
-    ghost use Rattle.version_book.specs.Room.{count_of_names, most_rows};
+    ghost use Rattle.version_book.specs.CommittedRows.{numbered, of_row, row_of};
+    ghost use Rattle.version_shelf.specs.Shelf.{most_rows};
+    ghost use Rattle.version_book.specs.Room.{count_of_names};
     ghost use Rattle.version_book.specs.Stores.{IsAbsent, TellRows};
 
     /// No entries. Takes no memory.
@@ -124,7 +125,7 @@ impl Entries {
     }
 
     /// The entries with one of whose id there is none yet. The error is want of memory.
-    fn with(&self, alloc: Global, row: Numbered<Entry>) -> Result<Entries, AllocError>
+    fn with(&self, alloc: Global, row: CommittedRow<Entry>) -> Result<Entries, AllocError>
         requires absent { IsAbsent entry_key row.row.id self.now }
         requires room { length self.now + 1 ≤ most_rows }
         requires names { count_of_names (map row_of self.now) + length row.row.domains ≤ most_rows }
@@ -160,7 +161,7 @@ impl Entries {
     pub(crate) fn after(
         &self,
         alloc: Global,
-        change: &Change<Uuid, Entry>,
+        change: &RowChange<Uuid, Entry>,
         commit: u64,
     ) -> Result<Entries, AllocError>
         requires keyed { IfSome change.now.new (λ new. new.id ≡ change.now.key) }
@@ -172,7 +173,7 @@ impl Entries {
         match &change.new {
             Some(new) => {
                 let row = new.clone()?;
-                rest.with(alloc, Numbered { row, commit })
+                rest.with(alloc, CommittedRow { row, commit })
             }
             None => Ok(rest),
         }
@@ -182,12 +183,12 @@ impl Entries {
     pub(crate) fn at(&self, alloc: Global, mark: &Mark) -> Result<Vec<Entry>, AllocError>
         ensures { IfOk result (λ found. found.items ≡ filter (names_entry mark.now) (map row_of self.now)) }
     {
-        match mark.span() {
-            Span::Groups(low, high) => entries_between(alloc, &self.groups, low, high),
-            Span::Users(low, high) => entries_between(alloc, &self.users, low, high),
-            Span::Expiries(low, high) => entries_between(alloc, &self.expiries, low, high),
-            Span::Row => match mark.named() {
-                Named::Entry(id) => row_alone(alloc, self.rows.get(id)),
+        match mark.index_range() {
+            IndexRange::Groups(low, high) => entries_between(alloc, &self.groups, low, high),
+            IndexRange::Users(low, high) => entries_between(alloc, &self.users, low, high),
+            IndexRange::Expiries(low, high) => entries_between(alloc, &self.expiries, low, high),
+            IndexRange::SingleRow => match mark.kind() {
+                MarkKind::Entry(id) => row_alone(alloc, self.rows.get(id)),
                 _ => Ok(Vec::new(alloc)),
             },
         }
@@ -199,12 +200,17 @@ impl Entries {
         ensures tells { TellRows entry_key older.now self.now → IsTrue result
             → filter (of_row (names_entry mark.now)) older.now ≡ filter (of_row (names_entry mark.now)) self.now }
     {
-        match mark.span() {
-            Span::Groups(low, high) => same_between(&older.groups, &self.groups, low, high),
-            Span::Users(low, high) => same_between(&older.users, &self.users, low, high),
-            Span::Expiries(low, high) => same_between(&older.expiries, &self.expiries, low, high),
-            Span::Row => match mark.named() {
-                Named::Entry(id) => is_same_row(older.rows.get(id), self.rows.get(id)),
+        match mark.index_range() {
+            IndexRange::Groups(low, high) => same_between(&older.groups, &self.groups, low, high),
+            IndexRange::Users(low, high) => same_between(&older.users, &self.users, low, high),
+            IndexRange::Expiries(low, high) => same_between(
+                &older.expiries,
+                &self.expiries,
+                low,
+                high,
+            ),
+            IndexRange::SingleRow => match mark.kind() {
+                MarkKind::Entry(id) => is_same_row(older.rows.get(id), self.rows.get(id)),
                 _ => true,
             },
         }

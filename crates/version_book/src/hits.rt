@@ -5,13 +5,13 @@ ghost use Rattle.std.specs.List.{list_any};
 ghost use Rattle.version_book.specs.Marks.{hits, is_of_entry, passes};
 ghost use Rattle.version_book.specs.Written.{write_of};
 
-use crate::changes::{Change, Changes, Write};
-use crate::mark::{Mark, Named};
-use crate::row::Row;
+use crate::changes::{Changes, RowChange, RowWrite};
+use crate::mark::{Mark, MarkKind};
+use crate::row::BookRow;
 use uuid::Uuid;
 
 /// Is there a row that the mark names?
-fn is_passed<T: Row>(mark: &Mark, row: &Option<T>) -> bool
+fn is_passed<T: BookRow>(mark: &Mark, row: &Option<T>) -> bool
     ensures { result ≡ passes (T.names mark.now) row.now }
 {
     match row {
@@ -24,27 +24,28 @@ fn is_passed<T: Row>(mark: &Mark, row: &Option<T>) -> bool
 fn is_of_entry(id: &Uuid, mark: &Mark) -> bool
     ensures { result ≡ is_of_entry id.now mark.now }
 {
-    match mark.named() {
-        Named::Entry(other) => id == other,
-        Named::Group(_, _)
-        | Named::Children(_)
-        | Named::Users(_)
-        | Named::Expiring(_)
-        | Named::Agent(_)
-        | Named::Bundle(_) => false,
+    match mark.kind() {
+        MarkKind::Entry(other) => id == other,
+        MarkKind::Group(_, _)
+        | MarkKind::Children(_)
+        | MarkKind::Users(_)
+        | MarkKind::Expiring(_)
+        | MarkKind::Agent(_)
+        | MarkKind::Bundle(_) => false,
     }
 }
 
 /// Does the write hit the mark?
-fn is_hit(write: &Write, mark: &Mark) -> bool
+fn is_hit(write: &RowWrite, mark: &Mark) -> bool
     ensures { result ≡ hits (write_of write.now) mark.now }
 {
     match write {
-        Write::Entry(Change { key, old, new }) => {
+        RowWrite::Entry(RowChange { key, old, new }) => {
             is_of_entry(key, mark) || is_passed(mark, old) || is_passed(mark, new)
         }
-        Write::Agent(Change { old, new, .. }) => is_passed(mark, old) || is_passed(mark, new),
-        Write::Bundle(Change { old, new, .. }) => is_passed(mark, old) || is_passed(mark, new),
+        RowWrite::Agent(RowChange { old, new, .. }) => is_passed(mark, old) || is_passed(mark, new),
+        RowWrite::Bundle(RowChange { old, new, .. }) => is_passed(mark, old)
+            || is_passed(mark, new),
     }
 }
 

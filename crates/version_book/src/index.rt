@@ -6,21 +6,21 @@ ghost use Rattle.std.specs.Prelude.{◌≡◌, ◌+◌, ◌≤◌, ◌↔◌, Bo
 ghost use Rattle.entry_book.specs.Order.{Ascending, Within, with_row};
 ghost use Rattle.entry_book.specs.Rows.{Entry as EntryRow, entry_key};
 ghost use Rattle.version_shelf.specs.Shelf.{ClonesEqual, IsInOrder, most_rows, rows_between};
-ghost use Rattle.version_book.specs.declared.numbered.Numbered.{Numbered as NumberedRow};
-ghost use Rattle.version_book.specs.Numbered.{of_row, row_of};
+ghost use Rattle.version_book.specs.declared.committed_row.CommittedRow.{CommittedRow as NumberedRow};
+ghost use Rattle.version_book.specs.CommittedRows.{of_row, row_of};
 ghost use Rattle.version_book.specs.Index.{Covers, IsIndex, KeysTell, TellsKeys};
 ghost use Rattle.version_book.specs.Stores.{IsAbsent, stamps};
 
-use crate::numbered::Numbered;
+use crate::committed_row::CommittedRow;
 use entry_book::Entry;
 use std::alloc::{AllocError, Global};
 use version_shelf::Shelf;
 
 /// The index without these keys: those of a row that is taken away. The error is want of memory.
 pub(crate) fn without_keys<K: Ord + Clone + Drop>(
-    index: &Shelf<K, Numbered<Entry>>,
+    index: &Shelf<K, CommittedRow<Entry>>,
     keys: &[K],
-) -> Result<Shelf<K, Numbered<Entry>>, AllocError>
+) -> Result<Shelf<K, CommittedRow<Entry>>, AllocError>
     requires clones { ClonesEqual K.is_clone }
     requires tells { TellsKeys K.cmp }
     ensures { IfOk result (λ rest. (keys_of : EntryRow → List K) (rows : List (NumberedRow EntryRow)) (old : NumberedRow EntryRow)
@@ -36,10 +36,10 @@ pub(crate) fn without_keys<K: Ord + Clone + Drop>(
 
 /// The index with a row under these keys: those of a row that is put. The error is want of memory.
 pub(crate) fn with_keys<K: Ord + Clone + Drop>(
-    index: &Shelf<K, Numbered<Entry>>,
+    index: &Shelf<K, CommittedRow<Entry>>,
     keys: Vec<K>,
-    row: &Numbered<Entry>,
-) -> Result<Shelf<K, Numbered<Entry>>, AllocError>
+    row: &CommittedRow<Entry>,
+) -> Result<Shelf<K, CommittedRow<Entry>>, AllocError>
     requires clones { ClonesEqual K.is_clone }
     requires tells { TellsKeys K.cmp }
     requires room { IsInOrder K.cmp index.now → length index.now + length keys.items ≤ most_rows }
@@ -56,7 +56,7 @@ pub(crate) fn with_keys<K: Ord + Clone + Drop>(
 }
 
 /// The rows of an index stand in the order of their keys, so that none stands twice.
-fn in_order<K: Ord + Clone>(index: &Shelf<K, Numbered<Entry>>)
+fn in_order<K: Ord + Clone>(index: &Shelf<K, CommittedRow<Entry>>)
     ensures { IsInOrder K.cmp index.now }
 {
     let _ = index.len();
@@ -65,7 +65,7 @@ fn in_order<K: Ord + Clone>(index: &Shelf<K, Numbered<Entry>>)
 /// The entries of the keys `lo <= key < hi`, in the order of their ids. The error is want of memory.
 pub(crate) fn entries_between<K: Ord + Clone>(
     alloc: Global,
-    index: &Shelf<K, Numbered<Entry>>,
+    index: &Shelf<K, CommittedRow<Entry>>,
     lo: &K,
     hi: &K,
 ) -> Result<Vec<Entry>, AllocError>
@@ -83,8 +83,8 @@ pub(crate) fn entries_between<K: Ord + Clone>(
 
 /// Have the keys `lo <= key < hi` the same rows in both indexes, each last written by the same commit?
 pub(crate) fn same_between<K: Ord + Clone>(
-    one: &Shelf<K, Numbered<Entry>>,
-    other: &Shelf<K, Numbered<Entry>>,
+    one: &Shelf<K, CommittedRow<Entry>>,
+    other: &Shelf<K, CommittedRow<Entry>>,
     lo: &K,
     hi: &K,
 ) -> bool
@@ -105,7 +105,7 @@ pub(crate) fn same_between<K: Ord + Clone>(
     others.next().is_none()
 }
 
-fn is_same(one: &Numbered<Entry>, other: &Numbered<Entry>) -> bool
+fn is_same(one: &CommittedRow<Entry>, other: &CommittedRow<Entry>) -> bool
     ensures { IsTrue result ↔ ((one.now.row.id ≡ other.now.row.id) × (one.now.commit ≡ other.now.commit)) }
 {
     one.row.id() == other.row.id() && one.commit == other.commit

@@ -10,17 +10,17 @@ use uuid::Uuid;
 /// A part of a key: one of its values, or the start before them all, or the end after them all. Keys of rows have values
 /// alone; starts and ends are in the bounds of ranges.
 #[derive(Clone, Drop, PartialEq, Eq, PartialOrd, Ord)]
-pub(crate) enum Edge<T> {
+pub(crate) enum KeyPart<T> {
     Start,
     At(T),
     End,
 }
 
 /// Parent, identity and id of an entry.
-pub(crate) type GroupKey = (Shared<SpiffeId>, Edge<Shared<SpiffeId>>, Edge<Uuid>);
+pub(crate) type GroupKey = (Shared<SpiffeId>, KeyPart<Shared<SpiffeId>>, KeyPart<Uuid>);
 
 /// A trust domain that an entry names, and the entry's id.
-pub(crate) type UserKey = (Shared<TrustDomain>, Edge<Uuid>);
+pub(crate) type UserKey = (Shared<TrustDomain>, KeyPart<Uuid>);
 
 /// The expiry of an entry, in seconds since the epoch and above 0, and the entry's id.
-pub(crate) type ExpiryKey = (u64, Edge<Uuid>);
+pub(crate) type ExpiryKey = (u64, KeyPart<Uuid>);

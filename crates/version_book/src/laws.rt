@@ -3,7 +3,7 @@
 //! Each function does nothing. What it ensures is a law of the definitions, stated in `specs/Laws.antt`; a caller
 //! that calls it may rest on the law.
 
-ghost use Rattle.version_book.specs.Laws.{AgreeAfter, BatchCommits, BookAfter, BookAtPlace, BookReads, BooksFollow, BooksJoin, BooksLead, CommitsJoin, DomainStays, FollowsOn, FollowsOne, FollowsParts, HitsInBooks, LastWritten, LawfulFollows, LimitsFollow, ReadsAfter, ReadsAgent, ReadsBundle, ReadsChildren, ReadsEntry, ReadsExpiring, ReadsGroup, ReadsUsers, RepliesCount, RepliesFollow, RepliesJoin, RoomInRun, RunMayApply, Unhit, UnhitHistory};
+ghost use Rattle.version_book.specs.Laws.{AgreeAfter, BatchCommits, BookAfter, BookAtPlace, BookReads, BooksFollow, BooksJoin, BooksLead, CommitsJoin, DomainStays, FollowsJoined, FollowsOne, FollowsParts, HitsInBooks, LastWritten, LawfulFollows, LimitsFollow, ReadsAfter, ReadsAgent, ReadsBundle, ReadsChildren, ReadsEntry, ReadsExpiring, ReadsGroup, ReadsUsers, RepliesCount, RepliesFollow, RepliesJoin, RoomInRun, RunMayApply, Unhit, UnhitHistory};
 
 /// What each mark reads, in the words of the book's own questions.
 pub fn marks()
@@ -32,7 +32,7 @@ pub fn books()
 /// How versions follow one another, batch by batch.
 pub fn histories()
     ensures commits { BatchCommits }
-    ensures joined { FollowsOn }
+    ensures joined { FollowsJoined }
     ensures books { BooksFollow }
     ensures domain { DomainStays }
     ensures limits { LimitsFollow }

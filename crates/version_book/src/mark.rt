@@ -2,7 +2,7 @@
 
 ghost use Rattle.std.specs.Prelude.{◌≡◌};
 
-use crate::key::{Edge, ExpiryKey, GroupKey, UserKey};
+use crate::key::{ExpiryKey, GroupKey, KeyPart, UserKey};
 use entry_book::Shared;
 use spiffe_name::{SpiffeId, TrustDomain};
 use std::alloc::AllocError;
@@ -11,7 +11,7 @@ use uuid::Uuid;
 
 /// The rows of a book that a mark names.
 #[derive(Drop, PartialEq, Eq)]
-pub enum Named {
+pub enum MarkKind {
     /// The entry of an id, or its absence.
     Entry(Uuid),
     /// The entries of a parent and an identity, in this order.
@@ -30,8 +30,8 @@ pub enum Named {
 
 /// Where the rows lie that a mark names: the two bounds of a range of an index, where it is no single row.
 #[derive(Drop)]
-pub(crate) enum Span {
-    Row,
+pub(crate) enum IndexRange {
+    SingleRow,
     Groups(GroupKey, GroupKey),
     Users(UserKey, UserKey),
     Expiries(ExpiryKey, ExpiryKey),
@@ -41,34 +41,34 @@ pub(crate) enum Span {
 /// What it names is all that a contract sees of it: marks that name the same are equal.
 #[derive(Drop)]
 pub struct Mark {
-    named: Named,
-    span: Span,
+    kind: MarkKind,
+    index_range: IndexRange,
 }
 
 impl Model for Mark {
     ghost use Rattle.std.specs.Prelude.{◌≡◌};
-    ghost use Rattle.version_book.specs.declared.mark.Named.{Named};
-    ghost use Rattle.version_book.specs.Index.{span_of};
+    ghost use Rattle.version_book.specs.declared.mark.MarkKind.{MarkKind};
+    ghost use Rattle.version_book.specs.Index.{index_range_of};
 
-    ghost Value = { Named };
+    ghost Value = { MarkKind };
 
-    ghost view = { λ mark. mark.named };
+    ghost view = { λ mark. mark.kind };
 
-    ghost invariant = { λ mark. mark.span ≡ span_of mark.named };
+    ghost invariant = { λ mark. mark.index_range ≡ index_range_of mark.kind };
 }
 
 impl Mark {
     ghost use Rattle.std.specs.Prelude.{◌≡◌, IfOk};
-    ghost use Rattle.version_book.specs.declared.mark.Named.TheVariants as mark;
-    ghost use Rattle.version_book.specs.Index.{span_of};
+    ghost use Rattle.version_book.specs.declared.mark.MarkKind.TheVariants as mark;
+    ghost use Rattle.version_book.specs.Index.{index_range_of};
 
     /// The entry of an id, or its absence.
     pub fn entry(id: Uuid) -> Mark
         ensures { result ≡ mark.Entry id }
     {
         Mark {
-            named: Named::Entry(id),
-            span: Span::Row,
+            kind: MarkKind::Entry(id),
+            index_range: IndexRange::SingleRow,
         }
     }
 
@@ -76,11 +76,19 @@ impl Mark {
     pub fn group(parent: &Shared<SpiffeId>, identity: &Shared<SpiffeId>) -> Result<Mark, AllocError>
         ensures { IfOk result (λ made. made ≡ mark.Group parent.now identity.now) }
     {
-        let low = (parent.clone()?, Edge::At(identity.clone()?), Edge::Start);
-        let high = (parent.clone()?, Edge::At(identity.clone()?), Edge::End);
+        let low = (
+            parent.clone()?,
+            KeyPart::At(identity.clone()?),
+            KeyPart::Start,
+        );
+        let high = (
+            parent.clone()?,
+            KeyPart::At(identity.clone()?),
+            KeyPart::End,
+        );
         Ok(Mark {
-            named: Named::Group(parent.clone()?, identity.clone()?),
-            span: Span::Groups(low, high),
+            kind: MarkKind::Group(parent.clone()?, identity.clone()?),
+            index_range: IndexRange::Groups(low, high),
         })
     }
 
@@ -88,11 +96,11 @@ impl Mark {
     pub fn children(parent: &Shared<SpiffeId>) -> Result<Mark, AllocError>
         ensures { IfOk result (λ made. made ≡ mark.Children parent.now) }
     {
-        let low = (parent.clone()?, Edge::Start, Edge::Start);
-        let high = (parent.clone()?, Edge::End, Edge::End);
+        let low = (parent.clone()?, KeyPart::Start, KeyPart::Start);
+        let high = (parent.clone()?, KeyPart::End, KeyPart::End);
         Ok(Mark {
-            named: Named::Children(parent.clone()?),
-            span: Span::Groups(low, high),
+            kind: MarkKind::Children(parent.clone()?),
+            index_range: IndexRange::Groups(low, high),
         })
     }
 
@@ -100,11 +108,11 @@ impl Mark {
     pub fn users(domain: &Shared<TrustDomain>) -> Result<Mark, AllocError>
         ensures { IfOk result (λ made. made ≡ mark.Users domain.now) }
     {
-        let low = (domain.clone()?, Edge::Start);
-        let high = (domain.clone()?, Edge::End);
+        let low = (domain.clone()?, KeyPart::Start);
+        let high = (domain.clone()?, KeyPart::End);
         Ok(Mark {
-            named: Named::Users(domain.clone()?),
-            span: Span::Users(low, high),
+            kind: MarkKind::Users(domain.clone()?),
+            index_range: IndexRange::Users(low, high),
         })
     }
 
@@ -113,8 +121,8 @@ impl Mark {
         ensures { result ≡ mark.Expiring moment }
     {
         Mark {
-            named: Named::Expiring(moment),
-            span: Span::Expiries((0, Edge::Start), (moment, Edge::Start)),
+            kind: MarkKind::Expiring(moment),
+            index_range: IndexRange::Expiries((0, KeyPart::Start), (moment, KeyPart::Start)),
         }
     }
 
@@ -123,8 +131,8 @@ impl Mark {
         ensures { result ≡ mark.Agent id }
     {
         Mark {
-            named: Named::Agent(id),
-            span: Span::Row,
+            kind: MarkKind::Agent(id),
+            index_range: IndexRange::SingleRow,
         }
     }
 
@@ -133,23 +141,23 @@ impl Mark {
         ensures { result ≡ mark.Bundle domain }
     {
         Mark {
-            named: Named::Bundle(domain),
-            span: Span::Row,
+            kind: MarkKind::Bundle(domain),
+            index_range: IndexRange::SingleRow,
         }
     }
 
     /// Which rows the mark names.
-    pub fn named(&self) -> &Named
+    pub fn kind(&self) -> &MarkKind
         ensures { result.now ≡ self.now }
     {
-        &self.named
+        &self.kind
     }
 
     /// Where these rows lie.
-    pub(crate) fn span(&self) -> &Span
-        ensures { result.now ≡ span_of self.now }
+    pub(crate) fn index_range(&self) -> &IndexRange
+        ensures { result.now ≡ index_range_of self.now }
     {
-        &self.span
+        &self.index_range
     }
 }
 
@@ -158,30 +166,33 @@ impl Clone for Mark {
     ghost is_clone = { λ original copy. copy ≡ original };
 
     fn clone(&self) -> Result<Mark, AllocError> {
-        match &self.named {
-            Named::Entry(id) => Ok(Mark::entry(*id)),
-            Named::Group(parent, identity) => Mark::group(parent, identity),
-            Named::Children(parent) => Mark::children(parent),
-            Named::Users(domain) => Mark::users(domain),
-            Named::Expiring(moment) => Ok(Mark::expiring(*moment)),
-            Named::Agent(id) => Ok(Mark::agent(id.clone()?)),
-            Named::Bundle(domain) => Ok(Mark::bundle(domain.clone()?)),
+        match &self.kind {
+            MarkKind::Entry(id) => Ok(Mark::entry(*id)),
+            MarkKind::Group(parent, identity) => Mark::group(parent, identity),
+            MarkKind::Children(parent) => Mark::children(parent),
+            MarkKind::Users(domain) => Mark::users(domain),
+            MarkKind::Expiring(moment) => Ok(Mark::expiring(*moment)),
+            MarkKind::Agent(id) => Ok(Mark::agent(id.clone()?)),
+            MarkKind::Bundle(domain) => Ok(Mark::bundle(domain.clone()?)),
         }
     }
 }
 
-impl Clone for Named {
+impl Clone for MarkKind {
     ghost is_clone = { λ original copy. copy ≡ original };
 
-    fn clone(&self) -> Result<Named, AllocError> {
+    fn clone(&self) -> Result<MarkKind, AllocError> {
         Ok(match self {
-            Named::Entry(id) => Named::Entry(*id),
-            Named::Group(parent, identity) => Named::Group(parent.clone()?, identity.clone()?),
-            Named::Children(parent) => Named::Children(parent.clone()?),
-            Named::Users(domain) => Named::Users(domain.clone()?),
-            Named::Expiring(moment) => Named::Expiring(*moment),
-            Named::Agent(id) => Named::Agent(id.clone()?),
-            Named::Bundle(domain) => Named::Bundle(domain.clone()?),
+            MarkKind::Entry(id) => MarkKind::Entry(*id),
+            MarkKind::Group(parent, identity) => MarkKind::Group(
+                parent.clone()?,
+                identity.clone()?,
+            ),
+            MarkKind::Children(parent) => MarkKind::Children(parent.clone()?),
+            MarkKind::Users(domain) => MarkKind::Users(domain.clone()?),
+            MarkKind::Expiring(moment) => MarkKind::Expiring(*moment),
+            MarkKind::Agent(id) => MarkKind::Agent(id.clone()?),
+            MarkKind::Bundle(domain) => MarkKind::Bundle(domain.clone()?),
         })
     }
 }

@@ -6,10 +6,10 @@ ghost use Rattle.entry_book.specs.Writes.{after, after_write};
 ghost use Rattle.version_book.specs.Marks.{kept, seen};
 ghost use Rattle.version_book.specs.Written.{write_of};
 
-use crate::changes::{Changes, Write};
+use crate::changes::{Changes, RowWrite};
 use crate::mark::Mark;
-use crate::reading::Reading;
-use crate::row::Row;
+use crate::row::BookRow;
+use crate::rows_read::RowsRead;
 use std::alloc::{AllocError, Global};
 
 /// Do these bytes stand before the others?
@@ -21,7 +21,7 @@ fn is_before(bytes: &[u8], others: &[u8]) -> bool
 }
 
 /// Copies the rows whose keys stand before this one.
-fn push_before<T: Row>(rows: &[T], key: &[u8], out: &mut Vec<T>) -> Result<(), AllocError>
+fn push_before<T: BookRow>(rows: &[T], key: &[u8], out: &mut Vec<T>) -> Result<(), AllocError>
     ensures { OnOk result (out.new.items ≡ out.old.items ++ filter (λ row. is_before (T.key row) key.now) rows.now) }
 {
     for row in rows {
@@ -33,7 +33,7 @@ fn push_before<T: Row>(rows: &[T], key: &[u8], out: &mut Vec<T>) -> Result<(), A
 }
 
 /// Copies the rows whose keys stand behind this one.
-fn push_behind<T: Row>(rows: &[T], key: &[u8], out: &mut Vec<T>) -> Result<(), AllocError>
+fn push_behind<T: BookRow>(rows: &[T], key: &[u8], out: &mut Vec<T>) -> Result<(), AllocError>
     ensures { OnOk result (out.new.items ≡ out.old.items ++ filter (λ row. is_before key.now (T.key row)) rows.now) }
 {
     for row in rows {
@@ -46,7 +46,7 @@ fn push_behind<T: Row>(rows: &[T], key: &[u8], out: &mut Vec<T>) -> Result<(), A
 
 /// The rows with the new one, or none, in the place of those of a key. The error is want of memory.
 #[tactic(auto, unfolding(entry_book::specs::Order::with_row))]
-fn with_row<T: Row>(
+fn with_row<T: BookRow>(
     alloc: Global,
     rows: &[T],
     key: &[u8],
@@ -64,7 +64,7 @@ fn with_row<T: Row>(
 }
 
 /// The row, where there is one and the mark names it. The error is want of memory.
-fn kept<T: Row>(mark: &Mark, row: &Option<T>) -> Result<Option<T>, AllocError>
+fn kept<T: BookRow>(mark: &Mark, row: &Option<T>) -> Result<Option<T>, AllocError>
     ensures { IfOk result (λ found. found ≡ kept (T.names mark.now) row.now) }
 {
     if let Some(row) = row {
@@ -76,7 +76,7 @@ fn kept<T: Row>(mark: &Mark, row: &Option<T>) -> Result<Option<T>, AllocError>
 }
 
 /// The rows that a mark names, after a write that puts this row, or none, under a key. The error is want of memory.
-fn rows_after<T: Row>(
+fn rows_after<T: BookRow>(
     alloc: Global,
     rows: &[T],
     mark: &Mark,
@@ -92,40 +92,40 @@ fn rows_after<T: Row>(
 /// What the mark reads after one write more. The error is want of memory.
 fn after_write(
     alloc: Global,
-    reading: Reading,
+    reading: RowsRead,
     mark: &Mark,
-    write: &Write,
-) -> Result<Reading, AllocError>
+    write: &RowWrite,
+) -> Result<RowsRead, AllocError>
     ensures { IfOk result (λ next. next ≡ after_write (seen mark.now (write_of write.now)) reading) }
 {
-    let Reading {
+    let RowsRead {
         entries,
         agents,
         bundles,
     } = reading;
     match write {
-        Write::Entry(change) => {
+        RowWrite::Entry(change) => {
             let key = change.key.as_bytes().as_slice();
             let entries = rows_after(alloc, entries.as_slice(), mark, key, &change.new)?;
-            Ok(Reading {
+            Ok(RowsRead {
                 entries,
                 agents,
                 bundles,
             })
         }
-        Write::Agent(change) => {
+        RowWrite::Agent(change) => {
             let key = change.key.get().as_str().as_bytes();
             let agents = rows_after(alloc, agents.as_slice(), mark, key, &change.new)?;
-            Ok(Reading {
+            Ok(RowsRead {
                 entries,
                 agents,
                 bundles,
             })
         }
-        Write::Bundle(change) => {
+        RowWrite::Bundle(change) => {
             let key = change.key.get().as_str().as_bytes();
             let bundles = rows_after(alloc, bundles.as_slice(), mark, key, &change.new)?;
-            Ok(Reading {
+            Ok(RowsRead {
                 entries,
                 agents,
                 bundles,
@@ -137,10 +137,10 @@ fn after_write(
 /// What the mark reads after these writes. The error is want of memory.
 pub(crate) fn after_changes(
     alloc: Global,
-    reading: Reading,
+    reading: RowsRead,
     mark: &Mark,
     changes: &Changes,
-) -> Result<Reading, AllocError>
+) -> Result<RowsRead, AllocError>
     ensures { IfOk result (λ next. next ≡ after (map (seen mark.now) changes.now) reading) }
 {
     let mut reading = reading;

@@ -2,17 +2,17 @@
 
 ghost use Rattle.std.specs.Prelude.{◌≡◌, Bool, IfOk, List, ℕ};
 
-use crate::mark::{Mark, Named};
+use crate::mark::{Mark, MarkKind};
 use entry_book::{Agent, Bundle, Entry};
 use std::alloc::AllocError;
 
 /// A row of a book: it has a key, by whose bytes rows are ordered, and there are marks that name it.
-pub(crate) trait Row: Drop {
-    ghost use Rattle.version_book.specs.declared.mark.Named.{Named};
+pub(crate) trait BookRow: Drop {
+    ghost use Rattle.version_book.specs.declared.mark.MarkKind.{MarkKind};
 
     ghost key: { Self → List ℕ };
 
-    ghost names: { Named → Self → Bool };
+    ghost names: { MarkKind → Self → Bool };
 
     /// The bytes of its key.
     fn key(&self) -> &[u8]
@@ -27,7 +27,7 @@ pub(crate) trait Row: Drop {
         ensures { IfOk result (λ copy. copy ≡ self.now) };
 }
 
-impl Row for Entry {
+impl BookRow for Entry {
     ghost use Rattle.version_book.specs.Marks.{names_entry};
 
     ghost key = { λ entry. entry.id };
@@ -39,15 +39,15 @@ impl Row for Entry {
     }
 
     fn is_named(&self, mark: &Mark) -> bool {
-        match mark.named() {
-            Named::Entry(id) => self.id() == id,
-            Named::Group(parent, identity) => {
+        match mark.kind() {
+            MarkKind::Entry(id) => self.id() == id,
+            MarkKind::Group(parent, identity) => {
                 self.parent().get() == parent.get() && self.identity().get() == identity.get()
             }
-            Named::Children(parent) => self.parent().get() == parent.get(),
-            Named::Users(domain) => self.names(domain.get()),
-            Named::Expiring(moment) => self.expires_before(*moment),
-            Named::Agent(_) | Named::Bundle(_) => false,
+            MarkKind::Children(parent) => self.parent().get() == parent.get(),
+            MarkKind::Users(domain) => self.names(domain.get()),
+            MarkKind::Expiring(moment) => self.expires_before(*moment),
+            MarkKind::Agent(_) | MarkKind::Bundle(_) => false,
         }
     }
 
@@ -56,7 +56,7 @@ impl Row for Entry {
     }
 }
 
-impl Row for Agent {
+impl BookRow for Agent {
     ghost use Rattle.version_book.specs.Marks.{names_agent};
 
     ghost key = { λ agent. agent.id };
@@ -68,14 +68,14 @@ impl Row for Agent {
     }
 
     fn is_named(&self, mark: &Mark) -> bool {
-        match mark.named() {
-            Named::Agent(id) => self.id.get() == id.get(),
-            Named::Entry(_)
-            | Named::Group(_, _)
-            | Named::Children(_)
-            | Named::Users(_)
-            | Named::Expiring(_)
-            | Named::Bundle(_) => false,
+        match mark.kind() {
+            MarkKind::Agent(id) => self.id.get() == id.get(),
+            MarkKind::Entry(_)
+            | MarkKind::Group(_, _)
+            | MarkKind::Children(_)
+            | MarkKind::Users(_)
+            | MarkKind::Expiring(_)
+            | MarkKind::Bundle(_) => false,
         }
     }
 
@@ -84,7 +84,7 @@ impl Row for Agent {
     }
 }
 
-impl Row for Bundle {
+impl BookRow for Bundle {
     ghost use Rattle.version_book.specs.Marks.{names_bundle};
 
     ghost key = { λ bundle. bundle.domain };
@@ -96,14 +96,14 @@ impl Row for Bundle {
     }
 
     fn is_named(&self, mark: &Mark) -> bool {
-        match mark.named() {
-            Named::Bundle(domain) => self.domain.get() == domain.get(),
-            Named::Entry(_)
-            | Named::Group(_, _)
-            | Named::Children(_)
-            | Named::Users(_)
-            | Named::Expiring(_)
-            | Named::Agent(_) => false,
+        match mark.kind() {
+            MarkKind::Bundle(domain) => self.domain.get() == domain.get(),
+            MarkKind::Entry(_)
+            | MarkKind::Group(_, _)
+            | MarkKind::Children(_)
+            | MarkKind::Users(_)
+            | MarkKind::Expiring(_)
+            | MarkKind::Agent(_) => false,
         }
     }
 

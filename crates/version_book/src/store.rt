@@ -1,16 +1,15 @@
 //! How are the rows of a version kept?
 
 ghost use Rattle.std.specs.Prelude.{◌≡◌, ◌≤◌, ◌+◌, IfOk, IfSome, length, option_map};
-ghost use Rattle.version_shelf.specs.Shelf.{ClonesEqual, without_row};
-ghost use Rattle.version_book.specs.Numbered.{numbered};
-ghost use Rattle.version_book.specs.Room.{most_rows};
+ghost use Rattle.version_shelf.specs.Shelf.{ClonesEqual, without_key, most_rows};
+ghost use Rattle.version_book.specs.CommittedRows.{numbered};
 ghost use Rattle.version_book.specs.Stores.{shelf_after};
 
-use crate::changes::{Change, Write};
+use crate::changes::{RowChange, RowWrite};
+use crate::committed_row::{CommittedRow, is_same_row, row_alone};
 use crate::entries::Entries;
-use crate::mark::{Mark, Named};
-use crate::numbered::{Numbered, is_same_row, row_alone};
-use crate::reading::Reading;
+use crate::mark::{Mark, MarkKind};
+use crate::rows_read::RowsRead;
 use entry_book::{Agent, Bundle, Shared};
 use spiffe_name::{SpiffeId, TrustDomain};
 use std::alloc::{AllocError, Global};
@@ -21,17 +20,17 @@ use version_shelf::Shelf;
 #[derive(Drop)]
 pub(crate) struct Store {
     entries: Entries,
-    agents: Shelf<Shared<SpiffeId>, Numbered<Agent>>,
-    bundles: Shelf<Shared<TrustDomain>, Numbered<Bundle>>,
+    agents: Shelf<Shared<SpiffeId>, CommittedRow<Agent>>,
+    bundles: Shelf<Shared<TrustDomain>, CommittedRow<Bundle>>,
 }
 
 impl Model for Store {
     ghost use Rattle.std.specs.Map.{values_of};
     ghost use Rattle.entry_book.specs.Rows.{agent_key, bundle_key};
-    ghost use Rattle.version_book.specs.Numbered.{Rows};
+    ghost use Rattle.version_book.specs.CommittedRows.{CommittedRows};
     ghost use Rattle.version_book.specs.Stores.{IsKeyed};
 
-    ghost Value = { Rows };
+    ghost Value = { CommittedRows };
 
     ghost view = { λ store. record {
       entries = store.entries;
@@ -48,11 +47,11 @@ impl Store {
     ghost use Rattle.entry_book.specs.Rows.{entry_key, agent_key, bundle_key};
     ghost use Rattle.entry_book.specs.Writes.{FitAll, FitsBook};
     ghost use Rattle.version_book.specs.Marks.{names_agent, names_bundle, reads};
-    ghost use Rattle.version_book.specs.Numbered.{book_of, marked, no_rows, of_row, row_of, rows_after, rows_after_write};
+    ghost use Rattle.version_book.specs.CommittedRows.{book_of, marked, no_rows, of_row, row_of, rows_after, rows_after_write};
     ghost use Rattle.version_book.specs.Room.{RoomAll, RoomFor};
     ghost use Rattle.version_book.specs.Stores.{NumbersTell, TellRows};
     ghost use Rattle.version_book.specs.Written.{write_of};
-    ghost use Rattle.version_book.specs.declared.changes.Write.TheVariants as write;
+    ghost use Rattle.version_book.specs.declared.changes.RowWrite.TheVariants as write;
 
     /// No rows. Takes no memory.
     pub(crate) fn empty(alloc: Global) -> Store
@@ -92,7 +91,7 @@ impl Store {
     /// The rows after a write of an agent, by this commit. The error is want of memory.
     fn after_agent(
         &self,
-        change: &Change<Shared<SpiffeId>, Agent>,
+        change: &RowChange<Shared<SpiffeId>, Agent>,
         commit: u64,
     ) -> Result<Store, AllocError>
         requires fits { FitsBook (write_of (write.Agent change.now)) (book_of self.now) }
@@ -110,7 +109,7 @@ impl Store {
     /// The rows after a write of a bundle, by this commit. The error is want of memory.
     fn after_bundle(
         &self,
-        change: &Change<Shared<TrustDomain>, Bundle>,
+        change: &RowChange<Shared<TrustDomain>, Bundle>,
         commit: u64,
     ) -> Result<Store, AllocError>
         requires fits { FitsBook (write_of (write.Bundle change.now)) (book_of self.now) }
@@ -126,19 +125,19 @@ impl Store {
     }
 
     /// The rows after one write, by this commit. The error is want of memory.
-    fn after_write(&self, alloc: Global, write: &Write, commit: u64) -> Result<Store, AllocError>
+    fn after_write(&self, alloc: Global, write: &RowWrite, commit: u64) -> Result<Store, AllocError>
         requires fits { FitsBook (write_of write.now) (book_of self.now) }
         requires room { RoomFor (write_of write.now) (book_of self.now) }
         ensures { IfOk result (λ store. store ≡ rows_after_write commit (write_of write.now) self.now) }
     {
         match write {
-            Write::Entry(change) => Ok(Store {
+            RowWrite::Entry(change) => Ok(Store {
                 entries: self.entries.after(alloc, change, commit)?,
                 agents: self.agents.clone()?,
                 bundles: self.bundles.clone()?,
             }),
-            Write::Agent(change) => self.after_agent(change, commit),
-            Write::Bundle(change) => self.after_bundle(change, commit),
+            RowWrite::Agent(change) => self.after_agent(change, commit),
+            RowWrite::Bundle(change) => self.after_bundle(change, commit),
         }
     }
 
@@ -146,7 +145,7 @@ impl Store {
     pub(crate) fn after_writes(
         &self,
         alloc: Global,
-        writes: &[Write],
+        writes: &[RowWrite],
         commit: u64,
     ) -> Result<Store, AllocError>
         requires fits { FitAll (map write_of writes.now) (book_of self.now) }
@@ -161,10 +160,10 @@ impl Store {
     }
 
     /// The rows that a mark names. The error is want of memory.
-    pub(crate) fn read(&self, alloc: Global, mark: &Mark) -> Result<Reading, AllocError>
+    pub(crate) fn read(&self, alloc: Global, mark: &Mark) -> Result<RowsRead, AllocError>
         ensures { IfOk result (λ reading. reading ≡ reads mark.now (book_of self.now)) }
     {
-        Ok(Reading {
+        Ok(RowsRead {
             entries: self.entries.at(alloc, mark)?,
             agents: self.agents_at(alloc, mark)?,
             bundles: self.bundles_at(alloc, mark)?,
@@ -174,8 +173,8 @@ impl Store {
     fn agents_at(&self, alloc: Global, mark: &Mark) -> Result<Vec<Agent>, AllocError>
         ensures { IfOk result (λ found. found.items ≡ filter (names_agent mark.now) (map row_of self.now.agents)) }
     {
-        match mark.named() {
-            Named::Agent(id) => row_alone(alloc, self.agents.get(id)),
+        match mark.kind() {
+            MarkKind::Agent(id) => row_alone(alloc, self.agents.get(id)),
             _ => Ok(Vec::new(alloc)),
         }
     }
@@ -183,8 +182,8 @@ impl Store {
     fn bundles_at(&self, alloc: Global, mark: &Mark) -> Result<Vec<Bundle>, AllocError>
         ensures { IfOk result (λ found. found.items ≡ filter (names_bundle mark.now) (map row_of self.now.bundles)) }
     {
-        match mark.named() {
-            Named::Bundle(domain) => row_alone(alloc, self.bundles.get(domain)),
+        match mark.kind() {
+            MarkKind::Bundle(domain) => row_alone(alloc, self.bundles.get(domain)),
             _ => Ok(Vec::new(alloc)),
         }
     }
@@ -204,8 +203,8 @@ impl Store {
         ensures tells { TellRows agent_key older.now.agents self.now.agents → IsTrue result
             → filter (of_row (names_agent mark.now)) older.now.agents ≡ filter (of_row (names_agent mark.now)) self.now.agents }
     {
-        match mark.named() {
-            Named::Agent(id) => is_same_row(older.agents.get(id), self.agents.get(id)),
+        match mark.kind() {
+            MarkKind::Agent(id) => is_same_row(older.agents.get(id), self.agents.get(id)),
             _ => true,
         }
     }
@@ -215,8 +214,8 @@ impl Store {
         ensures tells { TellRows bundle_key older.now.bundles self.now.bundles → IsTrue result
             → filter (of_row (names_bundle mark.now)) older.now.bundles ≡ filter (of_row (names_bundle mark.now)) self.now.bundles }
     {
-        match mark.named() {
-            Named::Bundle(domain) => is_same_row(
+        match mark.kind() {
+            MarkKind::Bundle(domain) => is_same_row(
                 older.bundles.get(domain),
                 self.bundles.get(domain),
             ),
@@ -239,12 +238,12 @@ impl Clone for Store {
 
 /// The shelf without the row of a key, if there is one. The error is want of memory.
 fn rest_of<K: Ord + Clone + Drop, T: Clone + Drop>(
-    shelf: &Shelf<K, Numbered<T>>,
+    shelf: &Shelf<K, CommittedRow<T>>,
     key: &K,
-) -> Result<Shelf<K, Numbered<T>>, AllocError>
+) -> Result<Shelf<K, CommittedRow<T>>, AllocError>
     requires keys { ClonesEqual K.is_clone }
     requires rows { ClonesEqual T.is_clone }
-    ensures { IfOk result (λ rest. rest ≡ without_row K.cmp shelf.now key.now) }
+    ensures { IfOk result (λ rest. rest ≡ without_key K.cmp shelf.now key.now) }
 {
     match shelf.get(key) {
         Some(_) => Ok(shelf.without(key)?),
@@ -254,20 +253,20 @@ fn rest_of<K: Ord + Clone + Drop, T: Clone + Drop>(
 
 /// The shelf after a change of one row, by this commit. The error is want of memory.
 fn after_change<K: Ord + Clone + Drop, T: Clone + Drop>(
-    shelf: &Shelf<K, Numbered<T>>,
-    change: &Change<K, T>,
+    shelf: &Shelf<K, CommittedRow<T>>,
+    change: &RowChange<K, T>,
     commit: u64,
-) -> Result<Shelf<K, Numbered<T>>, AllocError>
+) -> Result<Shelf<K, CommittedRow<T>>, AllocError>
     requires keys { ClonesEqual K.is_clone }
     requires rows { ClonesEqual T.is_clone }
-    requires room { IfSome change.now.new (λ new. length (without_row K.cmp shelf.now change.now.key) + 1 ≤ most_rows) }
+    requires room { IfSome change.now.new (λ new. length (without_key K.cmp shelf.now change.now.key) + 1 ≤ most_rows) }
     ensures { IfOk result (λ after. after ≡ shelf_after K.cmp change.now.key (option_map (numbered commit) change.now.new) shelf.now) }
 {
     let rest = rest_of(shelf, &change.key)?;
     match &change.new {
         Some(new) => {
             let row = new.clone()?;
-            Ok(rest.with(change.key.clone()?, Numbered { row, commit })?)
+            Ok(rest.with(change.key.clone()?, CommittedRow { row, commit })?)
         }
         None => Ok(rest),
     }

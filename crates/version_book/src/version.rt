@@ -5,7 +5,7 @@ ghost use Rattle.std.specs.Prelude.{◌≡◌};
 use crate::changes::Changes;
 use crate::mark::Mark;
 use crate::overlay::after_changes;
-use crate::reading::Reading;
+use crate::rows_read::RowsRead;
 use crate::store::Store;
 use entry_book::Shared;
 use spiffe_name::TrustDomain;
@@ -44,7 +44,7 @@ pub struct Version {
 impl Model for Version {
     ghost use Rattle.std.specs.Prelude.{◌*◌};
     ghost use Rattle.entry_book.specs.Lawful.{Lawful};
-    ghost use Rattle.version_book.specs.Numbered.{AllUpTo, State, book_of};
+    ghost use Rattle.version_book.specs.CommittedRows.{AllUpTo, State, book_of};
 
     ghost Value = { State };
 
@@ -67,7 +67,7 @@ impl Version {
     ghost use Rattle.version_book.specs.Applying.{MayApply};
     ghost use Rattle.version_book.specs.History.{Follows, IsEarlier, any_hits};
     ghost use Rattle.version_book.specs.Marks.{Agree, reads};
-    ghost use Rattle.version_book.specs.Numbered.{AllUpTo, book_of, marked, next_state, no_rows};
+    ghost use Rattle.version_book.specs.CommittedRows.{AllUpTo, book_of, marked, next_state, no_rows};
 
     /// The first version: no rows, at number 0. The error is want of memory.
     pub fn empty(alloc: Global, domain: TrustDomain) -> Result<Version, AllocError>
@@ -116,14 +116,14 @@ impl Version {
     }
 
     /// What a mark reads on this version's book. The error is want of memory.
-    pub fn read(&self, mark: &Mark) -> Result<Reading, AllocError>
+    pub fn read(&self, mark: &Mark) -> Result<RowsRead, AllocError>
         ensures { IfOk result (λ reading. reading ≡ reads mark.now (book_of self.now.rows)) }
     {
         self.body.get().store.read(self.alloc, mark)
     }
 
     /// What a mark reads on the book after these changes, none of which is applied. The error is want of memory.
-    pub fn read_after(&self, mark: &Mark, changes: &Changes) -> Result<Reading, AllocError>
+    pub fn read_after(&self, mark: &Mark, changes: &Changes) -> Result<RowsRead, AllocError>
         ensures { IfOk result (λ reading. reading ≡ reads mark.now (after changes.now (book_of self.now.rows))) }
     {
         let reading = self.read(mark)?;

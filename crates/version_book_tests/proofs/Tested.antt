@@ -14,45 +14,45 @@ use Rattle.entry_book.specs.declared.entry.NewEntry.{NewEntry}
 use Rattle.entry_book.specs.declared.mode.DropMode.{DropMode}
 use Rattle.entry_book.specs.Rows.{Bytes, Entry, at_revision}
 use Rattle.entry_book.specs.Book.{Book, AscendingBook, group_of, users_of}
-use Rattle.entry_book.specs.Writes.{Write, FitAll, after}
+use Rattle.entry_book.specs.Writes.{RowWrite, FitAll, after}
 use Rattle.entry_book.specs.Batches.{Batch, IsMadeFor, IsProperOp, op_fault}
-use Rattle.entry_book.specs.Ops.{Answer, op_of, put, put_named, put_beside, lacking, similar, create_over, update_over, drop_in, drop_over}
-use Rattle.entry_book.specs.Runs.{Ran, RunResult, run, then_run}
+use Rattle.entry_book.specs.Ops.{OpResult, op_of, put, put_named, put_beside, lacking, similar, create_over, update_over, drop_in, drop_over}
+use Rattle.entry_book.specs.Runs.{RunEffect, RunResult, run, then_run}
 use Rattle.entry_book.specs.Lawful.{Lawful}
 use Rattle.entry_book.specs.Laws.{IsWithinLimits}
-use Rattle.version_book.specs.declared.mark.Named.{Named}
-use Rattle.version_book.specs.declared.mark.Named.TheVariants as mark
+use Rattle.version_book.specs.declared.mark.MarkKind.{MarkKind}
+use Rattle.version_book.specs.declared.mark.MarkKind.TheVariants as mark
 use Rattle.version_book.specs.Marks.{reads}
-use Rattle.version_book.specs.Numbered.{State, book_of, next_state}
+use Rattle.version_book.specs.CommittedRows.{State, book_of, next_state}
 use Rattle.version_book.specs.History.{state_with, writes_in}
 use Rattle.version_book.specs.Room.{RoomAll}
 use Rattle.version_book.proofs.NamedRows.{book_after}
 use Rattle.version_book.proofs.Rooms.{room_in_run}
 
 -- these are the writes of the operation, which is accepted
-abbrev pub OfOp : Answer → List Write → Type 0
+abbrev pub OfOp : OpResult → List RowWrite → Type 0
 OfOp a ws = MatchResult a (λ d. d.writes ≡ ws) (λ r. ⊥)
 
 -- these are the writes of the run, which is accepted
-abbrev pub OfRun : RunResult → List Write → Type 0
+abbrev pub OfRun : RunResult → List RowWrite → Type 0
 OfRun r ws = MatchResult r (λ t. t.writes ≡ ws) (λ s. ⊥)
 
-along : (r : RunResult) (ws : List Write) (P : List Write → Type 0) → OfRun r ws → IfOk r (λ t. P t.writes) → P ws
+along : (r : RunResult) (ws : List RowWrite) (P : List RowWrite → Type 0) → OfRun r ws → IfOk r (λ t. P t.writes) → P ws
 along (Ok t) ws P e h = subst P e h
 along (Err s) ws P e h = absurd e
 
-ran : (r : RunResult) (ws : List Write) → OfRun r ws → (t : Ran) × (r ≡ Ok t) × (t.writes ≡ ws)
+ran : (r : RunResult) (ws : List RowWrite) → OfRun r ws → (t : RunEffect) × (r ≡ Ok t) × (t.writes ≡ ws)
 ran (Ok t) ws e = (t, refl, e)
 ran (Err s) ws e = absurd e
 
 -- What a version asks of writes.
-pub record MayApply (batch : Batch) (s : State) (ws : List Write) : Type 0 where
+pub record MayApply (batch : Batch) (s : State) (ws : List RowWrite) : Type 0 where
   pub fits : FitAll ws (book_of s.rows)
   pub lawful : Lawful s.domain (64 * (s.number + 1)) (after ws (book_of s.rows))
   pub room : IsWithinLimits (book_of s.rows) → RoomAll ws (book_of s.rows)
   pub next : next_state ws s ≡ state_with batch s
 
-pub may_apply : (batch : Batch) (s : State) (ws : List Write) → IsMadeFor batch.domain batch → batch.domain ≡ s.domain → Lawful s.domain (64 * s.number) (book_of s.rows) → OfRun (run batch.domain batch.ops (book_of s.rows)) ws → MayApply batch s ws
+pub may_apply : (batch : Batch) (s : State) (ws : List RowWrite) → IsMadeFor batch.domain batch → batch.domain ≡ s.domain → Lawful s.domain (64 * s.number) (book_of s.rows) → OfRun (run batch.domain batch.ops (book_of s.rows)) ws → MayApply batch s ws
 may_apply batch s ws m e l h =
     let b : Book = book_of s.rows in
     let r : RunResult = run batch.domain batch.ops b in
@@ -67,34 +67,34 @@ may_apply batch s ws m e l h =
 
 -- ---- an operation's writes, where the book accepts it
 
-named_none : (l : Option Bytes) (old : Option Entry) (e : Entry) (ws : List Write) → l ≡ None → ws ≡ put old e ∷ [] → OfOp (put_named l old e) ws
+named_none : (l : Option Bytes) (old : Option Entry) (e : Entry) (ws : List RowWrite) → l ≡ None → ws ≡ put old e ∷ [] → OfOp (put_named l old e) ws
 named_none None old e ws p h = sym h
 named_none (Some d) old e ws p h = cc
 
-pub put_writes : (s : Option Entry) (old : Option Entry) (e : Entry) (b : Book) (ws : List Write) → s ≡ None → lacking e.domains b ≡ None → ws ≡ put old e ∷ [] → OfOp (put_beside s old e b) ws
+pub put_writes : (s : Option Entry) (old : Option Entry) (e : Entry) (b : Book) (ws : List RowWrite) → s ≡ None → lacking e.domains b ≡ None → ws ≡ put old e ∷ [] → OfOp (put_beside s old e b) ws
 put_writes None old e b ws p q h = named_none (lacking e.domains b) old e ws q h
 put_writes (Some o) old e b ws p q h = cc
 
 -- what a call answers, where it answers
-abbrev pub Answers : {E : Type 0} → Result (Option (List Write)) E → Answer → Type 0
+abbrev pub Answers : {E : Type 0} → Result (Option (List RowWrite)) E → OpResult → Type 0
 Answers r a = IfOk r (λ found. IfSome found (λ ws. OfOp a ws))
 
-pub created : {E : Type 0} (r : Result (Option (List Write)) E) (o : Option Entry) (e : Entry) (b : Book) → o ≡ None → Answers r (put_beside (similar e b) None e b) → Answers r (create_over o e b)
+pub created : {E : Type 0} (r : Result (Option (List RowWrite)) E) (o : Option Entry) (e : Entry) (b : Book) → o ≡ None → Answers r (put_beside (similar e b) None e b) → Answers r (create_over o e b)
 created r o e b p h = subst (λ o. Answers r (create_over o e b)) (sym p) h
 
-pub updated : {E : Type 0} (r : Result (Option (List Write)) E) (o : Option Entry) (old : Entry) (e : NewEntry) (n : ℕ) (b : Book) → o ≡ Some old → n ≡ old.revision + 1 → Answers r (put_beside (similar (at_revision n e) b) (Some old) (at_revision n e) b) → Answers r (update_over o e None b)
+pub updated : {E : Type 0} (r : Result (Option (List RowWrite)) E) (o : Option Entry) (old : Entry) (e : NewEntry) (n : ℕ) (b : Book) → o ≡ Some old → n ≡ old.revision + 1 → Answers r (put_beside (similar (at_revision n e) b) (Some old) (at_revision n e) b) → Answers r (update_over o e None b)
 updated r o old e n b p q h = subst (λ o. Answers r (update_over o e None b)) (sym p) (subst (λ n. Answers r (put_beside (similar (at_revision n e) b) (Some old) (at_revision n e) b)) q h)
 
-pub dropped : {E : Type 0} (r : Result (Option (List Write)) E) (o : Option Bundle) (d : Bundle) (domain : Bytes) (mode : DropMode) (users : List Entry) (b : Book) → o ≡ Some d → users ≡ users_of d.domain b → Answers r (drop_in mode users d) → Answers r (drop_over o domain mode b)
+pub dropped : {E : Type 0} (r : Result (Option (List RowWrite)) E) (o : Option Bundle) (d : Bundle) (domain : Bytes) (mode : DropMode) (users : List Entry) (b : Book) → o ≡ Some d → users ≡ users_of d.domain b → Answers r (drop_in mode users d) → Answers r (drop_over o domain mode b)
 dropped r o d domain mode users b p q h = subst (λ o. Answers r (drop_over o domain mode b)) (sym p) (subst (λ us. Answers r (drop_in mode us d)) q h)
 
 -- ---- what a mark reads
 
-pub read_users : {E : Type 0} (r : Result Book E) (m : Named) (domain : Bytes) (b : Book) → m ≡ mark.Users domain → IfOk r (λ reading. reading ≡ reads m b) → IfOk r (λ users. users.entries ≡ users_of domain b)
+pub read_users : {E : Type 0} (r : Result Book E) (m : MarkKind) (domain : Bytes) (b : Book) → m ≡ mark.Users domain → IfOk r (λ reading. reading ≡ reads m b) → IfOk r (λ users. users.entries ≡ users_of domain b)
 read_users (Ok x) m domain b e h = ap (λ r. r.entries) h ∙ ap (λ m. (reads m b).entries) e
 read_users (Err x) m domain b e h = tt
 
-pub read_group : {E : Type 0} (r : Result Book E) (m : Named) (parent identity : Bytes) (b : Book) → m ≡ mark.Group parent identity → IfOk r (λ reading. reading ≡ reads m b) → IfOk r (λ group. group.entries ≡ group_of parent identity b)
+pub read_group : {E : Type 0} (r : Result Book E) (m : MarkKind) (parent identity : Bytes) (b : Book) → m ≡ mark.Group parent identity → IfOk r (λ reading. reading ≡ reads m b) → IfOk r (λ group. group.entries ≡ group_of parent identity b)
 read_group (Ok x) m parent identity b e h = ap (λ r. r.entries) h ∙ ap (λ m. (reads m b).entries) e
 read_group (Err x) m parent identity b e h = tt
 
@@ -108,7 +108,7 @@ all_at P (y ∷ ys) (suc n) x h l e = all_at P ys n x h.1 (omega arith) e
 abbrev alone : Bytes → Op → Batch
 alone own op = record { domain = own; ops = op ∷ [] }
 
-one : (own : Bytes) (b : Book) (a : Answer) (ws : List Write) → OfOp a ws → OfRun (then_run a (λ d. run own [] (after d.writes b))) ws
+one : (own : Bytes) (b : Book) (a : OpResult) (ws : List RowWrite) → OfOp a ws → OfRun (then_run a (λ d. run own [] (after d.writes b))) ws
 one own b (Ok d) ws h = append-nil d.writes ∙ h
 one own b (Err r) ws h = absurd h
 
@@ -122,29 +122,29 @@ made_alone own batch n op m l e =
       proper = (all_at IsProperOp batch.ops n op m.proper l e, tt);
     }
 
-pub op_may_apply : (batch : Batch) (s : State) (n : ℕ) (op : Op) (ws : List Write) → IsMadeFor batch.domain batch → s.domain ≡ batch.domain → Lawful s.domain (64 * s.number) (book_of s.rows) → n < length batch.ops → op ≡ get_or batch.ops n op → OfOp (op_of s.domain op (book_of s.rows)) ws → MayApply (alone s.domain op) s ws
+pub op_may_apply : (batch : Batch) (s : State) (n : ℕ) (op : Op) (ws : List RowWrite) → IsMadeFor batch.domain batch → s.domain ≡ batch.domain → Lawful s.domain (64 * s.number) (book_of s.rows) → n < length batch.ops → op ≡ get_or batch.ops n op → OfOp (op_of s.domain op (book_of s.rows)) ws → MayApply (alone s.domain op) s ws
 op_may_apply batch s n op ws m d l k e h =
     may_apply (alone s.domain op) s ws (made_alone s.domain batch n op (subst (λ own. IsMadeFor own batch) (sym d) m) k e) refl l
     (one s.domain (book_of s.rows) (op_of s.domain op (book_of s.rows)) ws h)
 
-more : (a : Answer) (x : RunResult) (t : Ran) (ws : List Write) (P : OpRefusal → Type 0) → MatchResult a (λ d. x ≡ Ok (record { replies = t.replies ++ d.reply ∷ []; writes = t.writes ++ d.writes })) P → OfOp a ws → OfRun x (t.writes ++ ws)
+more : (a : OpResult) (x : RunResult) (t : RunEffect) (ws : List RowWrite) (P : OpRefusal → Type 0) → MatchResult a (λ d. x ≡ Ok (record { replies = t.replies ++ d.reply ∷ []; writes = t.writes ++ d.writes })) P → OfOp a ws → OfRun x (t.writes ++ ws)
 more (Ok d) x t ws P e h = subst (λ r. OfRun r (t.writes ++ ws)) (sym e) (ap (λ l. t.writes ++ l) h)
 more (Err r) x t ws P e h = absurd h
 
-run_more : (own : Bytes) (ops : List Op) (op : Op) (b : Book) (vs ws : List Write) → OfRun (run own ops b) vs → OfOp (op_of own op (after vs b)) ws → OfRun (run own (ops ++ op ∷ []) b) (vs ++ ws)
+run_more : (own : Bytes) (ops : List Op) (op : Op) (b : Book) (vs ws : List RowWrite) → OfRun (run own ops b) vs → OfOp (op_of own op (after vs b)) ws → OfRun (run own (ops ++ op ∷ []) b) (vs ++ ws)
 run_more own ops op b vs ws h k =
     let r = ran (run own ops b) vs h in
-    let t : Ran = r.0 in
+    let t : RunEffect = r.0 in
     subst (λ l. OfRun (run own (ops ++ op ∷ []) b) (l ++ ws)) r.2
     (more (op_of own op (after t.writes b)) (run own (ops ++ op ∷ []) b) t ws _ (run_goes_on own ops op b t r.1) (subst (λ l. OfOp (op_of own op (after l b)) ws) (sym r.2) k))
 
 -- The version after some operations of a run, and their writes.
-pub record Along (own : Bytes) (ops : List Op) (b : Book) (ws : List Write) (s : State) : Type 0 where
+pub record Along (own : Bytes) (ops : List Op) (b : Book) (ws : List RowWrite) (s : State) : Type 0 where
   pub domain : s.domain ≡ own
   pub writes : OfRun (run own ops b) ws
   pub book : book_of s.rows ≡ after ws b
 
-pub along_more : (own : Bytes) (ops : List Op) (b : Book) (n : ℕ) (op : Op) (vs ws us : List Write) (s t : State) → Along own (take n ops) b vs s → n < length ops → op ≡ get_or ops n op → OfOp (op_of s.domain op (book_of s.rows)) ws → t ≡ next_state ws s → us ≡ vs ++ ws → Along own (take (n + 1) ops) b us t
+pub along_more : (own : Bytes) (ops : List Op) (b : Book) (n : ℕ) (op : Op) (vs ws us : List RowWrite) (s t : State) → Along own (take n ops) b vs s → n < length ops → op ≡ get_or ops n op → OfOp (op_of s.domain op (book_of s.rows)) ws → t ≡ next_state ws s → us ≡ vs ++ ws → Along own (take (n + 1) ops) b us t
 along_more own ops b n op vs ws us s t a l e h q u =
     let k : OfOp (op_of own op (after vs b)) ws = subst (λ d. OfOp (op_of d op (after vs b)) ws) a.domain (subst (λ c. OfOp (op_of s.domain op c) ws) a.book h) in
     let r : OfRun (run own (take n ops ++ op ∷ []) b) (vs ++ ws) = run_more own (take n ops) op b vs ws a.writes k in
@@ -160,11 +160,11 @@ along_more own ops b n op vs ws us s t a l e h q u =
 of_some : {X : Type 0} (P : X → Type 0) (o : Option X) (x : X) → IfSome o P → o ≡ Some x → P x
 of_some P o x h e = let k : IfSome (Some x) P = subst (λ o. IfSome o P) e h in k
 
-pub step_may_apply : (batch : Batch) (s : State) (items : List Op) (n : ℕ) (op : Op) (o : Option (List Write)) (ws : List Write) → items ≡ batch.ops → IsMadeFor batch.domain batch → s.domain ≡ batch.domain → Lawful s.domain (64 * s.number) (book_of s.rows) → n < length items → op ≡ get_or items n op → IfSome o (λ ws. OfOp (op_of s.domain op (book_of s.rows)) ws) → o ≡ Some ws → MayApply (alone s.domain op) s ws
+pub step_may_apply : (batch : Batch) (s : State) (items : List Op) (n : ℕ) (op : Op) (o : Option (List RowWrite)) (ws : List RowWrite) → items ≡ batch.ops → IsMadeFor batch.domain batch → s.domain ≡ batch.domain → Lawful s.domain (64 * s.number) (book_of s.rows) → n < length items → op ≡ get_or items n op → IfSome o (λ ws. OfOp (op_of s.domain op (book_of s.rows)) ws) → o ≡ Some ws → MayApply (alone s.domain op) s ws
 step_may_apply batch s items n op o ws i m d l k e h q =
     op_may_apply batch s n op ws m d l (subst (λ ops. n < length ops) i k) (subst (λ ops. op ≡ get_or ops n op) i e) (of_some (λ ws. OfOp (op_of s.domain op (book_of s.rows)) ws) o ws h q)
 
-pub step_along : (batch : Batch) (b : Book) (items : List Op) (n : ℕ) (op : Op) (o : Option (List Write)) (p : Option State) (vs ws us : List Write) (s t : State) → items ≡ batch.ops → Along batch.domain (take n batch.ops) b vs s → n < length items → op ≡ get_or items n op → IfSome o (λ ws. OfOp (op_of s.domain op (book_of s.rows)) ws) → o ≡ Some ws → IfSome p (λ t. t ≡ next_state ws s) → p ≡ Some t → us ≡ vs ++ ws → Along batch.domain (take (n + 1) batch.ops) b us t
+pub step_along : (batch : Batch) (b : Book) (items : List Op) (n : ℕ) (op : Op) (o : Option (List RowWrite)) (p : Option State) (vs ws us : List RowWrite) (s t : State) → items ≡ batch.ops → Along batch.domain (take n batch.ops) b vs s → n < length items → op ≡ get_or items n op → IfSome o (λ ws. OfOp (op_of s.domain op (book_of s.rows)) ws) → o ≡ Some ws → IfSome p (λ t. t ≡ next_state ws s) → p ≡ Some t → us ≡ vs ++ ws → Along batch.domain (take (n + 1) batch.ops) b us t
 step_along batch b items n op o p vs ws us s t i a k e h q f g u =
     along_more batch.domain batch.ops b n op vs ws us s t a (subst (λ ops. n < length ops) i k) (subst (λ ops. op ≡ get_or ops n op) i e)
     (of_some (λ ws. OfOp (op_of s.domain op (book_of s.rows)) ws) o ws h q) (of_some (λ t. t ≡ next_state ws s) p t f g) u

@@ -4,7 +4,7 @@ use crate::playing::number_of;
 use entry_book::{Agent, Bundle, Entry};
 use std::alloc::Global;
 use std::test::Fail;
-use version_book::{Change, Changes, Mark, Named, Reading, Version, Write};
+use version_book::{Changes, Mark, MarkKind, RowChange, RowWrite, RowsRead, Version};
 
 /// All rows of a book, in no order.
 #[derive(Drop)]
@@ -14,54 +14,54 @@ pub struct Listed {
     bundles: Vec<Bundle>,
 }
 
-fn names_entry(named: &Named, entry: &Entry) -> bool {
+fn names_entry(named: &MarkKind, entry: &Entry) -> bool {
     match named {
-        Named::Entry(id) => entry.id() == id,
-        Named::Group(parent, identity) => {
+        MarkKind::Entry(id) => entry.id() == id,
+        MarkKind::Group(parent, identity) => {
             entry.parent().get() == parent.get() && entry.identity().get() == identity.get()
         }
-        Named::Children(parent) => entry.parent().get() == parent.get(),
-        Named::Users(domain) => {
+        MarkKind::Children(parent) => entry.parent().get() == parent.get(),
+        MarkKind::Users(domain) => {
             entry
                 .domains()
                 .as_slice()
                 .iter()
                 .any(|other| other.get() == domain.get())
         }
-        Named::Expiring(moment) => entry.expiry() != 0 && entry.expiry() < *moment,
-        Named::Agent(_) | Named::Bundle(_) => false,
+        MarkKind::Expiring(moment) => entry.expiry() != 0 && entry.expiry() < *moment,
+        MarkKind::Agent(_) | MarkKind::Bundle(_) => false,
     }
 }
 
-fn names_agent(named: &Named, agent: &Agent) -> bool {
+fn names_agent(named: &MarkKind, agent: &Agent) -> bool {
     match named {
-        Named::Agent(id) => agent.id.get() == id.get(),
+        MarkKind::Agent(id) => agent.id.get() == id.get(),
         _ => false,
     }
 }
 
-fn names_bundle(named: &Named, bundle: &Bundle) -> bool {
+fn names_bundle(named: &MarkKind, bundle: &Bundle) -> bool {
     match named {
-        Named::Bundle(domain) => bundle.domain.get() == domain.get(),
+        MarkKind::Bundle(domain) => bundle.domain.get() == domain.get(),
         _ => false,
     }
 }
 
-fn names_some_entry(named: &Named, entry: &Option<Entry>) -> bool {
+fn names_some_entry(named: &MarkKind, entry: &Option<Entry>) -> bool {
     match entry {
         Some(entry) => names_entry(named, entry),
         None => false,
     }
 }
 
-fn names_some_agent(named: &Named, agent: &Option<Agent>) -> bool {
+fn names_some_agent(named: &MarkKind, agent: &Option<Agent>) -> bool {
     match agent {
         Some(agent) => names_agent(named, agent),
         None => false,
     }
 }
 
-fn names_some_bundle(named: &Named, bundle: &Option<Bundle>) -> bool {
+fn names_some_bundle(named: &MarkKind, bundle: &Option<Bundle>) -> bool {
     match bundle {
         Some(bundle) => names_bundle(named, bundle),
         None => false,
@@ -69,15 +69,15 @@ fn names_some_bundle(named: &Named, bundle: &Option<Bundle>) -> bool {
 }
 
 /// Is the old row or the new one named by the mark?
-fn is_hit(named: &Named, write: &Write) -> bool {
+fn is_hit(named: &MarkKind, write: &RowWrite) -> bool {
     match write {
-        Write::Entry(Change { old, new, .. }) => {
+        RowWrite::Entry(RowChange { old, new, .. }) => {
             names_some_entry(named, old) || names_some_entry(named, new)
         }
-        Write::Agent(Change { old, new, .. }) => {
+        RowWrite::Agent(RowChange { old, new, .. }) => {
             names_some_agent(named, old) || names_some_agent(named, new)
         }
-        Write::Bundle(Change { old, new, .. }) => {
+        RowWrite::Bundle(RowChange { old, new, .. }) => {
             names_some_bundle(named, old) || names_some_bundle(named, new)
         }
     }
@@ -88,7 +88,7 @@ pub fn are_hit(mark: &Mark, changes: &Changes) -> bool {
     changes
         .writes()
         .iter()
-        .any(|write| is_hit(mark.named(), write))
+        .any(|write| is_hit(mark.kind(), write))
 }
 
 /// An entry: all that isn't the same in two entries of one number here, or in all of them.
@@ -123,7 +123,7 @@ fn bundle_text(alloc: Global, bundle: &Bundle) -> Result<String, Fail> {
 }
 
 /// What was read, row by row: all in which rows of these tests differ.
-pub fn reading_text(alloc: Global, reading: &Reading) -> Result<String, Fail> {
+pub fn reading_text(alloc: Global, reading: &RowsRead) -> Result<String, Fail> {
     let mut text = String::new(alloc);
     for entry in reading.entries() {
         text.push_str(entry_text(alloc, entry)?.as_str())?;
@@ -152,21 +152,21 @@ impl Listed {
     }
 
     /// The row of the key is taken away, and the new one is added, where there is one.
-    fn write(&mut self, write: &Write) -> Result<(), Fail> {
+    fn write(&mut self, write: &RowWrite) -> Result<(), Fail> {
         match write {
-            Write::Entry(Change { key, new, .. }) => {
+            RowWrite::Entry(RowChange { key, new, .. }) => {
                 self.entries.retain(|entry| entry.id() != key);
                 if let Some(entry) = new {
                     self.entries.push(entry.clone()?)?;
                 }
             }
-            Write::Agent(Change { key, new, .. }) => {
+            RowWrite::Agent(RowChange { key, new, .. }) => {
                 self.agents.retain(|agent| agent.id.get() != key.get());
                 if let Some(agent) = new {
                     self.agents.push(agent.clone()?)?;
                 }
             }
-            Write::Bundle(Change { key, new, .. }) => {
+            RowWrite::Bundle(RowChange { key, new, .. }) => {
                 self.bundles
                     .retain(|bundle| bundle.domain.get() != key.get());
                 if let Some(bundle) = new {
@@ -186,7 +186,7 @@ impl Listed {
 
     /// The rows that a mark names, told likewise, in the order of the numbers of ids, which are 1 to 6.
     pub fn text(&self, alloc: Global, mark: &Mark) -> Result<String, Fail> {
-        let named = mark.named();
+        let named = mark.kind();
         let mut text = String::new(alloc);
         for number in 1..7 {
             for entry in &self.entries {

@@ -85,7 +85,7 @@ fn told(alloc: Global, version: &Version, mark: &Mark) -> Result<String, Fail> {
 /// The same of the version's clone at the mark's clone, which has to name the same.
 fn told_by_clone(alloc: Global, version: &Version, mark: &Mark) -> Result<String, Fail> {
     let (copy, copied_mark) = (version.clone()?, mark.clone()?);
-    if copied_mark.named().clone()? != *mark.named() {
+    if copied_mark.kind().clone()? != *mark.kind() {
         return Err(Fail::from("a clone that names something else"));
     }
     told(alloc, &copy, &copied_mark)

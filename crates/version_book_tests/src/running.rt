@@ -12,7 +12,7 @@ ghost use Rattle.entry_book.specs.Lawful.{Lawful};
 ghost use Rattle.entry_book.specs.Laws.{IsWithinLimits};
 ghost use Rattle.entry_book.specs.Runs.{run};
 ghost use Rattle.version_book.specs.History.{state_with};
-ghost use Rattle.version_book.specs.Numbered.{book_of, next_state};
+ghost use Rattle.version_book.specs.CommittedRows.{book_of, next_state};
 ghost use Rattle.version_book.specs.Room.{RoomAll};
 ghost use Rattle.version_book.specs.Written.{write_of};
 
@@ -20,7 +20,7 @@ use entry_book::{Agent, Batch, Bundle, DropMode, Entry, NewEntry, Op, Shared, Te
 use spiffe_name::{SpiffeId, TrustDomain};
 use std::alloc::{AllocError, Global};
 use uuid::Uuid;
-use version_book::{Change, Changes, Mark, Reading, Version, Write};
+use version_book::{Changes, Mark, RowChange, RowWrite, RowsRead, Version};
 
 /// No revision of these tests gets there.
 const MOST: u64 = 1_000_000;
@@ -182,14 +182,14 @@ fn drop_in(
     }
 }
 
-fn users_at(version: &Version, domain: &Shared<TrustDomain>) -> Result<Reading, AllocError>
+fn users_at(version: &Version, domain: &Shared<TrustDomain>) -> Result<RowsRead, AllocError>
     ensures { IfOk result (λ users. users.entries ≡ users_of domain.now (book_of version.now.rows)) }
 {
     let mark = Mark::users(domain)?;
     version.read(&mark)
 }
 
-fn group_at(version: &Version, new: &NewEntry) -> Result<Reading, AllocError>
+fn group_at(version: &Version, new: &NewEntry) -> Result<RowsRead, AllocError>
     ensures { IfOk result (λ group. group.entries ≡ group_of new.now.parent new.now.identity (book_of version.now.rows)) }
 {
     let mark = Mark::group(&new.parent, &new.identity)?;
@@ -366,17 +366,17 @@ fn copy_of<T: Clone + Drop>(row: &Option<T>) -> Result<Option<T>, AllocError>
     }
 }
 
-fn append_one(changes: &mut Changes, write: &Write) -> Result<(), AllocError>
+fn append_one(changes: &mut Changes, write: &RowWrite) -> Result<(), AllocError>
     ensures { OnOk result (changes.new ≡ changes.old ++ write_of write.now ∷ []) }
 {
     match write {
-        Write::Entry(Change { key, old, new }) => {
+        RowWrite::Entry(RowChange { key, old, new }) => {
             changes.put_entry(*key, copy_of(old)?, copy_of(new)?)
         }
-        Write::Agent(Change { key, old, new }) => {
+        RowWrite::Agent(RowChange { key, old, new }) => {
             changes.put_agent(key.clone()?, copy_of(old)?, copy_of(new)?)
         }
-        Write::Bundle(Change { key, old, new }) => {
+        RowWrite::Bundle(RowChange { key, old, new }) => {
             changes.put_bundle(key.clone()?, copy_of(old)?, copy_of(new)?)
         }
     }

@@ -44,13 +44,13 @@ module _ {K V : Type 0} (cmp : K → K → Ordering) where
   rows_above rows key = filter (λ row. is_gt (cmp row.0 key)) rows
 
   -- the rows with this one, in the place of the row that had the key, if there was one
-  abbrev pub with_row : List (K × V) → K → V → List (K × V)
-  with_row rows key value = rows_below rows key ++ (key, value) ∷ rows_above rows key
+  abbrev pub with_key : List (K × V) → K → V → List (K × V)
+  with_key rows key value = rows_below rows key ++ (key, value) ∷ rows_above rows key
 
   -- the rows but for the one that had the key, if there was one
-  abbrev pub without_row : List (K × V) → K → List (K × V)
-  without_row rows key = rows_below rows key ++ rows_above rows key
+  abbrev pub without_key : List (K × V) → K → List (K × V)
+  without_key rows key = rows_below rows key ++ rows_above rows key
 
   -- as functions from keys to values, new is old with this value, or none, at the key
-  abbrev pub Changes : List (K × V) → List (K × V) → K → Option V → Type 0
-  Changes old new key value = (q : K) → get new q ≡ (if is_eq (cmp key q) then value else get old q)
+  abbrev pub ChangesAt : List (K × V) → List (K × V) → K → Option V → Type 0
+  ChangesAt old new key value = (q : K) → get new q ≡ (if is_eq (cmp key q) then value else get old q)

@@ -3,7 +3,7 @@
 //! A [`Shelf`] maps keys to values, in the order of its keys. It is never changed: [`Shelf::with`] and
 //! [`Shelf::without`] answer a new shelf, and every older one reads as before. A contract sees a shelf as the list of
 //! its rows, each a key with its value, in strictly ascending order of keys; the words that the contracts use stand in
-//! `specs/Shelf.antt`. [`Rows`] are the rows between two bounds, one after another.
+//! `specs/Shelf.antt`. [`Range`]: the the rows between two bounds, one after another.
 //!
 //! What a call costs at most at a shelf of n rows, where log2 n is rounded up:
 //!
@@ -24,15 +24,15 @@
 //! no memory have no such answer.
 //!
 //! - `shelf`: the face, what a shelf can be asked and how the next one is made.
-//! - `rows`: the walk over the rows between two bounds.
-//! - `row`: a key with its value, as several shelves hold it.
+//! - `range`: the walk over the rows between two bounds.
+//! - `shared_row`: a key with its value, as several shelves hold it.
 //! - `vector`: the body, one sorted vector of rows; nothing outside this crate rests on it.
 #![tactic(auto)]
 
-mod row;
-mod rows;
+mod range;
+mod shared_row;
 mod shelf;
 mod vector;
 
-pub use rows::Rows;
+pub use range::Range;
 pub use shelf::Shelf;

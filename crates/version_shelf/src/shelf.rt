@@ -2,10 +2,10 @@
 
 ghost use Rattle.std.specs.Prelude.{◌≡◌, ◌↔◌, ◌+◌, ◌≤◌, [], length, IsTrue, IfOk, Some, None};
 ghost use Rattle.std.specs.Option.{option_copied};
-ghost use Rattle.version_shelf.specs.Shelf.{ClonesEqual, HasRoom, most_rows, IsInOrder, get, count_of, rows_between, with_row, without_row, Changes};
+ghost use Rattle.version_shelf.specs.Shelf.{ClonesEqual, HasRoom, most_rows, IsInOrder, get, count_of, rows_between, with_key, without_key, ChangesAt};
 
-use crate::row::Row;
-use crate::rows::Rows;
+use crate::range::Range;
+use crate::shared_row::SharedRow;
 use crate::vector::{Parts, between, part, rows_with, rows_without};
 use std::alloc::{AllocError, Global};
 use std::marker::Model;
@@ -19,7 +19,7 @@ const MOST_ROWS: usize = 262_144;
 pub struct Shelf<K: Ord, V> {
     alloc: Global,
     // The first shelf has none.
-    rows: Option<Arc<Vec<Row<K, V>>>>,
+    rows: Option<Arc<Vec<SharedRow<K, V>>>>,
 }
 
 impl<K: Ord, V> Model for Shelf<K, V> {
@@ -70,11 +70,11 @@ impl<K: Ord + Clone, V: Clone> Shelf<K, V> {
 
     /// The rows with `lo <= key < hi`, in ascending order of keys; none where `hi <= lo`. The bounds need not be keys of
     /// the shelf. Takes no memory.
-    pub fn range(&self, lo: &K, hi: &K) -> Rows<'_, K, V>
+    pub fn range(&self, lo: &K, hi: &K) -> Range<'_, K, V>
         ensures rows { result ≡ rows_between K.cmp self.now lo.now hi.now }
         ensures order { IsInOrder K.cmp result }
     {
-        Rows::of(between(self.rows(), lo, hi))
+        Range::of(between(self.rows(), lo, hi))
     }
 
     /// The shelf with this row, in the place of the row that has the key, if there is one. The caller sees to it that
@@ -84,8 +84,8 @@ impl<K: Ord + Clone, V: Clone> Shelf<K, V> {
         requires room { HasRoom self.now }
         requires keys { ClonesEqual K.is_clone }
         requires values { ClonesEqual V.is_clone }
-        ensures rows { IfOk result (λ new. new ≡ with_row K.cmp self.now key value) }
-        ensures map { IfOk result (λ new. Changes K.cmp self.now new key (Some value)) }
+        ensures rows { IfOk result (λ new. new ≡ with_key K.cmp self.now key value) }
+        ensures map { IfOk result (λ new. ChangesAt K.cmp self.now new key (Some value)) }
         ensures count { IfOk result (λ new. length new + count_of K.cmp self.now key ≡ length self.now + 1) }
         ensures order { IfOk result (IsInOrder K.cmp) }
     {
@@ -101,8 +101,8 @@ impl<K: Ord + Clone, V: Clone> Shelf<K, V> {
     pub fn without(&self, key: &K) -> Result<Shelf<K, V>, AllocError>
         requires keys { ClonesEqual K.is_clone }
         requires values { ClonesEqual V.is_clone }
-        ensures rows { IfOk result (λ new. new ≡ without_row K.cmp self.now key.now) }
-        ensures map { IfOk result (λ new. Changes K.cmp self.now new key.now None) }
+        ensures rows { IfOk result (λ new. new ≡ without_key K.cmp self.now key.now) }
+        ensures map { IfOk result (λ new. ChangesAt K.cmp self.now new key.now None) }
         ensures count { IfOk result (λ new. length new + count_of K.cmp self.now key.now ≡ length self.now) }
         ensures order { IfOk result (IsInOrder K.cmp) }
     {
@@ -113,7 +113,7 @@ impl<K: Ord + Clone, V: Clone> Shelf<K, V> {
         })
     }
 
-    fn rows(&self) -> &[Row<K, V>]
+    fn rows(&self) -> &[SharedRow<K, V>]
         ensures rows { result.now ≡ self.now }
         ensures order { IsInOrder K.cmp self.now }
         ensures most { length self.now ≤ most_rows }

@@ -3,23 +3,26 @@
 ghost use Rattle.std.specs.Prelude.{◌≡◌, ◌++◌, OnOk, IfOk};
 ghost use Rattle.std.specs.Arc.{arc_value};
 ghost use Rattle.std.specs.Option.{option_copied};
-ghost use Rattle.version_shelf.specs.Shelf.{HasRoom, IsInOrder, get, rows_below, rows_above, rows_between, with_row, without_row};
+ghost use Rattle.version_shelf.specs.Shelf.{HasRoom, IsInOrder, get, rows_below, rows_above, rows_between, with_key, without_key};
 ghost use Rattle.version_shelf.specs.Vector.{rows_from};
 
-use crate::row::Row;
+use crate::shared_row::SharedRow;
 use std::alloc::{AllocError, Global};
 use std::sync::Arc;
 
 /// The rows below a key, the value at the key, and the rows above it.
 #[derive(Drop)]
 pub(crate) struct Parts<'a, K, V> {
-    pub(crate) below: &'a [Row<K, V>],
+    pub(crate) below: &'a [SharedRow<K, V>],
     pub(crate) value: Option<&'a V>,
-    pub(crate) above: &'a [Row<K, V>],
+    pub(crate) above: &'a [SharedRow<K, V>],
 }
 
 /// The rows below a key, and the others.
-fn split<'a, K: Ord, V>(rows: &'a [Row<K, V>], key: &K) -> (&'a [Row<K, V>], &'a [Row<K, V>])
+fn split<'a, K: Ord, V>(
+    rows: &'a [SharedRow<K, V>],
+    key: &K,
+) -> (&'a [SharedRow<K, V>], &'a [SharedRow<K, V>])
     requires { IsInOrder K.cmp rows.now }
     ensures below { result.0.now ≡ rows_below K.cmp rows.now key.now }
     ensures others { result.1.now ≡ rows_from K.cmp rows.now key.now }
@@ -28,7 +31,7 @@ fn split<'a, K: Ord, V>(rows: &'a [Row<K, V>], key: &K) -> (&'a [Row<K, V>], &'a
 }
 
 /// Cuts the rows at a key.
-pub(crate) fn part<'a, K: Ord, V>(rows: &'a [Row<K, V>], key: &K) -> Parts<'a, K, V>
+pub(crate) fn part<'a, K: Ord, V>(rows: &'a [SharedRow<K, V>], key: &K) -> Parts<'a, K, V>
     requires { IsInOrder K.cmp rows.now }
     ensures below { result.below.now ≡ rows_below K.cmp rows.now key.now }
     ensures value { option_copied result.value ≡ get K.cmp rows.now key.now }
@@ -50,7 +53,11 @@ pub(crate) fn part<'a, K: Ord, V>(rows: &'a [Row<K, V>], key: &K) -> Parts<'a, K
 }
 
 /// The rows with `lo <= key < hi`.
-pub(crate) fn between<'a, K: Ord, V>(rows: &'a [Row<K, V>], lo: &K, hi: &K) -> &'a [Row<K, V>]
+pub(crate) fn between<'a, K: Ord, V>(
+    rows: &'a [SharedRow<K, V>],
+    lo: &K,
+    hi: &K,
+) -> &'a [SharedRow<K, V>]
     requires { IsInOrder K.cmp rows.now }
     ensures { result.now ≡ rows_between K.cmp rows.now lo.now hi.now }
 {
@@ -61,18 +68,18 @@ pub(crate) fn between<'a, K: Ord, V>(rows: &'a [Row<K, V>], lo: &K, hi: &K) -> &
 /// The rows, with this row in the place of the one that has the key, if there is one.
 pub(crate) fn rows_with<K: Ord + Drop, V: Drop>(
     alloc: Global,
-    rows: &[Row<K, V>],
+    rows: &[SharedRow<K, V>],
     key: K,
     value: V,
-) -> Result<Arc<Vec<Row<K, V>>>, AllocError>
+) -> Result<Arc<Vec<SharedRow<K, V>>>, AllocError>
     requires order { IsInOrder K.cmp rows.now }
     requires room { HasRoom rows.now }
-    ensures { IfOk result (λ all. (arc_value all).items ≡ with_row K.cmp rows.now key value) }
+    ensures { IfOk result (λ all. (arc_value all).items ≡ with_key K.cmp rows.now key value) }
 {
     let Parts { below, above, .. } = part(rows, &key);
     let mut all = Vec::with_capacity(alloc, rows.len() + 1)?;
     append(&mut all, below)?;
-    all.push(Row::new(alloc, key, value)?)?;
+    all.push(SharedRow::new(alloc, key, value)?)?;
     append(&mut all, above)?;
     Ok(Arc::new(alloc, all)?)
 }
@@ -80,11 +87,11 @@ pub(crate) fn rows_with<K: Ord + Drop, V: Drop>(
 /// The rows but for the one that has the key, if there is one.
 pub(crate) fn rows_without<K: Ord + Drop, V: Drop>(
     alloc: Global,
-    rows: &[Row<K, V>],
+    rows: &[SharedRow<K, V>],
     key: &K,
-) -> Result<Arc<Vec<Row<K, V>>>, AllocError>
+) -> Result<Arc<Vec<SharedRow<K, V>>>, AllocError>
     requires order { IsInOrder K.cmp rows.now }
-    ensures { IfOk result (λ all. (arc_value all).items ≡ without_row K.cmp rows.now key.now) }
+    ensures { IfOk result (λ all. (arc_value all).items ≡ without_key K.cmp rows.now key.now) }
 {
     let Parts { below, above, .. } = part(rows, key);
     let mut all = Vec::with_capacity(alloc, rows.len())?;
@@ -94,7 +101,10 @@ pub(crate) fn rows_without<K: Ord + Drop, V: Drop>(
 }
 
 /// Adds these rows, each with one more owner.
-fn append<K: Drop, V: Drop>(all: &mut Vec<Row<K, V>>, rows: &[Row<K, V>]) -> Result<(), AllocError>
+fn append<K: Drop, V: Drop>(
+    all: &mut Vec<SharedRow<K, V>>,
+    rows: &[SharedRow<K, V>],
+) -> Result<(), AllocError>
     ensures { OnOk result (all.new.items ≡ all.old.items ++ rows.now) }
 {
     all.extend_from_slice(rows)

@@ -27,8 +27,8 @@ impl Counts {
         }
     }
 
-    fn number(&self, value: u64) -> Counted<'_> {
-        Counted {
+    fn number(&self, value: u64) -> CountedKey<'_> {
+        CountedKey {
             value,
             counts: self,
         }
@@ -49,12 +49,12 @@ fn count_one(cell: &Cell<u64>) {
 
 /// A number whose comparisons and copies are counted, seen as the number.
 #[derive(Drop)]
-struct Counted<'a> {
+struct CountedKey<'a> {
     value: u64,
     counts: &'a Counts,
 }
 
-impl<'a> Model for Counted<'a> {
+impl<'a> Model for CountedKey<'a> {
     ghost use Rattle.std.specs.Prelude.{ℕ};
 
     ghost Value = { ℕ };
@@ -62,44 +62,44 @@ impl<'a> Model for Counted<'a> {
     ghost view = { λ counted. counted.value };
 }
 
-impl<'a> Clone for Counted<'a> {
+impl<'a> Clone for CountedKey<'a> {
     ghost is_clone = { λ original copy. copy ≡ original };
 
-    fn clone(&self) -> Result<Counted<'a>, AllocError> {
+    fn clone(&self) -> Result<CountedKey<'a>, AllocError> {
         count_one(&self.counts.copies);
-        Ok(Counted {
+        Ok(CountedKey {
             value: self.value,
             counts: self.counts,
         })
     }
 }
 
-impl<'a> PartialEq for Counted<'a> {
+impl<'a> PartialEq for CountedKey<'a> {
     ghost eq = { nat_eq };
 
     ghost laws = { partial_equiv_from_equiv nat_eq_equiv };
 
-    fn eq(&self, other: &Counted<'a>) -> bool {
+    fn eq(&self, other: &CountedKey<'a>) -> bool {
         count_one(&self.counts.comparisons);
         self.value == other.value
     }
 }
 
-impl<'a> Eq for Counted<'a> {
+impl<'a> Eq for CountedKey<'a> {
     ghost laws = { nat_eq_equiv };
 }
 
-impl<'a> PartialOrd for Counted<'a> {
+impl<'a> PartialOrd for CountedKey<'a> {
     ghost partial_cmp = { λ a b. Some (nat_cmp a b) };
 
     ghost laws = { partial_order_from_agreeing_total nat_cmp nat_cmp_total (λ a b. refl) unsigned_ties };
 
-    fn partial_cmp(&self, other: &Counted<'a>) -> Option<Ordering> {
+    fn partial_cmp(&self, other: &CountedKey<'a>) -> Option<Ordering> {
         Some(self.cmp(other))
     }
 }
 
-impl<'a> Ord for Counted<'a> {
+impl<'a> Ord for CountedKey<'a> {
     ghost cmp = { nat_cmp };
 
     ghost total = { nat_cmp_total };
@@ -108,13 +108,13 @@ impl<'a> Ord for Counted<'a> {
 
     ghost matches_eq = { unsigned_ties };
 
-    fn cmp(&self, other: &Counted<'a>) -> Ordering {
+    fn cmp(&self, other: &CountedKey<'a>) -> Ordering {
         count_one(&self.counts.comparisons);
         self.value.cmp(&other.value)
     }
 }
 
-type CountedShelf<'a> = Shelf<Counted<'a>, Counted<'a>>;
+type CountedShelf<'a> = Shelf<CountedKey<'a>, CountedKey<'a>>;
 
 /// The logarithm of the number of rows to the base 2, rounded up; 0 where there are none.
 fn log2_rounded_up(rows: usize) -> u64

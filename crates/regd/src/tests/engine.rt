@@ -1,7 +1,7 @@
 //! The engine over memory: what a run answers, and tables of what it has to answer.
 
-use crate::{Fault, Settings, plain, run_plain};
-use reg_lines::{Counted, Input, Output};
+use crate::{RunFault, Settings, plain, run_plain};
+use reg_lines::{CountedDevice, Input, Output};
 use serde_json::Value;
 use spiffe_name::TrustDomain;
 use std::alloc::Global;
@@ -17,7 +17,7 @@ pub fn run(
     alloc: Global,
     giver: &mut Giver<'_>,
     taker: &mut Taker,
-) -> Result<Result<(), Fault>, Fail> {
+) -> Result<Result<(), RunFault>, Fail> {
     run_with(alloc, "ex.org", FIRST_SEED, giver, taker)
 }
 
@@ -27,10 +27,10 @@ fn run_with(
     seed: [u8; 32],
     giver: &mut Giver<'_>,
     taker: &mut Taker,
-) -> Result<Result<(), Fault>, Fail> {
+) -> Result<Result<(), RunFault>, Fail> {
     let domain = TrustDomain::parse(alloc, domain)?;
-    let mut input = Input::new(Counted::new(giver));
-    let mut output = Output::new(Counted::new(taker));
+    let mut input = Input::new(CountedDevice::new(giver));
+    let mut output = Output::new(CountedDevice::new(taker));
     Ok(plain(alloc, domain, seed, &mut input, &mut output))
 }
 
@@ -65,8 +65,8 @@ pub fn answers_of_words(
         .ok_or("no settings")?;
     let mut giver = Giver::new(bytes, Pace::All, Trouble::NONE);
     let mut taker = Taker::new(alloc, Pace::All, Trouble::NONE);
-    let mut input = Input::new(Counted::new(&mut giver));
-    let mut output = Output::new(Counted::new(&mut taker));
+    let mut input = Input::new(CountedDevice::new(&mut giver));
+    let mut output = Output::new(CountedDevice::new(&mut taker));
     let ended = run_plain(alloc, settings, &mut input, &mut output);
     drop(output);
     compact_bytes(rt, alloc, ended, taker)
@@ -76,7 +76,7 @@ pub fn answers_of_words(
 fn compact_bytes(
     rt: &impl Abort,
     alloc: Global,
-    ended: Result<(), Fault>,
+    ended: Result<(), RunFault>,
     taker: Taker,
 ) -> Result<Vec<u8>, Fail> {
     let Ok(()) = ended else {

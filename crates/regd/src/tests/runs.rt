@@ -1,7 +1,7 @@
 //! Whole runs of the engine over memory, and over devices that are slow or fail.
 
 use super::engine::{Table, are_answered, run};
-use crate::Fault;
+use crate::RunFault;
 use std::alloc::Global;
 use std::process::Abort;
 use std::test::Fail;
@@ -86,7 +86,7 @@ fn each_failing_read_ends_the_run(rt: HostRuntime) -> Result<(), Fail> {
                 assert_eq!(rt; taker.bytes.as_slice(), table.wanted.as_bytes());
                 break;
             }
-            assert_eq!(rt; ended, Err(Fault::Input), "{pace:?} {call}");
+            assert_eq!(rt; ended, Err(RunFault::Input), "{pace:?} {call}");
             let out = taker.bytes.as_slice();
             let lines = lines_read(table.asked.as_str(), &giver);
             assert_eq!(rt; count_of_lines(out), lines, "{pace:?} {call}");
@@ -115,7 +115,7 @@ fn fail_each_write(
             assert_eq!(rt; taker.bytes.as_slice(), table.wanted.as_bytes());
             return Ok(());
         }
-        assert_eq!(rt; ended, Err(Fault::Output), "{from:?} {to:?} {call}");
+        assert_eq!(rt; ended, Err(RunFault::Output), "{from:?} {to:?} {call}");
         assert_eq!(rt; taker.calls, call);
         assert!(rt; table.wanted.as_bytes().starts_with(taker.bytes.as_slice()));
     }

@@ -5,7 +5,7 @@ use Rattle.std.proofs.lemmas.Result.{err_from_is_err_and}
 use Rattle.reg_lines.specs.Lines.{most_lines}
 use Rattle.reg_lines.specs.Stream.{IsOut}
 use Rattle.regd.specs.Driver.{Steps}
-use Rattle.regd.specs.declared.faults.Fault.TheVariants.{NoMemory}
+use Rattle.regd.specs.declared.faults.RunFault.TheVariants.{NoMemory}
 use Rattle.regd.proofs.Driving.{IsDriven-start, IsDriven-flush, IsDriven-more, IsThrough-ended, IsThrough-end, IsThrough-most, RunsOver-no_memory, RunsOver-output, RunsOver-input, RunsOver-finished, some_step, of_setting, of_bytes, of_verdict, closes_of}
 use Rattle.regd.proofs.driver.run_lines.Goals as goal
 

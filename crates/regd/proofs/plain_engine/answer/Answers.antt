@@ -10,7 +10,7 @@ use Rattle.reg_lines.specs.Replies.{reply_json}
 use Rattle.reg_lines.specs.Requests.{spelled}
 use Rattle.reg_lines.specs.Stream.{OutputState, Puts}
 use Rattle.reg_lines.specs.declared.fault.Fault.{Fault}
-use Rattle.reg_lines.specs.declared.request.Request.{Request}
+use Rattle.reg_lines.specs.declared.reading.request.Request.{Request}
 use Rattle.regd.specs.Answers.{AnswersBatch, AnswersLine, Running, as_line, called, passed, refused, replied, not_read, not_run}
 use Rattle.regd.proofs.plain_engine.answer.Goals as goal
 

@@ -1,7 +1,7 @@
 use Rattle.std.proofs.Common.{◌≡◌, List, ℕ, Err, refl, subst, arith}
 use Rattle.std.proofs.lemmas.Grind.{common_steps}
 use Rattle.regd.specs.Answers.{Answers, ClosesWithNothing, RunsPlain, an_answer, no_end, start}
-use Rattle.regd.specs.declared.faults.Fault.TheVariants.{NoMemory}
+use Rattle.regd.specs.declared.faults.RunFault.TheVariants.{NoMemory}
 use Rattle.regd.proofs.Driving.{RunsOver-no_memory}
 use Rattle.regd.proofs.plain_engine.plain.Goals as goal
 

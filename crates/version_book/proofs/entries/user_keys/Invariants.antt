@@ -1,5 +1,5 @@
 use Rattle.std.proofs.Common.{◌≡◌, ◌++◌, drop, map}
-use Rattle.version_book.specs.declared.key.Edge.TheVariants.{At}
+use Rattle.version_book.specs.declared.key.KeyPart.TheVariants.{At}
 use Rattle.version_book.specs.Index.{user_keys}
 use Rattle.version_book.proofs.entries.user_keys.Given as goal
 

@@ -4,4 +4,4 @@ use Rattle.entry_book.specs.Order.{is_before}
 use Rattle.version_book.proofs.overlay.push_before.Given as goal
 
 abbrev pub invariant-loop-row : goal.invariant-loop-row
-invariant-loop-row g l = l.out.items ++ filter (λ row. is_before (g.T.Row.key row) l.key) (drop l.row-index l.rows) ≡ l.fn.out.items ++ filter (λ row. is_before (g.T.Row.key row) l.key) l.rows
+invariant-loop-row g l = l.out.items ++ filter (λ row. is_before (g.T.BookRow.key row) l.key) (drop l.row-index l.rows) ≡ l.fn.out.items ++ filter (λ row. is_before (g.T.BookRow.key row) l.key) l.rows

@@ -2,7 +2,7 @@ use Rattle.std.proofs.Common.{◌≡◌, ◌+◌, ◌*◌, ap, subst, arith}
 use Rattle.std.proofs.lemmas.List.{length-map}
 use Rattle.entry_book.specs.Writes.{after}
 use Rattle.entry_book.specs.Lawful.{Lawful}
-use Rattle.version_book.specs.Numbered.{book_of, row_of}
+use Rattle.version_book.specs.CommittedRows.{book_of, row_of}
 use Rattle.version_book_tests.proofs.running.applied.Goals as goal
 
 pub apply-requires : goal.apply-requires

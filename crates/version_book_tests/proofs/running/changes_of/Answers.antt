@@ -1,4 +1,4 @@
-use Rattle.version_book.specs.Numbered.{book_of}
+use Rattle.version_book.specs.CommittedRows.{book_of}
 use Rattle.version_book_tests.proofs.Tested.{step_along, step_may_apply}
 use Rattle.version_book_tests.proofs.running.changes_of.Goals as goal
 

@@ -1,5 +1,5 @@
 use Rattle.std.proofs.Common.{take}
-use Rattle.version_book.specs.Numbered.{book_of}
+use Rattle.version_book.specs.CommittedRows.{book_of}
 use Rattle.version_book_tests.proofs.Tested.{Along}
 use Rattle.version_book_tests.proofs.running.changes_of.Given as goal
 

@@ -1,7 +1,7 @@
 use Rattle.std.proofs.Common.{◌≡◌, None, ap, subst, ◌∙◌}
 use Rattle.entry_book.specs.Rows.{at_revision}
 use Rattle.entry_book.specs.Ops.{lacking, similar}
-use Rattle.version_book.specs.Numbered.{book_of}
+use Rattle.version_book.specs.CommittedRows.{book_of}
 use Rattle.version_book_tests.proofs.Tested.{put_writes}
 use Rattle.version_book_tests.proofs.running.put_beside.Goals as goal
 

@@ -1,4 +1,4 @@
-use Rattle.version_book.specs.Numbered.{book_of}
+use Rattle.version_book.specs.CommittedRows.{book_of}
 use Rattle.version_book_tests.proofs.Tested.{read_users}
 use Rattle.version_book_tests.proofs.running.users_at.Goals as goal
 

@@ -2,8 +2,9 @@ use Rattle.std.proofs.Common.{◌≡◌, ◌+◌, ◌≤◌, Some, None, length,
 use Rattle.std.proofs.lemmas.Result.{IfOk-weaker}
 use Rattle.entry_book.specs.Order.{with_row}
 use Rattle.entry_book.specs.Rows.{entry_key}
-use Rattle.version_book.specs.Numbered.{numbered, of_row, row_of}
-use Rattle.version_book.specs.Room.{count_of_names, most_rows}
+use Rattle.version_book.specs.CommittedRows.{numbered, of_row, row_of}
+use Rattle.version_shelf.specs.Shelf.{most_rows}
+use Rattle.version_book.specs.Room.{count_of_names}
 use Rattle.version_book.specs.Stores.{IsAbsent}
 use Rattle.version_book.proofs.Kept.{absent_after, names_after, room_after, with_after_none}
 use Rattle.version_book.proofs.entries.Entries.after.Goals as goal

@@ -1,7 +1,7 @@
 use Rattle.std.proofs.Common.{subst}
 use Rattle.entry_book.specs.Order.{Ascending}
 use Rattle.entry_book.specs.Rows.{entry_key}
-use Rattle.version_book.specs.Numbered.{of_row}
+use Rattle.version_book.specs.CommittedRows.{of_row}
 use Rattle.version_book.proofs.Shelves.{in_order_ascending}
 use Rattle.version_book.proofs.entries.Entries.len.Goals as goal
 

@@ -3,7 +3,7 @@ use Rattle.std.specs.Map.{values_of}
 use Rattle.std.specs.Option.{option_copied}
 use Rattle.entry_book.specs.Order.{Within, with_row}
 use Rattle.entry_book.specs.Rows.{entry_key}
-use Rattle.version_book.specs.Numbered.{of_row, row_of}
+use Rattle.version_book.specs.CommittedRows.{of_row, row_of}
 use Rattle.version_book.proofs.Kept.{none_left, row_within}
 use Rattle.version_book.proofs.Mapped.{within_map}
 use Rattle.version_book.proofs.entries.Entries.rest_of.Goals as goal

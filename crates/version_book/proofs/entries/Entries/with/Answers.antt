@@ -2,13 +2,13 @@ use Rattle.std.proofs.Common.{◌≡◌, ◌+◌, ◌≤◌, Some, length, map, 
 use Rattle.std.specs.Ordering.{nat_cmp}
 use Rattle.std.specs.Cmp.Lexicographic.{slice_cmp}
 use Rattle.std.specs.Map.{values_of}
-use Rattle.version_shelf.specs.Shelf.{with_row as with_shelf_row}
+use Rattle.version_shelf.specs.Shelf.{with_key, most_rows}
 use Rattle.entry_book.specs.Order.{Ascending, with_row}
 use Rattle.entry_book.specs.Rows.{entry_key}
 use Rattle.entry_book.proofs.InOrder.{ascending-with_row}
 use Rattle.version_book.specs.Index.{IsIndex, group_keys, user_keys, expiry_keys}
-use Rattle.version_book.specs.Numbered.{of_row, row_of}
-use Rattle.version_book.specs.Room.{count_of_names, most_rows}
+use Rattle.version_book.specs.CommittedRows.{of_row, row_of}
+use Rattle.version_book.specs.Room.{count_of_names}
 use Rattle.version_book.specs.Stores.{IsAbsent, IsKeyed}
 use Rattle.version_book.proofs.KeyOrders.{tells_groups, tells_users, tells_expiries, groups_tell, users_tell, expiries_tell}
 use Rattle.version_book.proofs.IndexRooms.{room_in_groups, room_in_users, room_in_expiries}
@@ -37,7 +37,7 @@ pub invariant_of-result : goal.invariant_of-result
 invariant_of-result c =
     let old = values_of c.self.inside.rows in
     let row = c.args.row in
-    let shelf : c.in_ok-rows.rows ≡ with_shelf_row (slice_cmp nat_cmp) c.self.inside.rows row.row.id row = c.in_ok-rows.ensures.rows ∙ ap (λ id. with_shelf_row (slice_cmp nat_cmp) c.self.inside.rows id row) c.id-id.ensures in
+    let shelf : c.in_ok-rows.rows ≡ with_key (slice_cmp nat_cmp) c.self.inside.rows row.row.id row = c.in_ok-rows.ensures.rows ∙ ap (λ id. with_key (slice_cmp nat_cmp) c.self.inside.rows id row) c.id-id.ensures in
     let rows : values_of c.in_ok-rows.rows ≡ with_row (of_row entry_key) row.row.id (Some row) old = ap values_of shelf ∙ values-after entry_key row.row.id (Some row) c.self.inside.rows c.self.invariant.0 in
     let absent : IsAbsent entry_key row.row.id old = subst (IsAbsent entry_key row.row.id) (sym c.self.view_is) c.requires.absent in (
       subst (IsKeyed entry_key) (sym shelf) (keyed-after entry_key row.row.id (Some row) c.self.inside.rows c.self.invariant.0 refl),
@@ -50,5 +50,5 @@ invariant_of-result c =
 pub returns : goal.returns
 returns c =
     let row = c.args.row in
-    let shelf : c.in_ok-rows.rows ≡ with_shelf_row (slice_cmp nat_cmp) c.self.inside.rows row.row.id row = c.in_ok-rows.ensures.rows ∙ ap (λ id. with_shelf_row (slice_cmp nat_cmp) c.self.inside.rows id row) c.id-id.ensures in
+    let shelf : c.in_ok-rows.rows ≡ with_key (slice_cmp nat_cmp) c.self.inside.rows row.row.id row = c.in_ok-rows.ensures.rows ∙ ap (λ id. with_key (slice_cmp nat_cmp) c.self.inside.rows id row) c.id-id.ensures in
     ap values_of shelf ∙ (values-after entry_key row.row.id (Some row) c.self.inside.rows c.self.invariant.0 ∙ ap (with_row (of_row entry_key) row.row.id (Some row)) c.self.view_is)

@@ -2,12 +2,12 @@ use Rattle.std.proofs.Common.{◌≡◌, None, map, sym, ap, subst, ◌∙◌}
 use Rattle.std.specs.Ordering.{nat_cmp}
 use Rattle.std.specs.Cmp.Lexicographic.{slice_cmp}
 use Rattle.std.specs.Map.{values_of}
-use Rattle.version_shelf.specs.Shelf.{without_row}
+use Rattle.version_shelf.specs.Shelf.{without_key}
 use Rattle.entry_book.specs.Order.{Ascending, Within, with_row}
 use Rattle.entry_book.specs.Rows.{entry_key}
 use Rattle.entry_book.proofs.InOrder.{ascending-with_row}
 use Rattle.version_book.specs.Index.{IsIndex, group_keys, user_keys, expiry_keys}
-use Rattle.version_book.specs.Numbered.{of_row, row_of}
+use Rattle.version_book.specs.CommittedRows.{of_row, row_of}
 use Rattle.version_book.specs.Stores.{IsKeyed}
 use Rattle.version_book.proofs.KeyOrders.{tells_groups, tells_users, tells_expiries, groups_tell, users_tell, expiries_tell}
 use Rattle.version_book.proofs.Mapped.{from_within_map}
@@ -28,7 +28,7 @@ invariant_of-result c =
     let rows = values_of c.self.inside.rows in
     let old = from_within_map row_of rows c.args.entry.now (subst (λ rows. Within (map row_of rows) c.args.entry.now) (sym c.self.view_is) c.requires.there) in
     let k = old.0.row.id in
-    let shelf : c.in_ok-rows.rows ≡ without_row (slice_cmp nat_cmp) c.self.inside.rows k = c.in_ok-rows.ensures.rows ∙ ap (without_row (slice_cmp nat_cmp) c.self.inside.rows) (c.id.ensures ∙ sym (ap entry_key old.2)) in
+    let shelf : c.in_ok-rows.rows ≡ without_key (slice_cmp nat_cmp) c.self.inside.rows k = c.in_ok-rows.ensures.rows ∙ ap (without_key (slice_cmp nat_cmp) c.self.inside.rows) (c.id.ensures ∙ sym (ap entry_key old.2)) in
     let left : values_of c.in_ok-rows.rows ≡ with_row (of_row entry_key) k None rows = ap values_of shelf ∙ values-after entry_key k None c.self.inside.rows c.self.invariant.0 in (
       subst (IsKeyed entry_key) (sym shelf) (keyed-after entry_key k None c.self.inside.rows c.self.invariant.0 tt),
       subst (Ascending (of_row entry_key)) (sym left) (ascending-with_row (of_row entry_key) k None rows c.self.invariant.1 tt),
@@ -39,5 +39,5 @@ invariant_of-result c =
 
 pub returns : goal.returns
 returns c =
-    let shelf : c.in_ok-rows.rows ≡ without_row (slice_cmp nat_cmp) c.self.inside.rows c.args.entry.now.id = c.in_ok-rows.ensures.rows ∙ ap (without_row (slice_cmp nat_cmp) c.self.inside.rows) c.id.ensures in
+    let shelf : c.in_ok-rows.rows ≡ without_key (slice_cmp nat_cmp) c.self.inside.rows c.args.entry.now.id = c.in_ok-rows.ensures.rows ∙ ap (without_key (slice_cmp nat_cmp) c.self.inside.rows) c.id.ensures in
     ap values_of shelf ∙ (values-after entry_key c.args.entry.now.id None c.self.inside.rows c.self.invariant.0 ∙ ap (with_row (of_row entry_key) c.args.entry.now.id None) c.self.view_is)

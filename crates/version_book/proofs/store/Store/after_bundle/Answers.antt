@@ -3,8 +3,8 @@ use Rattle.std.specs.Map.{values_of}
 use Rattle.entry_book.specs.declared.bundle.Bundle.{Bundle}
 use Rattle.entry_book.specs.Rows.{agent_key, bundle_key}
 use Rattle.entry_book.specs.Order.{with_row}
-use Rattle.version_book.specs.Numbered.{numbered, of_row, row_of}
-use Rattle.version_book.specs.Room.{most_rows}
+use Rattle.version_book.specs.CommittedRows.{numbered, of_row, row_of}
+use Rattle.version_shelf.specs.Shelf.{most_rows}
 use Rattle.version_book.specs.Stores.{IsKeyed}
 use Rattle.version_book.proofs.Shelves.{keyed-after, room_for, rows_are, values-after}
 use Rattle.version_book.proofs.store.Store.after_bundle.Goals as goal

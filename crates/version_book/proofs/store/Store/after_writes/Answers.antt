@@ -1,5 +1,5 @@
 use Rattle.std.proofs.Common.{map, drop, ◌+◌, refl, sym, subst}
-use Rattle.version_book.specs.Numbered.{rows_after}
+use Rattle.version_book.specs.CommittedRows.{rows_after}
 use Rattle.version_book.specs.Written.{write_of}
 use Rattle.version_book.proofs.Writing.{Lead, fits_now, leads_on, room_now}
 use Rattle.version_book.proofs.store.Store.after_writes.Goals as goal

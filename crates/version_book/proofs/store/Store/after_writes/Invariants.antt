@@ -1,5 +1,5 @@
 use Rattle.std.proofs.Common.{drop, map}
-use Rattle.version_book.specs.Numbered.{rows_after}
+use Rattle.version_book.specs.CommittedRows.{rows_after}
 use Rattle.version_book.specs.Written.{write_of}
 use Rattle.version_book.proofs.Writing.{Lead}
 use Rattle.version_book.proofs.store.Store.after_writes.Given as goal

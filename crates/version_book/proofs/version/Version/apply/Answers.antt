@@ -1,5 +1,5 @@
 use Rattle.std.proofs.Common.{sym, ap, subst, ◌∙◌}
-use Rattle.version_book.specs.Numbered.{AllUpTo, rows_after}
+use Rattle.version_book.specs.CommittedRows.{AllUpTo, rows_after}
 use Rattle.version_book.proofs.NamedRows.{book_after}
 use Rattle.version_book.proofs.Numbers.{all_up_to_next}
 use Rattle.version_book.proofs.version.Version.apply.Goals as goal

@@ -1,7 +1,7 @@
 use Rattle.std.proofs.Common.{◌≡◌, map, sym, ap, subst, ◌∙◌, IfOk}
 use Rattle.entry_book.specs.Writes.{after}
 use Rattle.version_book.specs.Marks.{seen}
-use Rattle.version_book.specs.Numbered.{book_of}
+use Rattle.version_book.specs.CommittedRows.{book_of}
 use Rattle.version_book.proofs.Agreement.{reads_after}
 use Rattle.version_book.proofs.version.Version.read_after.Goals as goal
 

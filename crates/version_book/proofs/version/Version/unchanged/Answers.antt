@@ -2,7 +2,7 @@ use Rattle.std.proofs.Common.{◌≡◌, List, false, true, subst, IsTrue}
 use Rattle.entry_book.specs.Batches.{Batch}
 use Rattle.version_book.specs.History.{Follows, IsEarlier, any_hits}
 use Rattle.version_book.specs.Marks.{Agree}
-use Rattle.version_book.specs.Numbered.{State, book_of, marked}
+use Rattle.version_book.specs.CommittedRows.{State, book_of, marked}
 use Rattle.version_book.specs.Stores.{NumbersTell}
 use Rattle.version_book.proofs.Unchanged.{same_reads, same_rows, some_hits}
 use Rattle.version_book.proofs.version.Version.unchanged.Goals as goal

@@ -1,5 +1,0 @@
-use Rattle.reg_lines.proofs.Kept.{kept_spells}
-use Rattle.reg_lines.proofs.lines.kept_law.Goals as goal
-
-pub returns : goal.returns
-returns c = kept_spells

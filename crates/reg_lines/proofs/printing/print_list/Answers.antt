@@ -1,8 +1,0 @@
-use Rattle.std.proofs.Common.{rules}
-use Rattle.reg_lines.proofs.Puts.{Puts-then}
-use Rattle.reg_lines.specs.Json.{list_json}
-use Rattle.reg_lines.proofs.printing.print_list.Goals as goal
-
-pub returns : goal.returns
-unfolding list_json
-returns g c = search (rules, Puts-then)

@@ -1,5 +1,0 @@
-use Rattle.reg_lines.proofs.Rows.{◌▸◌}
-use Rattle.reg_lines.proofs.replies.put_detail_of.Goals as goal
-
-pub returns : goal.returns
-returns g c = c.put.ensures ▸ c.print_to.ensures

@@ -1,0 +1,59 @@
+//! How are the rows of a book printed?
+
+ghost use Rattle.reg_lines.specs.Replies.{agent_json, bundle_json, entry_json};
+
+use crate::devices::output::Output;
+use crate::devices::sink::Sink;
+use crate::printing::json::{PrintJson, print_number};
+use entry_book::{Agent, Bundle, Entry};
+
+/// The eight fields, in the order of their keys' bytes.
+impl PrintJson for Entry {
+    ghost text = { entry_json };
+
+    fn print_to<S: Sink>(&self, output: &mut Output<S>) {
+        output.put(b"{\"domains\":");
+        self.domains().print_to(output);
+        output.put(b",\"expiry\":");
+        print_number(self.expiry(), output);
+        output.put(b",\"hint\":");
+        self.hint().print_to(output);
+        output.put(b",\"id\":");
+        self.id().print_to(output);
+        output.put(b",\"identity\":");
+        self.identity().print_to(output);
+        output.put(b",\"parent\":");
+        self.parent().print_to(output);
+        output.put(b",\"revision\":");
+        print_number(self.revision(), output);
+        output.put(b",\"selectors\":");
+        self.selectors().print_to(output);
+        output.put(b"}");
+    }
+}
+
+impl PrintJson for Agent {
+    ghost text = { agent_json };
+
+    fn print_to<S: Sink>(&self, output: &mut Output<S>) {
+        output.put(b"{\"id\":");
+        self.id.print_to(output);
+        output.put(b",\"selectors\":");
+        self.selectors.print_to(output);
+        output.put(b"}");
+    }
+}
+
+impl PrintJson for Bundle {
+    ghost text = { bundle_json };
+
+    fn print_to<S: Sink>(&self, output: &mut Output<S>) {
+        output.put(b"{\"domain\":");
+        self.domain.print_to(output);
+        output.put(b",\"sequence\":");
+        print_number(self.sequence, output);
+        output.put(b",\"text\":");
+        self.text.print_to(output);
+        output.put(b"}");
+    }
+}

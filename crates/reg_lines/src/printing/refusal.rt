@@ -1,0 +1,80 @@
+//! Which line tells that a line was refused?
+
+ghost use Rattle.reg_lines.specs.Refusals.{fault_json, field_member, no_memory_json, op_member, refusal_json};
+ghost use Rattle.reg_lines.specs.Stream.{Puts};
+
+use crate::devices::output::Output;
+use crate::devices::sink::Sink;
+use crate::fault::{Fault, Field};
+use crate::printing::json::{PrintJson, print_number};
+use crate::printing::text::print_text;
+use spiffe_name::Failure;
+
+/// Why a line has no reply, with the line's number.
+///
+/// Printed it is an object with the refusal's `code` and the `line`, where due with the `field` and the `op`; where
+/// memory was wanting its code is L6. To print it takes no memory.
+#[derive(Drop)]
+pub struct LineRefusal {
+    /// The line's number, counted from 1.
+    pub line: u64,
+    /// What is wrong with the line, or that memory was wanting while it was read, run or answered.
+    pub failure: Failure<Fault>,
+}
+
+impl PrintJson for LineRefusal {
+    ghost text = { refusal_json };
+
+    fn print_to<S: Sink>(&self, output: &mut Output<S>) {
+        match &self.failure {
+            Failure::NoMemory => print_no_memory(self.line, output),
+            Failure::Refused(fault) => print_fault(self.line, fault, output),
+        }
+    }
+}
+
+fn print_no_memory<S: Sink>(line: u64, output: &mut Output<S>)
+    ensures { Puts output.old output.new (no_memory_json line) }
+{
+    output.put(b"{\"code\":\"L6\",\"line\":");
+    print_number(line, output);
+    output.put(b"}");
+}
+
+fn print_fault<S: Sink>(line: u64, fault: &Fault, output: &mut Output<S>)
+    ensures { Puts output.old output.new (fault_json line fault.now) }
+{
+    output.put(b"{\"code\":");
+    print_text(fault.code.text(), output);
+    put_field(&fault.field, output);
+    output.put(b",\"line\":");
+    print_number(line, output);
+    put_op(fault.op, output);
+    output.put(b"}");
+}
+
+/// Puts the key at which the fault lies, where it lies at one.
+fn put_field<S: Sink>(field: &Option<Field>, output: &mut Output<S>)
+    ensures { Puts output.old output.new (field_member field.now) }
+{
+    match field {
+        None => {}
+        Some(field) => {
+            output.put(b",\"field\":");
+            print_text(field.name(), output);
+        }
+    }
+}
+
+/// Puts the operation's index, where there is one.
+pub(crate) fn put_op<S: Sink>(op: Option<usize>, output: &mut Output<S>)
+    ensures { Puts output.old output.new (op_member op) }
+{
+    match op {
+        None => {}
+        Some(index) => {
+            output.put(b",\"op\":");
+            print_number(index as u64, output);
+        }
+    }
+}

@@ -1,0 +1,163 @@
+//! Which line prints the reply to a batch?
+
+ghost use Rattle.std.specs.Prelude.{◌++◌, codes};
+ghost use Rattle.reg_lines.specs.Replies.{detail_member, done_json, dropped_json, op_detail_member, op_reply_json, refused_json, reply_json, under};
+ghost use Rattle.reg_lines.specs.Stream.{Puts};
+
+use crate::devices::output::Output;
+use crate::devices::sink::Sink;
+use crate::printing::json::{PrintJson, print_list, print_number};
+use crate::printing::refusal::put_op;
+use crate::printing::text::print_text;
+use entry_book::{OpRefusal, OpReply, Outcome, Refusal, Reply};
+use uuid::Uuid;
+
+/// An object whose first key says what kind of reply it is. A row that isn't there is `null`.
+impl PrintJson for OpReply {
+    ghost text = { op_reply_json };
+
+    fn print_to<S: Sink>(&self, output: &mut Output<S>) {
+        match self {
+            OpReply::Entry(entry) => print_under("entry", entry, output),
+            OpReply::EntryShown(entry) => print_under("entry", entry, output),
+            OpReply::Entries(entries) => print_under("entries", entries, output),
+            OpReply::Agent(agent) => print_under("agent", agent, output),
+            OpReply::AgentShown(agent) => print_under("agent", agent, output),
+            OpReply::Bundle(bundle) => print_under("bundle", bundle, output),
+            OpReply::BundleShown(bundle) => print_under("bundle", bundle, output),
+            OpReply::Bundles(bundles) => print_under("bundles", bundles, output),
+            OpReply::Pruned(ids) => print_under("pruned", ids, output),
+            OpReply::Dropped(deleted, dissociated) => {
+                print_dropped(deleted.as_slice(), dissociated.as_slice(), output);
+            }
+        }
+    }
+}
+
+/// Prints an object with one key.
+fn print_under<T: PrintJson, S: Sink>(key: &str, value: &T, output: &mut Output<S>)
+    ensures { Puts output.old output.new (under key.now (T.text value.now)) }
+{
+    output.put(b"{");
+    print_text(key, output);
+    output.put(b":");
+    value.print_to(output);
+    output.put(b"}");
+}
+
+/// Prints the ids of the entries that were deleted with a bundle, and of those that were dissociated.
+fn print_dropped<S: Sink>(deleted: &[Uuid], dissociated: &[Uuid], output: &mut Output<S>)
+    ensures { Puts output.old output.new (dropped_json deleted.now dissociated.now) }
+{
+    output.put(b"{\"deleted\":");
+    print_list(deleted, output);
+    output.put(b",\"dissociated\":");
+    print_list(dissociated, output);
+    output.put(b"}");
+}
+
+/// The reply to a batch with the number of its call, as a reply line has them.
+#[derive(Clone, Copy, Drop)]
+pub struct CallReply<'a> {
+    /// The number of the call that ran the batch.
+    pub call: u64,
+    /// The reply to the batch.
+    pub reply: &'a Reply,
+}
+
+impl PrintJson for CallReply<'_> {
+    ghost text = { λ r. reply_json r.call r.reply.now };
+
+    fn print_to<S: Sink>(&self, output: &mut Output<S>) {
+        let place = self.reply.place;
+        match &self.reply.outcome {
+            Outcome::Committed(replies) => {
+                print_done(
+                    self.call,
+                    place,
+                    replies.get().as_slice(),
+                    "committed",
+                    output,
+                );
+            }
+            Outcome::Answered(replies) => {
+                print_done(
+                    self.call,
+                    place,
+                    replies.get().as_slice(),
+                    "answered",
+                    output,
+                );
+            }
+            Outcome::Refused(refusal) => print_refused(self.call, place, refusal, output),
+        }
+    }
+}
+
+/// Prints the reply to a batch whose operations were all answered.
+fn print_done<S: Sink>(
+    call: u64,
+    place: u64,
+    replies: &[OpReply],
+    result_word: &str,
+    output: &mut Output<S>,
+)
+    ensures { Puts output.old output.new (done_json call place replies.now result_word.now) }
+{
+    output.put(b"{\"call\":");
+    print_number(call, output);
+    output.put(b",\"place\":");
+    print_number(place, output);
+    output.put(b",\"replies\":");
+    print_list(replies, output);
+    output.put(b",\"result\":");
+    print_text(result_word, output);
+    output.put(b"}");
+}
+
+/// Prints the reply to a batch that was refused.
+fn print_refused<S: Sink>(call: u64, place: u64, refusal: &Refusal, output: &mut Output<S>)
+    ensures { Puts output.old output.new (refused_json call place refusal.now) }
+{
+    output.put(b"{\"call\":");
+    print_number(call, output);
+    output.put(b",\"code\":");
+    print_text(refusal.code(), output);
+    put_detail(refusal, output);
+    put_op(refusal.op(), output);
+    output.put(b",\"place\":");
+    print_number(place, output);
+    output.put(b",\"result\":\"refused\"}");
+}
+
+/// Puts what a refusal is about, where its code says of what kind that is.
+fn put_detail<S: Sink>(refusal: &Refusal, output: &mut Output<S>)
+    ensures { Puts output.old output.new (detail_member refusal.now) }
+{
+    match refusal {
+        Refusal::OfOp(_, refusal) => put_op_detail(refusal, output),
+        Refusal::Full(_) => {}
+    }
+}
+
+/// Puts the similar entry's id, or the missing domain, where the refusal has one.
+fn put_op_detail<S: Sink>(refusal: &OpRefusal, output: &mut Output<S>)
+    ensures { Puts output.old output.new (op_detail_member refusal.now) }
+{
+    match refusal {
+        OpRefusal::IdTaken => {}
+        OpRefusal::Similar(id) => put_detail_of(id, output),
+        OpRefusal::NoEntry => {}
+        OpRefusal::StaleRevision => {}
+        OpRefusal::NoBundle(domain) => put_detail_of(domain, output),
+        OpRefusal::BundleInUse => {}
+        OpRefusal::NoAgent => {}
+    }
+}
+
+fn put_detail_of<T: PrintJson, S: Sink>(value: &T, output: &mut Output<S>)
+    ensures { Puts output.old output.new (codes ",\"detail\":" ++ T.text value.now) }
+{
+    output.put(b",\"detail\":");
+    value.print_to(output);
+}

@@ -1,0 +1,17 @@
+//! Which request does a line spell?
+//!
+//! - `request`: a line, and its keys beside the batch; `tries`: how often a batch may be tried.
+//! - `batch`, `ops`: an object that holds a batch, and its operations; `ids`: the ids of entries that come without one.
+//! - `fields`: what a value spells at its keys.
+
+pub(crate) mod batch;
+pub(crate) mod fields;
+pub(crate) mod ids;
+pub(crate) mod ops;
+pub(crate) mod request;
+pub(crate) mod tries;
+
+pub use fields::unknown_keys_law;
+pub use ids::{Ids, ids_law};
+pub use request::{Request, read_request};
+pub use tries::Tries;

@@ -1,0 +1,69 @@
+-- The rows of a version, each with the number of the commit that last wrote it.
+use Rattle.std.specs.Prelude.{ℕ, ◌+◌, ◌≤◌, List, [], ◌∷◌, filter, map, option_map}
+use Rattle.std.specs.List.{AllByRecursion}
+use Rattle.entry_book.specs.declared.agent.Agent.{Agent}
+use Rattle.entry_book.specs.declared.bundle.Bundle.{Bundle}
+use Rattle.entry_book.specs.Rows.{Bytes, Entry, entry_key, agent_key, bundle_key}
+use Rattle.entry_book.specs.Order.{with_row}
+use Rattle.entry_book.specs.Book.{Book}
+use Rattle.entry_book.specs.Writes.{RowWrite, wrote_entry, wrote_agent, wrote_bundle}
+use Rattle.version_book.specs.declared.mark.MarkKind.{MarkKind}
+use Rattle.version_book.specs.declared.committed_row.CommittedRow.{CommittedRow}
+use Rattle.version_book.specs.Marks.{names_entry, names_agent, names_bundle}
+
+abbrev pub row_of : {X : Type 0} → CommittedRow X → X
+row_of r = r.row
+
+abbrev pub numbered : {X : Type 0} → ℕ → X → CommittedRow X
+numbered n x = record { row = x; commit = n }
+
+-- a question to a row is one to the row with its number
+abbrev pub of_row : {X Y : Type 0} → (X → Y) → CommittedRow X → Y
+of_row f r = f r.row
+
+pub record CommittedRows : Type 0 where
+  pub entries : List (CommittedRow Entry)
+  pub agents : List (CommittedRow Agent)
+  pub bundles : List (CommittedRow Bundle)
+
+abbrev pub no_rows : CommittedRows
+no_rows = record { entries = []; agents = []; bundles = [] }
+
+-- the book that these rows are
+abbrev pub book_of : CommittedRows → Book
+book_of rows = record { entries = map row_of rows.entries; agents = map row_of rows.agents; bundles = map row_of rows.bundles }
+
+-- the rows that a mark names, in the order of their keys
+abbrev pub marked : MarkKind → CommittedRows → CommittedRows
+marked m rows = record { entries = filter (of_row (names_entry m)) rows.entries; agents = filter (of_row (names_agent m)) rows.agents; bundles = filter (of_row (names_bundle m)) rows.bundles }
+
+-- no number is above n
+pub record AllUpTo (n : ℕ) (rows : CommittedRows) : Type 0 where
+  pub entries : AllByRecursion (λ r. r.commit ≤ n) rows.entries
+  pub agents : AllByRecursion (λ r. r.commit ≤ n) rows.agents
+  pub bundles : AllByRecursion (λ r. r.commit ≤ n) rows.bundles
+
+-- ---- writes of a commit
+
+-- the row that is written gets the commit's number
+abbrev pub rows_after_write : ℕ → RowWrite → CommittedRows → CommittedRows
+rows_after_write n (wrote_entry c) rows = record rows { entries = with_row (of_row entry_key) c.key (option_map (numbered n) c.new) rows.entries }
+rows_after_write n (wrote_agent c) rows = record rows { agents = with_row (of_row agent_key) c.key (option_map (numbered n) c.new) rows.agents }
+rows_after_write n (wrote_bundle c) rows = record rows { bundles = with_row (of_row bundle_key) c.key (option_map (numbered n) c.new) rows.bundles }
+
+-- the rows after these writes, one after another
+abbrev pub rows_after : ℕ → List RowWrite → CommittedRows → CommittedRows
+rows_after n [] rows = rows
+rows_after n (w ∷ ws) rows = rows_after n ws (rows_after_write n w rows)
+
+-- ---- a version
+
+-- What a version is: the server's trust domain, the number of its book in the history, and its rows.
+pub record State : Type 0 where
+  pub domain : Bytes
+  pub number : ℕ
+  pub rows : CommittedRows
+
+-- the next version, after the writes of one commit
+abbrev pub next_state : List RowWrite → State → State
+next_state writes s = record s { number = s.number + 1; rows = rows_after (s.number + 1) writes s.rows }

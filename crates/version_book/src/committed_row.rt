@@ -1,0 +1,54 @@
+//! Which commit wrote a row?
+
+ghost use Rattle.std.specs.Prelude.{◌≡◌, ◌↔◌, IfOk, IsTrue, map, option_map, option_to_list};
+ghost use Rattle.std.specs.Option.{option_copied};
+ghost use Rattle.version_shelf.specs.Shelf.{ClonesEqual};
+ghost use Rattle.version_book.specs.CommittedRows.{row_of};
+
+use std::alloc::{AllocError, Global};
+
+/// A row with the number of the commit that last wrote it. A copy of it copies no text where a copy of the row copies
+/// none.
+#[derive(Drop)]
+pub struct CommittedRow<T> {
+    pub(crate) row: T,
+    pub(crate) commit: u64,
+}
+
+impl<T: Clone> Clone for CommittedRow<T> {
+    ghost is_clone = { λ original copy. T.is_clone original.row copy.row × (copy.commit ≡ original.commit) };
+
+    fn clone(&self) -> Result<CommittedRow<T>, AllocError> {
+        Ok(CommittedRow {
+            row: self.row.clone()?,
+            commit: self.commit,
+        })
+    }
+}
+
+/// The row, where there is one, alone. The error is want of memory.
+pub(crate) fn row_alone<T: Clone + Drop>(
+    alloc: Global,
+    row: Option<&CommittedRow<T>>,
+) -> Result<Vec<T>, AllocError>
+    requires clones { ClonesEqual T.is_clone }
+    ensures { IfOk result (λ rows. rows.items ≡ map row_of (option_to_list (option_copied row.entry))) }
+{
+    let mut rows = Vec::new(alloc);
+    if let Some(row) = row {
+        rows.push(row.row.clone()?)?;
+    }
+    Ok(rows)
+}
+
+/// Is there no row in either, or one in both, last written by the same commit?
+pub(crate) fn is_same_row<T>(one: Option<&CommittedRow<T>>, other: Option<&CommittedRow<T>>) -> bool
+    ensures { IsTrue result ↔ (option_map (λ row. row.commit) (option_copied one.entry)
+        ≡ option_map (λ row. row.commit) (option_copied other.entry)) }
+{
+    match (one, other) {
+        (None, None) => true,
+        (Some(one), Some(other)) => one.commit == other.commit,
+        _ => false,
+    }
+}

@@ -1,0 +1,76 @@
+//! What does a mark read?
+
+ghost use Rattle.std.specs.Prelude.{◌≡◌};
+
+use entry_book::{Agent, Bundle, Entry};
+use std::marker::Model;
+
+/// The rows that a mark reads, whole, in the order of their keys: entries, or an agent, or a bundle; perhaps none. A
+/// contract sees the part of the book that they are.
+#[derive(Drop)]
+pub struct RowsRead {
+    pub(crate) entries: Vec<Entry>,
+    pub(crate) agents: Vec<Agent>,
+    pub(crate) bundles: Vec<Bundle>,
+}
+
+impl Model for RowsRead {
+    ghost use Rattle.entry_book.specs.Book.{Book};
+
+    ghost Value = { Book };
+
+    ghost view = { λ reading. record {
+      entries = reading.entries.items;
+      agents = reading.agents.items;
+      bundles = reading.bundles.items;
+    } };
+}
+
+impl RowsRead {
+    ghost use Rattle.std.specs.Prelude.{◌≡◌};
+
+    /// The entries that were read, in the order of their ids.
+    pub fn entries(&self) -> &[Entry]
+        ensures { result.now ≡ self.now.entries }
+    {
+        self.entries.as_slice()
+    }
+
+    /// The agent that was read; at most one.
+    pub fn agents(&self) -> &[Agent]
+        ensures { result.now ≡ self.now.agents }
+    {
+        self.agents.as_slice()
+    }
+
+    /// The bundle that was read; at most one.
+    pub fn bundles(&self) -> &[Bundle]
+        ensures { result.now ≡ self.now.bundles }
+    {
+        self.bundles.as_slice()
+    }
+
+    /// The entries that were read, in the order of their ids, to keep.
+    pub fn into_entries(self) -> Vec<Entry>
+        ensures { result.items ≡ self.entries }
+    {
+        let RowsRead { entries, .. } = self;
+        entries
+    }
+
+    /// The agent that was read, to keep; at most one.
+    pub fn into_agents(self) -> Vec<Agent>
+        ensures { result.items ≡ self.agents }
+    {
+        let RowsRead { agents, .. } = self;
+        agents
+    }
+
+    /// The bundle that was read, to keep; at most one.
+    pub fn into_bundles(self) -> Vec<Bundle>
+        ensures { result.items ≡ self.bundles }
+    {
+        let RowsRead { bundles, .. } = self;
+        bundles
+    }
+}
