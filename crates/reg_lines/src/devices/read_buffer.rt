@@ -66,7 +66,7 @@ impl ReadBuffer {
     pub(crate) fn has_line(&self) -> bool
         ensures { result ≡ has_lf self.now }
     {
-        self.buffer[self.start..self.end].contains(&b'\n')
+        lf_at(&self.buffer[self.start..self.end]).is_some()
     }
 
     /// Moves the bytes up to the first LF into the line, or all where there is no LF, and answers
