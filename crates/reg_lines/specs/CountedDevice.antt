@@ -1,5 +1,5 @@
 -- What a counted device shows of itself.
-use Rattle.std.specs.Prelude.{◌≡◌, ◌⊎◌, ◌<◌, ℕ, ◌-◌, ◌^◌, Bool, Result, OnErr}
+use Rattle.std.specs.Prelude.{◌≡◌, ◌⊎◌, ◌<◌, ℕ, ◌-◌, ◌^◌, Bool, Result, MatchResult}
 use Rattle.reg_lines.specs.declared.devices.counted.CountedDevice.{CountedDevice}
 
 abbrev pub device_of : {D : Type 0} → CountedDevice D → D
@@ -17,6 +17,6 @@ calls_left_of c = 2 ^ 64 - 1 - c.calls
 abbrev pub is_flushed_of : {D : Type 0} → CountedDevice D → Bool
 is_flushed_of c = c.is_flushed
 
--- where a call failed, the device was called, or had no call left
-abbrev pub FailsCalled : {D T E : Type 0} → CountedDevice D → CountedDevice D → Result T E → Type 0
-FailsCalled old new r = OnErr r ((calls_left_of new < calls_left_of old) ⊎ (calls_left_of old ≡ 0))
+-- the device was called; only what failed had perhaps no call left
+abbrev pub IsCalled : {D T E : Type 0} → CountedDevice D → CountedDevice D → Result T E → Type 0
+IsCalled old new r = MatchResult r (λ _. calls_left_of new < calls_left_of old) (λ _. (calls_left_of new < calls_left_of old) ⊎ (calls_left_of old ≡ 0))

@@ -48,7 +48,7 @@ impl<R: Read> Source for CountedDevice<R> {
     ghost use Rattle.std.specs.Prelude.{◌≡◌, ◌+◌, ◌<◌, ◌^◌, OnOk, is_ok, if◌then◌else◌};
     ghost use Rattle.std.specs.Io.{ReadsAtMost};
     ghost use Rattle.std.specs.Io.KnownBytes.{ReadConsumes};
-    ghost use Rattle.reg_lines.specs.CountedDevice.{FailsCalled, calls_left_of, device_of, failures_of};
+    ghost use Rattle.reg_lines.specs.CountedDevice.{IsCalled, calls_left_of, device_of, failures_of};
 
     ghost left = { λ c. R.remaining (device_of c) };
 
@@ -63,7 +63,7 @@ impl<R: Read> Source for CountedDevice<R> {
         ensures bytes { ReadConsumes (R.remaining (device_of self.old)) (R.remaining (device_of self.new)) result buffer.new }
         ensures failed { failures_of self.new ≡ failures_of self.old + (if is_ok result then 0 else 1) }
         ensures ends { OnOk result (calls_left_of self.new < calls_left_of self.old) }
-        ensures called { FailsCalled self.old self.new result }
+        ensures called { IsCalled self.old self.new result }
     {
         while self.calls < u64::MAX {
             self.calls += 1;
@@ -79,9 +79,9 @@ impl<R: Read> Source for CountedDevice<R> {
 }
 
 impl<W: Write> Sink for CountedDevice<W> {
-    ghost use Rattle.std.specs.Prelude.{◌≡◌, ◌+◌, ◌<◌, ◌≤◌, ◌^◌, IfOk, IsTrue, OnOk, is_ok, if◌then◌else◌, length};
+    ghost use Rattle.std.specs.Prelude.{◌≡◌, ◌+◌, ◌<◌, ◌≤◌, ◌^◌, IfOk, IsFalse, IsTrue, OnOk, is_ok, if◌then◌else◌, length};
     ghost use Rattle.std.specs.Io.KnownBytes.{Keeps, WriteAppends};
-    ghost use Rattle.reg_lines.specs.CountedDevice.{FailsCalled, device_of, failures_of, is_flushed_of};
+    ghost use Rattle.reg_lines.specs.CountedDevice.{IsCalled, device_of, failures_of, is_flushed_of};
 
     ghost written = { λ c. W.contents (device_of c) };
 
@@ -96,7 +96,8 @@ impl<W: Write> Sink for CountedDevice<W> {
         ensures bound { IfOk result (λ n. (0 < n) × (n ≤ length bytes.now)) }
         ensures bytes { WriteAppends (W.contents (device_of self.old)) (W.contents (device_of self.new)) result bytes.now }
         ensures failed { failures_of self.new ≡ failures_of self.old + (if is_ok result then 0 else 1) }
-        ensures called { FailsCalled self.old self.new result }
+        ensures unflushed { IsFalse (is_flushed_of self.new) }
+        ensures called { IsCalled self.old self.new result }
     {
         self.is_flushed = false;
         while self.calls < u64::MAX {
@@ -118,7 +119,7 @@ impl<W: Write> Sink for CountedDevice<W> {
         ensures bytes { Keeps (W.contents (device_of self.old)) (W.contents (device_of self.new)) }
         ensures failed { failures_of self.new ≡ failures_of self.old + (if is_ok result then 0 else 1) }
         ensures flushed { OnOk result (IsTrue (is_flushed_of self.new)) }
-        ensures called { FailsCalled self.old self.new result }
+        ensures called { IsCalled self.old self.new result }
     {
         while self.calls < u64::MAX {
             self.calls += 1;

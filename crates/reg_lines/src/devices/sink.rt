@@ -1,6 +1,6 @@
 //! Where do bytes go?
 
-ghost use Rattle.std.specs.Prelude.{◌≡◌, ◌+◌, ◌<◌, ◌≤◌, ◌^◌, ℕ, Bool, List, Option, IfOk, IsTrue, OnOk, is_ok, if◌then◌else◌, length};
+ghost use Rattle.std.specs.Prelude.{◌≡◌, ◌+◌, ◌<◌, ◌≤◌, ◌^◌, ℕ, Bool, List, Option, IfOk, IsFalse, IsTrue, OnOk, is_ok, if◌then◌else◌, length};
 ghost use Rattle.std.specs.Io.KnownBytes.{Keeps, WriteAppends};
 
 /// A call of a sink failed.
@@ -15,7 +15,7 @@ pub trait Sink {
     // How many calls have failed.
     ghost failures: { Self → ℕ };
 
-    // Whether it has handed on all that was written.
+    // Whether it has handed on all that was written: not from a write on, until a flush has succeeded.
     ghost is_flushed: { Self → Bool };
 
     /// Writes at least one of the bytes, from the front, and answers how many. A call that takes
@@ -25,7 +25,8 @@ pub trait Sink {
         requires countable { failures self.old + 1 < 2 ^ 64 }
         ensures bound { IfOk result (λ n. (0 < n) × (n ≤ length bytes.now)) }
         ensures bytes { WriteAppends (written self.old) (written self.new) result bytes.now }
-        ensures failed { failures self.new ≡ failures self.old + (if is_ok result then 0 else 1) };
+        ensures failed { failures self.new ≡ failures self.old + (if is_ok result then 0 else 1) }
+        ensures unflushed { OnOk result (IsFalse (is_flushed self.new)) };
 
     /// Hands on what the device itself may hold back.
     fn flush(&mut self) -> Result<(), SinkFailed>
