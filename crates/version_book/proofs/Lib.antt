@@ -1,5 +1,4 @@
 pub mod Agreement
-pub mod Alike
 pub mod Applying
 pub mod Batches
 pub mod Found
@@ -12,9 +11,9 @@ pub mod Mapped
 pub mod Marked
 pub mod NamedRows
 pub mod Numbers
-pub mod Others
 pub mod Ranges
 pub mod Rooms
+pub mod RowShelves
 pub mod Same
 pub mod Shelves
 pub mod Sizes

@@ -38,7 +38,7 @@ names_none (mark.Expiring moment) index_range other e = cc
 names_none (mark.Agent id) index_range other e = refl
 names_none (mark.Bundle domain) index_range other e = refl
 
-all_fail : {X : Type 0} (p : X → Bool) → ((x : X) → p x ≡ false) → (xs : List X) → filter p xs ≡ []
+pub all_fail : {X : Type 0} (p : X → Bool) → ((x : X) → p x ≡ false) → (xs : List X) → filter p xs ≡ []
 all_fail p h [] = refl
 all_fail p h (x ∷ xs) = rw (h x) (all_fail p h xs)
 

@@ -8,7 +8,7 @@ use Rattle.std.specs.Map.{keys_of}
 use Rattle.std.proofs.lemmas.Cmp.{nat_list_cmp_total, nat_cmp_total}
 use Rattle.std.proofs.lemmas.Map.Keys.{sorted_head, sorted_tail}
 use Rattle.version_shelf.specs.Shelf.{IsInOrder, rows_between}
-use Rattle.entry_book.specs.Rows.{Entry, entry_key}
+use Rattle.entry_book.specs.Rows.{Bytes, Entry, entry_key}
 use Rattle.entry_book.specs.Order.{Within, Ascending}
 use Rattle.entry_book.proofs.Sets.{All-within, ascending_filter, from_within_filter, within_filter, same_sets}
 use Rattle.version_book.specs.declared.key.KeyPart.TheVariants.{Start, At, End}
@@ -128,17 +128,17 @@ module _ {K : Type 0} (cmp : K → K → Ordering) (keys : Entry → List K) (lo
 
 -- ---- a row alone
 
-pub row_same : (one other : Option (CommittedRow Entry)) → option_to_list one ≡ option_to_list other → option_map (λ r. r.commit) one ≡ option_map (λ r. r.commit) other
+pub row_same : {X : Type 0} (one other : Option (CommittedRow X)) → option_to_list one ≡ option_to_list other → option_map (λ r. r.commit) one ≡ option_map (λ r. r.commit) other
 row_same None None e = refl
 row_same None (Some s) e = cc
 row_same (Some r) None e = cc
 row_same (Some r) (Some s) e = let q : r ≡ s = cc in ap (λ x. Some x.commit) q
 
-pub row_tells : (p : Entry → Bool) (rows others : List (CommittedRow Entry)) (one other : Option (CommittedRow Entry)) → filter (of_row p) rows ≡ option_to_list one → filter (of_row p) others ≡ option_to_list other → ((r s : CommittedRow Entry) → p r.row ≡ true → p s.row ≡ true → r.row.id ≡ s.row.id) → TellRows entry_key rows others → option_map (λ r. r.commit) one ≡ option_map (λ r. r.commit) other → filter (of_row p) rows ≡ filter (of_row p) others
-row_tells p rows others None None a b alone tells e = a ∙ sym b
-row_tells p rows others None (Some s) a b alone tells e = cc
-row_tells p rows others (Some r) None a b alone tells e = cc
-row_tells p rows others (Some r) (Some s) a b alone tells e =
+pub row_tells : {X : Type 0} (key : X → Bytes) (p : X → Bool) (rows others : List (CommittedRow X)) (one other : Option (CommittedRow X)) → filter (of_row p) rows ≡ option_to_list one → filter (of_row p) others ≡ option_to_list other → ((r s : CommittedRow X) → p r.row ≡ true → p s.row ≡ true → key r.row ≡ key s.row) → TellRows key rows others → option_map (λ r. r.commit) one ≡ option_map (λ r. r.commit) other → filter (of_row p) rows ≡ filter (of_row p) others
+row_tells key p rows others None None a b alone tells e = a ∙ sym b
+row_tells key p rows others None (Some s) a b alone tells e = cc
+row_tells key p rows others (Some r) None a b alone tells e = cc
+row_tells key p rows others (Some r) (Some s) a b alone tells e =
     let left = from_within_filter (of_row p) rows r (subst (λ l. Within l r) (sym a) (inl refl)) in
     let right = from_within_filter (of_row p) others s (subst (λ l. Within l s) (sym b) (inl refl)) in
     let commit : r.commit ≡ s.commit = cc in

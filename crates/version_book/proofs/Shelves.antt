@@ -14,14 +14,12 @@ use Rattle.std.proofs.lemmas.List.Elements.{filter-append}
 use Rattle.std.proofs.lemmas.Map.Keys.{sorted_tail}
 use Rattle.version_shelf.specs.Shelf.{IsInOrder, get, rows_below, rows_above, with_key, without_key, most_rows}
 use Rattle.version_shelf.proofs.Above.{by_order, below_of_above, above_of_above, all_above_greater}
-use Rattle.entry_book.specs.declared.agent.Agent.{Agent}
-use Rattle.entry_book.specs.declared.bundle.Bundle.{Bundle}
-use Rattle.entry_book.specs.Rows.{Bytes, Entry}
+use Rattle.entry_book.specs.Rows.{Bytes}
 use Rattle.entry_book.specs.Order.{Within, Ascending, is_before, with_row, first}
 use Rattle.entry_book.proofs.Sets.{All-within, All-from_within, from_within_filter, from_within_append}
 use Rattle.entry_book.proofs.Keys.{rows_at}
 use Rattle.version_book.specs.declared.committed_row.CommittedRow.{CommittedRow}
-use Rattle.version_book.specs.CommittedRows.{CommittedRows, of_row, row_of}
+use Rattle.version_book.specs.CommittedRows.{of_row, row_of}
 use Rattle.version_book.specs.Stores.{IsKeyed, shelf_after}
 use Rattle.version_book.proofs.NamedRows.{map-with_row}
 
@@ -162,11 +160,3 @@ module _ {X : Type 0} (key : X → Bytes) where
       one_more : (low high : List (Bytes × CommittedRow X)) (row : Bytes × CommittedRow X) → length (low ++ row ∷ high) ≡ length (low ++ high) + 1
       one_more [] high row = omega arith
       one_more (l ∷ ls) high row = let q = one_more ls high row in omega (arith, q)
-
--- ---- three sets of rows
-
-abbrev pub rows_with : List (CommittedRow Entry) → List (CommittedRow Agent) → List (CommittedRow Bundle) → CommittedRows
-rows_with es us ds = record { entries = es; agents = us; bundles = ds }
-
-pub rows_are : (es fs : List (CommittedRow Entry)) (us vs : List (CommittedRow Agent)) (ds cs : List (CommittedRow Bundle)) → es ≡ fs → us ≡ vs → ds ≡ cs → rows_with es us ds ≡ rows_with fs vs cs
-rows_are es fs us vs ds cs e u d = rw (e, u, d) refl

@@ -12,6 +12,10 @@ use Rattle.version_book.specs.CommittedRows.{CommittedRows}
 abbrev pub IsKeyed : {X : Type 0} → (X → Bytes) → List (Bytes × CommittedRow X) → Type 0
 IsKeyed key shelf = AllByRecursion (λ row. row.0 ≡ key row.1.row) shelf
 
+-- the same rows under the bytes of their keys
+abbrev pub by_bytes : {K V : Type 0} → (K → Bytes) → List (K × V) → List (Bytes × V)
+by_bytes bytes shelf = map (λ row. (bytes row.0, row.1)) shelf
+
 -- what is compared where a range is asked to be unchanged: which row, and which commit last wrote it
 abbrev pub stamp : {K : Type 0} → K × CommittedRow Entry → Bytes × ℕ
 stamp row = (row.1.row.id, row.1.commit)

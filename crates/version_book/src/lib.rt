@@ -30,8 +30,8 @@
 //! how versions follow one another in `History`, what there has to be room for in `Room`; the others are for this crate's
 //! own contracts. Nothing outside this crate knows how the rows are kept:
 //!
-//! - `store` and `entries`: the shelves behind a version; `index` and `key`: how an index is kept and ordered; `committed_row`:
-//!   their rows.
+//! - `store`: the sets of rows of a version; `entries` and `row_shelf`: the shelves of a set; `index` and `key`: how an index is
+//!   kept and ordered; `committed_row`: their rows.
 //! - `row`: what marks and writes ask of a row; `hits`: which writes hit a mark; `overlay`: what a mark reads after writes.
 #![tactic(auto)]
 
@@ -45,6 +45,7 @@ pub mod laws;
 mod mark;
 mod overlay;
 mod row;
+mod row_shelf;
 mod rows_read;
 mod store;
 mod version;

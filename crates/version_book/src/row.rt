@@ -1,9 +1,12 @@
 //! What do marks and writes ask of a row?
 
-ghost use Rattle.std.specs.Prelude.{◌≡◌, Bool, IfOk, List, ℕ};
+ghost use Rattle.std.specs.Prelude.{◌≡◌, Bool, IfOk, List, MatchOption, bytes_eq, false, refl, ℕ};
+ghost use Rattle.std.specs.Cmp.Lexicographic.{slice_cmp};
+ghost use Rattle.std.specs.Ordering.{nat_cmp};
 
 use crate::mark::{Mark, MarkKind};
-use entry_book::{Agent, Bundle, Entry};
+use entry_book::{Agent, Bundle, Entry, Shared};
+use spiffe_name::{SpiffeId, TrustDomain};
 use std::alloc::AllocError;
 
 /// A row of a book: it has a key, by whose bytes rows are ordered, and there are marks that name it.
@@ -25,6 +28,18 @@ pub(crate) trait BookRow: Drop {
     /// One more owner of the same row. The error is that no more can be counted.
     fn again(&self) -> Result<Self, AllocError>
         ensures { IfOk result (λ copy. copy ≡ self.now) };
+}
+
+/// A row that marks name by its key alone. The key has a type of its own, and is ordered by its bytes.
+pub(crate) trait KeyedRow<K: Ord>: BookRow {
+    ghost bytes: { K → List ℕ };
+
+    /// The key of the row that the mark names, where it names one of these rows.
+    fn key_in(mark: &Mark) -> Option<&K>
+        ensures { MatchOption result ((row : Self) → Self.names mark.now row ≡ false)
+            (λ key. (row : Self) → Self.names mark.now row ≡ bytes_eq (Self.key row) (bytes key.now)) };
+
+    ghost by_bytes: { (one other : K) → K.cmp one other ≡ slice_cmp nat_cmp (bytes one) (bytes other) };
 }
 
 impl BookRow for Entry {
@@ -84,6 +99,19 @@ impl BookRow for Agent {
     }
 }
 
+impl KeyedRow<Shared<SpiffeId>> for Agent {
+    ghost bytes = { λ id. id };
+
+    ghost by_bytes = { λ one other. refl };
+
+    fn key_in(mark: &Mark) -> Option<&Shared<SpiffeId>> {
+        match mark.kind() {
+            MarkKind::Agent(id) => Some(id),
+            _ => None,
+        }
+    }
+}
+
 impl BookRow for Bundle {
     ghost use Rattle.version_book.specs.Marks.{names_bundle};
 
@@ -109,5 +137,18 @@ impl BookRow for Bundle {
 
     fn again(&self) -> Result<Self, AllocError> {
         self.clone()
+    }
+}
+
+impl KeyedRow<Shared<TrustDomain>> for Bundle {
+    ghost bytes = { λ domain. domain };
+
+    ghost by_bytes = { λ one other. refl };
+
+    fn key_in(mark: &Mark) -> Option<&Shared<TrustDomain>> {
+        match mark.kind() {
+            MarkKind::Bundle(domain) => Some(domain),
+            _ => None,
+        }
     }
 }

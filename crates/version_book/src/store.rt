@@ -1,57 +1,47 @@
 //! How are the rows of a version kept?
 
-ghost use Rattle.std.specs.Prelude.{◌≡◌, ◌≤◌, ◌+◌, IfOk, IfSome, length, option_map};
-ghost use Rattle.version_shelf.specs.Shelf.{ClonesEqual, without_key, most_rows};
-ghost use Rattle.version_book.specs.CommittedRows.{numbered};
-ghost use Rattle.version_book.specs.Stores.{shelf_after};
+ghost use Rattle.std.specs.Prelude.{◌≡◌};
 
-use crate::changes::{RowChange, RowWrite};
-use crate::committed_row::{CommittedRow, is_same_row, row_alone};
+use crate::changes::RowWrite;
 use crate::entries::Entries;
-use crate::mark::{Mark, MarkKind};
+use crate::mark::Mark;
+use crate::row_shelf::RowShelf;
 use crate::rows_read::RowsRead;
 use entry_book::{Agent, Bundle, Shared};
 use spiffe_name::{SpiffeId, TrustDomain};
 use std::alloc::{AllocError, Global};
 use std::marker::Model;
-use version_shelf::Shelf;
 
 /// The three sets of rows of a version. A contract sees the rows with their numbers, in the order of their keys.
 #[derive(Drop)]
 pub(crate) struct Store {
     entries: Entries,
-    agents: Shelf<Shared<SpiffeId>, CommittedRow<Agent>>,
-    bundles: Shelf<Shared<TrustDomain>, CommittedRow<Bundle>>,
+    agents: RowShelf<Shared<SpiffeId>, Agent>,
+    bundles: RowShelf<Shared<TrustDomain>, Bundle>,
 }
 
 impl Model for Store {
-    ghost use Rattle.std.specs.Map.{values_of};
-    ghost use Rattle.entry_book.specs.Rows.{agent_key, bundle_key};
     ghost use Rattle.version_book.specs.CommittedRows.{CommittedRows};
-    ghost use Rattle.version_book.specs.Stores.{IsKeyed};
 
     ghost Value = { CommittedRows };
 
     ghost view = { λ store. record {
       entries = store.entries;
-      agents = values_of store.agents;
-      bundles = values_of store.bundles;
+      agents = store.agents;
+      bundles = store.bundles;
     } };
-
-    ghost invariant = { λ store. IsKeyed agent_key store.agents × IsKeyed bundle_key store.bundles };
 }
 
 impl Store {
-    ghost use Rattle.std.specs.Prelude.{◌≡◌, IfOk, IsTrue, filter, map, length};
+    ghost use Rattle.std.specs.Prelude.{◌≡◌, IfOk, IsTrue, map, length};
     ghost use Rattle.entry_book.specs.Order.{Ascending};
     ghost use Rattle.entry_book.specs.Rows.{entry_key, agent_key, bundle_key};
     ghost use Rattle.entry_book.specs.Writes.{FitAll, FitsBook};
-    ghost use Rattle.version_book.specs.Marks.{names_agent, names_bundle, reads};
-    ghost use Rattle.version_book.specs.CommittedRows.{book_of, marked, no_rows, of_row, row_of, rows_after, rows_after_write};
+    ghost use Rattle.version_book.specs.Marks.{reads};
+    ghost use Rattle.version_book.specs.CommittedRows.{book_of, marked, no_rows, of_row, rows_after, rows_after_write};
     ghost use Rattle.version_book.specs.Room.{RoomAll, RoomFor};
-    ghost use Rattle.version_book.specs.Stores.{NumbersTell, TellRows};
+    ghost use Rattle.version_book.specs.Stores.{NumbersTell};
     ghost use Rattle.version_book.specs.Written.{write_of};
-    ghost use Rattle.version_book.specs.declared.changes.RowWrite.TheVariants as write;
 
     /// No rows. Takes no memory.
     pub(crate) fn empty(alloc: Global) -> Store
@@ -59,8 +49,8 @@ impl Store {
     {
         Store {
             entries: Entries::empty(alloc),
-            agents: Shelf::new(alloc),
-            bundles: Shelf::new(alloc),
+            agents: RowShelf::empty(alloc),
+            bundles: RowShelf::empty(alloc),
         }
     }
 
@@ -88,42 +78,6 @@ impl Store {
         self.bundles.len()
     }
 
-    /// The rows after a write of an agent, by this commit. The error is want of memory.
-    fn after_agent(
-        &self,
-        change: &RowChange<Shared<SpiffeId>, Agent>,
-        commit: u64,
-    ) -> Result<Store, AllocError>
-        requires fits { FitsBook (write_of (write.Agent change.now)) (book_of self.now) }
-        requires room { RoomFor (write_of (write.Agent change.now)) (book_of self.now) }
-        ensures { IfOk result (λ store. store ≡ rows_after_write commit (write_of (write.Agent change.now)) self.now) }
-    {
-        let agents = after_change(&self.agents, change, commit)?;
-        Ok(Store {
-            entries: self.entries.clone()?,
-            agents,
-            bundles: self.bundles.clone()?,
-        })
-    }
-
-    /// The rows after a write of a bundle, by this commit. The error is want of memory.
-    fn after_bundle(
-        &self,
-        change: &RowChange<Shared<TrustDomain>, Bundle>,
-        commit: u64,
-    ) -> Result<Store, AllocError>
-        requires fits { FitsBook (write_of (write.Bundle change.now)) (book_of self.now) }
-        requires room { RoomFor (write_of (write.Bundle change.now)) (book_of self.now) }
-        ensures { IfOk result (λ store. store ≡ rows_after_write commit (write_of (write.Bundle change.now)) self.now) }
-    {
-        let bundles = after_change(&self.bundles, change, commit)?;
-        Ok(Store {
-            entries: self.entries.clone()?,
-            agents: self.agents.clone()?,
-            bundles,
-        })
-    }
-
     /// The rows after one write, by this commit. The error is want of memory.
     fn after_write(&self, alloc: Global, write: &RowWrite, commit: u64) -> Result<Store, AllocError>
         requires fits { FitsBook (write_of write.now) (book_of self.now) }
@@ -136,8 +90,16 @@ impl Store {
                 agents: self.agents.clone()?,
                 bundles: self.bundles.clone()?,
             }),
-            RowWrite::Agent(change) => self.after_agent(change, commit),
-            RowWrite::Bundle(change) => self.after_bundle(change, commit),
+            RowWrite::Agent(change) => Ok(Store {
+                entries: self.entries.clone()?,
+                agents: self.agents.after(change, commit)?,
+                bundles: self.bundles.clone()?,
+            }),
+            RowWrite::Bundle(change) => Ok(Store {
+                entries: self.entries.clone()?,
+                agents: self.agents.clone()?,
+                bundles: self.bundles.after(change, commit)?,
+            }),
         }
     }
 
@@ -165,27 +127,9 @@ impl Store {
     {
         Ok(RowsRead {
             entries: self.entries.at(alloc, mark)?,
-            agents: self.agents_at(alloc, mark)?,
-            bundles: self.bundles_at(alloc, mark)?,
+            agents: self.agents.at(alloc, mark)?,
+            bundles: self.bundles.at(alloc, mark)?,
         })
-    }
-
-    fn agents_at(&self, alloc: Global, mark: &Mark) -> Result<Vec<Agent>, AllocError>
-        ensures { IfOk result (λ found. found.items ≡ filter (names_agent mark.now) (map row_of self.now.agents)) }
-    {
-        match mark.kind() {
-            MarkKind::Agent(id) => row_alone(alloc, self.agents.get(id)),
-            _ => Ok(Vec::new(alloc)),
-        }
-    }
-
-    fn bundles_at(&self, alloc: Global, mark: &Mark) -> Result<Vec<Bundle>, AllocError>
-        ensures { IfOk result (λ found. found.items ≡ filter (names_bundle mark.now) (map row_of self.now.bundles)) }
-    {
-        match mark.kind() {
-            MarkKind::Bundle(domain) => row_alone(alloc, self.bundles.get(domain)),
-            _ => Ok(Vec::new(alloc)),
-        }
     }
 
     /// Are the rows at a mark those of older rows of the same history, each last written by the same commit?
@@ -194,33 +138,8 @@ impl Store {
         ensures tells { NumbersTell older.now self.now → IsTrue result → marked mark.now older.now ≡ marked mark.now self.now }
     {
         self.entries.is_same_at(&older.entries, mark)
-            && self.are_agents_same_at(older, mark)
-            && self.are_bundles_same_at(older, mark)
-    }
-
-    fn are_agents_same_at(&self, older: &Store, mark: &Mark) -> bool
-        ensures same { filter (of_row (names_agent mark.now)) older.now.agents ≡ filter (of_row (names_agent mark.now)) self.now.agents → IsTrue result }
-        ensures tells { TellRows agent_key older.now.agents self.now.agents → IsTrue result
-            → filter (of_row (names_agent mark.now)) older.now.agents ≡ filter (of_row (names_agent mark.now)) self.now.agents }
-    {
-        match mark.kind() {
-            MarkKind::Agent(id) => is_same_row(older.agents.get(id), self.agents.get(id)),
-            _ => true,
-        }
-    }
-
-    fn are_bundles_same_at(&self, older: &Store, mark: &Mark) -> bool
-        ensures same { filter (of_row (names_bundle mark.now)) older.now.bundles ≡ filter (of_row (names_bundle mark.now)) self.now.bundles → IsTrue result }
-        ensures tells { TellRows bundle_key older.now.bundles self.now.bundles → IsTrue result
-            → filter (of_row (names_bundle mark.now)) older.now.bundles ≡ filter (of_row (names_bundle mark.now)) self.now.bundles }
-    {
-        match mark.kind() {
-            MarkKind::Bundle(domain) => is_same_row(
-                older.bundles.get(domain),
-                self.bundles.get(domain),
-            ),
-            _ => true,
-        }
+            && self.agents.is_same_at(&older.agents, mark)
+            && self.bundles.is_same_at(&older.bundles, mark)
     }
 }
 
@@ -233,41 +152,5 @@ impl Clone for Store {
             agents: self.agents.clone()?,
             bundles: self.bundles.clone()?,
         })
-    }
-}
-
-/// The shelf without the row of a key, if there is one. The error is want of memory.
-fn rest_of<K: Ord + Clone + Drop, T: Clone + Drop>(
-    shelf: &Shelf<K, CommittedRow<T>>,
-    key: &K,
-) -> Result<Shelf<K, CommittedRow<T>>, AllocError>
-    requires keys { ClonesEqual K.is_clone }
-    requires rows { ClonesEqual T.is_clone }
-    ensures { IfOk result (λ rest. rest ≡ without_key K.cmp shelf.now key.now) }
-{
-    match shelf.get(key) {
-        Some(_) => Ok(shelf.without(key)?),
-        None => Ok(shelf.clone()?),
-    }
-}
-
-/// The shelf after a change of one row, by this commit. The error is want of memory.
-fn after_change<K: Ord + Clone + Drop, T: Clone + Drop>(
-    shelf: &Shelf<K, CommittedRow<T>>,
-    change: &RowChange<K, T>,
-    commit: u64,
-) -> Result<Shelf<K, CommittedRow<T>>, AllocError>
-    requires keys { ClonesEqual K.is_clone }
-    requires rows { ClonesEqual T.is_clone }
-    requires room { IfSome change.now.new (λ new. length (without_key K.cmp shelf.now change.now.key) + 1 ≤ most_rows) }
-    ensures { IfOk result (λ after. after ≡ shelf_after K.cmp change.now.key (option_map (numbered commit) change.now.new) shelf.now) }
-{
-    let rest = rest_of(shelf, &change.key)?;
-    match &change.new {
-        Some(new) => {
-            let row = new.clone()?;
-            Ok(rest.with(change.key.clone()?, CommittedRow { row, commit })?)
-        }
-        None => Ok(rest),
     }
 }

@@ -86,7 +86,7 @@ returns-in-Entry-clause-tells c = λ tells yes.
     let named = sym c.kind.ensures ∙ c.in-Entry.is in
     let one = marked_row mark c.in-Entry.id named c.older.inside.rows c.get.ensures.order c.older.invariant.0 c.args.older.now c.older.view_is (option_copied c.get.result) c.get.ensures.value in
     let other = marked_row mark c.in-Entry.id named c.self.inside.rows c.get-in-Entry.ensures.order c.self.invariant.0 c.args.self.now c.self.view_is (option_copied c.get-in-Entry.result) c.get-in-Entry.ensures.value in
-    row_tells (names_entry mark) c.args.older.now c.args.self.now (option_copied c.get.result) (option_copied c.get-in-Entry.result) one other (alone mark c.in-Entry.id named) tells (c.is_same_row.ensures.0 yes)
+    row_tells entry_key (names_entry mark) c.args.older.now c.args.self.now (option_copied c.get.result) (option_copied c.get-in-Entry.result) one other (alone mark c.in-Entry.id named) tells (c.is_same_row.ensures.0 yes)
 
 pub returns-in_default : goal.returns-in_default
 returns-in_default c =

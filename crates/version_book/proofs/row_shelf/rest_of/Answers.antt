@@ -2,7 +2,7 @@ use Rattle.std.proofs.Common.{◌≡◌, None, sym, ap, ◌∙◌}
 use Rattle.std.specs.Option.{option_copied}
 use Rattle.version_shelf.specs.Shelf.{get}
 use Rattle.version_book.proofs.Shelves.{without_absent}
-use Rattle.version_book.proofs.store.rest_of.Goals as goal
+use Rattle.version_book.proofs.row_shelf.rest_of.Goals as goal
 
 pub returns-in_ok-clone-in-None : goal.returns-in_ok-clone-in-None
 returns-in_ok-clone-in-None g c =

@@ -1,5 +1,5 @@
 use Rattle.version_book.proofs.Shelves.{with_after_without}
-use Rattle.version_book.proofs.store.after_change.Goals as goal
+use Rattle.version_book.proofs.row_shelf.after_change.Goals as goal
 
 pub returns-in_ok-with-in-Some : goal.returns-in_ok-with-in-Some
 returns-in_ok-with-in-Some g c =

@@ -1,0 +1,143 @@
+//! How are the rows of a set kept that marks name one at a time?
+
+ghost use Rattle.std.specs.Prelude.{◌≡◌, ◌≤◌, ◌+◌, IfOk, IfSome, length, option_map};
+ghost use Rattle.version_shelf.specs.Shelf.{ClonesEqual, without_key, most_rows};
+ghost use Rattle.version_book.specs.CommittedRows.{numbered};
+ghost use Rattle.version_book.specs.Stores.{shelf_after};
+
+use crate::changes::RowChange;
+use crate::committed_row::{CommittedRow, is_same_row, row_alone};
+use crate::mark::Mark;
+use crate::row::KeyedRow;
+use std::alloc::{AllocError, Global};
+use std::marker::Model;
+use version_shelf::Shelf;
+
+/// The rows of a set, each under its own key. A contract sees the rows with their numbers, in the order of their keys.
+#[derive(Drop)]
+pub(crate) struct RowShelf<K: Ord, T: KeyedRow<K>> {
+    rows: Shelf<K, CommittedRow<T>>,
+}
+
+impl<K: Ord, T: KeyedRow<K>> Model for RowShelf<K, T> {
+    ghost use Rattle.std.specs.Prelude.{List};
+    ghost use Rattle.std.specs.Map.{values_of};
+    ghost use Rattle.version_book.specs.declared.committed_row.CommittedRow.{CommittedRow as NumberedRow};
+    ghost use Rattle.version_book.specs.Stores.{IsKeyed, by_bytes};
+
+    ghost Value = { List (NumberedRow T) };
+
+    ghost view = { λ shelf. values_of shelf.rows };
+
+    ghost invariant = { λ shelf. IsKeyed T.key (by_bytes T.bytes shelf.rows) };
+}
+
+impl<K: Ord + Clone + Drop, T: KeyedRow<K> + Clone> RowShelf<K, T> {
+    ghost use Rattle.std.specs.Prelude.{◌≡◌, ◌≤◌, [], IfOk, IfSome, IsTrue, filter, length, map, option_map};
+    ghost use Rattle.entry_book.specs.Order.{Ascending, with_row};
+    ghost use Rattle.version_book.specs.CommittedRows.{numbered, of_row, row_of};
+    ghost use Rattle.version_book.specs.Stores.{TellRows};
+    ghost use Rattle.version_shelf.specs.Shelf.{ClonesEqual, most_rows};
+
+    /// No rows. Takes no memory.
+    pub(crate) fn empty(alloc: Global) -> RowShelf<K, T>
+        ensures { result ≡ [] }
+    {
+        RowShelf {
+            rows: Shelf::new(alloc),
+        }
+    }
+
+    /// How many rows there are.
+    pub(crate) fn len(&self) -> usize
+        ensures count { result ≡ length self.now }
+        ensures order { Ascending (of_row T.key) self.now }
+    {
+        self.rows.len()
+    }
+
+    /// The rows after a change of one of them, by this commit. The error is want of memory.
+    pub(crate) fn after(
+        &self,
+        change: &RowChange<K, T>,
+        commit: u64,
+    ) -> Result<RowShelf<K, T>, AllocError>
+        requires keys { ClonesEqual K.is_clone }
+        requires rows { ClonesEqual T.is_clone }
+        requires keyed { IfSome change.now.new (λ new. T.key new ≡ T.bytes change.now.key) }
+        requires room { IfSome change.now.new (λ new. length (with_row T.key (T.bytes change.now.key) change.now.new (map row_of self.now)) ≤ most_rows) }
+        ensures { IfOk result (λ shelf. shelf ≡ with_row (of_row T.key) (T.bytes change.now.key) (option_map (numbered commit) change.now.new) self.now) }
+    {
+        let rows = after_change(&self.rows, change, commit)?;
+        Ok(RowShelf { rows })
+    }
+
+    /// The row that a mark names, where it names one of these rows and there is one. The error is want of memory.
+    pub(crate) fn at(&self, alloc: Global, mark: &Mark) -> Result<Vec<T>, AllocError>
+        requires { ClonesEqual T.is_clone }
+        ensures { IfOk result (λ found. found.items ≡ filter (T.names mark.now) (map row_of self.now)) }
+    {
+        match T::key_in(mark) {
+            Some(key) => row_alone(alloc, self.rows.get(key)),
+            None => Ok(Vec::new(alloc)),
+        }
+    }
+
+    /// Is the row at a mark that of older rows of the same history, last written by the same commit?
+    pub(crate) fn is_same_at(&self, older: &RowShelf<K, T>, mark: &Mark) -> bool
+        ensures same { filter (of_row (T.names mark.now)) older.now ≡ filter (of_row (T.names mark.now)) self.now → IsTrue result }
+        ensures tells { TellRows T.key older.now self.now → IsTrue result
+            → filter (of_row (T.names mark.now)) older.now ≡ filter (of_row (T.names mark.now)) self.now }
+    {
+        match T::key_in(mark) {
+            Some(key) => is_same_row(older.rows.get(key), self.rows.get(key)),
+            None => true,
+        }
+    }
+}
+
+impl<K: Ord + Clone, T: KeyedRow<K> + Clone> Clone for RowShelf<K, T> {
+    ghost is_clone = { λ original copy. copy ≡ original };
+
+    fn clone(&self) -> Result<RowShelf<K, T>, AllocError> {
+        Ok(RowShelf {
+            rows: self.rows.clone()?,
+        })
+    }
+}
+
+/// The shelf without the row of a key, if there is one. The error is want of memory.
+fn rest_of<K: Ord + Clone + Drop, T: Clone + Drop>(
+    shelf: &Shelf<K, CommittedRow<T>>,
+    key: &K,
+) -> Result<Shelf<K, CommittedRow<T>>, AllocError>
+    requires keys { ClonesEqual K.is_clone }
+    requires rows { ClonesEqual T.is_clone }
+    ensures { IfOk result (λ rest. rest ≡ without_key K.cmp shelf.now key.now) }
+{
+    match shelf.get(key) {
+        Some(_) => Ok(shelf.without(key)?),
+        None => Ok(shelf.clone()?),
+    }
+}
+
+/// The shelf after a change of one row, by this commit. The error is want of memory.
+fn after_change<K: Ord + Clone + Drop, T: Clone + Drop>(
+    shelf: &Shelf<K, CommittedRow<T>>,
+    change: &RowChange<K, T>,
+    commit: u64,
+) -> Result<Shelf<K, CommittedRow<T>>, AllocError>
+    requires keys { ClonesEqual K.is_clone }
+    requires rows { ClonesEqual T.is_clone }
+    requires room { IfSome change.now.new (λ new. length (without_key K.cmp shelf.now change.now.key) + 1 ≤ most_rows) }
+    ensures { IfOk result (λ after. after ≡ shelf_after K.cmp change.now.key (option_map (numbered commit) change.now.new) shelf.now) }
+{
+    let rest = rest_of(shelf, &change.key)?;
+    match &change.new {
+        Some(new) => {
+            let row = new.clone()?;
+            Ok(rest.with(change.key.clone()?, CommittedRow { row, commit })?)
+        }
+        None => Ok(rest),
+    }
+}
