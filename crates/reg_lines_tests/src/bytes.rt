@@ -116,3 +116,17 @@ fn bytes_come_out_in_order_past_the_edge_of_the_buffer(rt: HostRuntime) -> Resul
     }
     Ok(())
 }
+
+#[test]
+fn a_flush_is_a_call_of_the_device(rt: HostRuntime) -> Result<(), Fail> {
+    let mut taker = Taker::new(rt.alloc(), Pace::All, Trouble::NONE);
+    let mut output = Output::new(CountedDevice::new(&mut taker));
+    output.put(b"one");
+    output.flush();
+    output.put(b"two");
+    output.flush();
+    drop(output);
+    // a write and a flush for each
+    assert_eq!(rt; (taker.calls, taker.flushes), (4, 2));
+    Ok(())
+}
