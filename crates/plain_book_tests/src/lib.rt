@@ -4,10 +4,13 @@
 //!
 //! - `random`: random batches of a few names. Each book that comes out is lawful, and each agent is told what a search
 //!   finds: `rows` reads all rows of a book and judges them, `search` looks for chains by their length.
+//! - `large`: what a book of over five hundred entries answers.
 //! - `worked`: what a small book answers, batch after batch.
 //! - `making`: operations, made of a few words; `told`: what a book answers, in short.
 #![tactic(auto)]
 
+#[cfg(test)]
+mod large;
 #[cfg(test)]
 mod making;
 #[cfg(test)]

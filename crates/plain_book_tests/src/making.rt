@@ -16,10 +16,10 @@ pub const WEB: &str = "spiffe://ex.org/web";
 
 pub const API: &str = "spiffe://ex.org/api";
 
-/// An entry to be made: the last byte of its id, its IDs, how many selectors and domains it has, and its expiry.
+/// An entry to be made: the number that the last two bytes of its id are, its IDs, how many selectors and domains it has, and its expiry.
 #[derive(Clone, Copy)]
 pub struct Draft {
-    pub number: u8,
+    pub number: u16,
     pub parent: &'static str,
     pub identity: &'static str,
     pub selectors: u32,
@@ -32,8 +32,8 @@ pub struct Draft {
 pub enum Said {
     Create(Draft),
     Update(Draft, Option<u64>),
-    Delete(u8, Option<u64>),
-    Show(u8),
+    Delete(u16, Option<u64>),
+    Show(u16),
     ShowAgent(&'static str),
     ShowBundle(&'static str),
     Children(&'static str),
@@ -46,23 +46,8 @@ pub enum Said {
     DropBundle(&'static str, DropMode),
 }
 
-pub fn drafted(number: u8, parent: &'static str, identity: &'static str) -> Draft {
-    Draft {
-        number,
-        parent,
-        identity,
-        selectors: 1,
-        domains: 0,
-        expiry: 99,
-    }
-}
-
-pub fn create(number: u8, identity: &'static str) -> Said {
-    Said::Create(drafted(number, N1, identity))
-}
-
-/// The UUID whose last byte is this one, all others being 0.
-fn uuid_of(number: u8) -> Uuid {
+/// The UUID whose last two bytes are this number, all others being 0.
+fn uuid_of(number: u16) -> Uuid {
     Uuid::from_u64_pair(0, u64::from(number))
 }
 
@@ -130,8 +115,13 @@ fn agent(alloc: Global, text: &str, count: u32) -> Result<Agent, Fail> {
     })
 }
 
+/// The trust domain of a text. Nothing is said of it, so that no caller's proof computes what the grammar says of a literal.
+pub fn trust_domain(alloc: Global, text: &str) -> Result<TrustDomain, Fail> {
+    Ok(TrustDomain::parse(alloc, text)?)
+}
+
 fn domain(alloc: Global, text: &str) -> Result<Shared<TrustDomain>, Fail> {
-    Ok(Shared::of(alloc, TrustDomain::parse(alloc, text)?)?)
+    Ok(Shared::of(alloc, trust_domain(alloc, text)?)?)
 }
 
 fn op(alloc: Global, said: Said) -> Result<Op, Fail> {

@@ -1,34 +1,32 @@
 //! Random batches of a few names: each book that comes out is lawful, each authorised answer is what a search for
 //! chains finds, and every code and kind of answer comes.
 
-ghost use Rattle.std.specs.Prelude.{◌≡◌, ◌<◌};
+ghost use Rattle.std.specs.Prelude.{◌<◌};
 
-use crate::making::{API, Draft, N1, N2, SERVER, Said, WEB, ops};
-use crate::rows::{BookRows, answers, are_children_listed, bits, is_lawful, rows_of};
+use crate::making::{API, Draft, N1, N2, SERVER, Said, WEB};
+use crate::rows::{BookRows, are_children_listed, bits, is_lawful, rows_of};
 use crate::search::{bit, ends, has_cycle, is_alias};
-use crate::told::{number_of, run, small_book};
-use entry_book::{
-    Agent, Batch, Bundle, DropMode, Entry, OpRefusal, OpReply, Outcome, Refusal, Reply,
-};
+use crate::told::{answers, replies, reply_to, small_book};
+use entry_book::{Agent, Bundle, DropMode, OpRefusal, OpReply, Outcome, Refusal, Reply};
 use plain_book::PlainBook;
 use std::alloc::Global;
 use std::process::Abort;
 use std::test::Fail;
 
 /// The agents of the books, and an ID that is none.
-pub const AGENTS: [&str; 2] = [N1, N2];
+const AGENTS: [&str; 2] = [N1, N2];
 
 /// The trust domains of the bundles, and the server's own.
-pub const DOMAINS: [&str; 4] = ["d100", "d101", "d102", "ex.org"];
+const DOMAINS: [&str; 4] = ["d100", "d101", "d102", "ex.org"];
 
 /// The parents of the entries.
-pub const PARENTS: [&str; 5] = [N1, N2, SERVER, WEB, API];
+const PARENTS: [&str; 5] = [N1, N2, SERVER, WEB, API];
 
 const IDENTITIES: [&str; 3] = [WEB, API, N2];
 
 const MODES: [DropMode; 3] = [DropMode::Restrict, DropMode::Delete, DropMode::Dissociate];
 
-const NUMBERS: [u8; 7] = [1, 2, 3, 4, 5, 6, 7];
+const NUMBERS: [u16; 7] = [1, 2, 3, 4, 5, 6, 7];
 
 const COUNTS: [u32; 4] = [0, 0, 1, 2];
 
@@ -138,6 +136,10 @@ const NOTHING: Counts = Counts {
     pruned: 0,
 };
 
+fn nothing() -> Counts {
+    NOTHING
+}
+
 /// One more, where this holds.
 fn add(count: &mut u64, holds: bool) {
     *count = count.wrapping_add(u64::from(holds));
@@ -229,11 +231,7 @@ fn is_trust(shown: &[Bundle], rows: &BookRows, ends: u64) -> bool {
 
 /// Is what the batch was answered of agents what a search finds in these rows, those of the book that came out?
 fn are_right(said: &[Said], reply: &Reply, rows: &BookRows) -> bool {
-    let replies = match &reply.outcome {
-        Outcome::Committed(replies) | Outcome::Answered(replies) => replies.get().as_slice(),
-        Outcome::Refused(_) => &[],
-    };
-    said.iter().zip(replies).all(|(op, reply)| match (op, reply) {
+    said.iter().zip(replies(reply)).all(|(op, reply)| match (op, reply) {
         (Said::Authorised(text), OpReply::Entries(entries)) => {
             bits(entries.as_slice()) == Some(ends_of(rows, text))
         }
@@ -254,6 +252,34 @@ fn ends_of(rows: &BookRows, text: &str) -> u64 {
     0
 }
 
+/// Counts cycles, and aliases that the agent holds or doesn't hold.
+fn count_chains(rows: &BookRows, ends: u64, counts: &mut Counts) {
+    add(&mut counts.cycles, has_cycle(rows, ends));
+    for entry in &rows.entries {
+        let is_end = ends & bit(entry) != 0;
+        add(&mut counts.held, is_alias(entry) && is_end);
+        add(&mut counts.not_held, is_alias(entry) && !is_end);
+    }
+}
+
+/// Has the agent been told some bundle?
+fn is_trusting(replies: &[OpReply]) -> bool {
+    replies.iter().any(|reply| match reply {
+        OpReply::Bundles(bundles) => !bundles.as_slice().is_empty(),
+        _ => false,
+    })
+}
+
+/// Are these the entries, and the bundles that they name?
+fn are_told_so(replies: &[OpReply], rows: &BookRows, ends: u64) -> bool {
+    match replies {
+        [OpReply::Entries(entries), OpReply::Bundles(bundles)] => {
+            bits(entries.as_slice()) == Some(ends) && is_trust(bundles.as_slice(), rows, ends)
+        }
+        _ => false,
+    }
+}
+
 /// Is the agent told the entries in which a chain for it ends, and the bundles that they name?
 fn is_told(
     alloc: Global,
@@ -262,31 +288,13 @@ fn is_told(
     agent: &Agent,
     text: &'static str,
     counts: &mut Counts,
-) -> Result<bool, Fail>
-    ensures { book.new.domain ≡ book.old.domain }
-{
+) -> Result<bool, Fail> {
     let ends = ends(rows, agent);
-    add(&mut counts.cycles, has_cycle(rows, ends));
-    add(
-        &mut counts.held,
-        rows.entries
-            .iter()
-            .any(|e| is_alias(e) && ends & bit(e) != 0),
-    );
-    add(
-        &mut counts.not_held,
-        rows.entries
-            .iter()
-            .any(|e| is_alias(e) && ends & bit(e) == 0),
-    );
+    count_chains(rows, ends, counts);
     let said = [Said::Authorised(text), Said::Trust(text)];
-    match answers(alloc, book, &said)?.get().as_slice() {
-        [OpReply::Entries(entries), OpReply::Bundles(bundles)] => {
-            add(&mut counts.trusted, !bundles.as_slice().is_empty());
-            Ok(bits(entries.as_slice()) == Some(ends) && is_trust(bundles.as_slice(), rows, ends))
-        }
-        _ => Ok(false),
-    }
+    let reply = answers(alloc, book, &said)?;
+    add(&mut counts.trusted, is_trusting(replies(&reply)));
+    Ok(are_told_so(replies(&reply), rows, ends))
 }
 
 /// The agent's ID, as one of the few.
@@ -298,25 +306,59 @@ fn name_of(agent: &Agent) -> &'static str {
     }
 }
 
+/// Is each agent of these rows told what a search finds?
+fn are_told(
+    alloc: Global,
+    book: &mut PlainBook,
+    rows: &BookRows,
+    counts: &mut Counts,
+) -> Result<bool, Fail> {
+    for agent in &rows.agents {
+        if !is_told(alloc, book, rows, agent, name_of(agent), counts)? {
+            return Ok(false);
+        }
+    }
+    Ok(true)
+}
+
+/// The rows after a random batch, of which what it was answered is right.
+fn rows_after_one(
+    rt: &impl Abort,
+    alloc: Global,
+    book: &mut PlainBook,
+    state: &mut u64,
+    counts: &mut Counts,
+) -> Result<BookRows, Fail> {
+    let said = batch(alloc, state)?;
+    let reply = reply_to(alloc, book, &said)?;
+    count(&said, &reply, counts);
+    let rows = rows_of(alloc, book)?;
+    assert!(rt; are_right(&said, &reply, &rows));
+    Ok(rows)
+}
+
+/// Runs a random batch, and judges the book that comes out.
+fn round(
+    rt: &impl Abort,
+    alloc: Global,
+    book: &mut PlainBook,
+    state: &mut u64,
+    counts: &mut Counts,
+) -> Result<(), Fail> {
+    let rows = rows_after_one(rt, alloc, book, state, counts)?;
+    assert!(rt; is_lawful(&rows, book.place()));
+    assert!(rt; are_children_listed(alloc, book, &rows)?);
+    assert!(rt; are_told(alloc, book, &rows, counts)?);
+    Ok(())
+}
+
 #[test]
 fn random_batches_keep_the_book_lawful_and_agents_told(rt: HostRuntime) -> Result<(), Fail> {
-    let alloc = rt.alloc();
-    let mut book = small_book(alloc)?;
+    let mut book = small_book(rt.alloc())?;
     let mut state = 7;
-    let mut counts = NOTHING;
+    let mut counts = nothing();
     for _ in 0..1000 {
-        let said = batch(alloc, &mut state)?;
-        let made = Batch::new(book.domain(), ops(alloc, &said)?)?;
-        let reply = run(&mut book, &made)?;
-        count(&said, &reply, &mut counts);
-        let rows = rows_of(alloc, &mut book)?;
-        assert!(rt; is_lawful(&rows, book.place()));
-        assert!(rt; are_children_listed(alloc, &mut book, &rows)?);
-        assert!(rt; are_right(&said, &reply, &rows));
-        for agent in &rows.agents {
-            let text = name_of(agent);
-            assert!(rt; is_told(alloc, &mut book, &rows, agent, text, &mut counts)?);
-        }
+        round(&rt, rt.alloc(), &mut book, &mut state, &mut counts)?;
     }
     assert!(rt; each_came(&counts));
     Ok(())

@@ -1,15 +1,38 @@
 //! All rows of a small book, and whether they are lawful.
 
-ghost use Rattle.std.specs.Prelude.{◌≡◌};
-
-use crate::making::{Said, ops};
-use crate::random::{AGENTS, DOMAINS, PARENTS};
+use crate::making::{API, N1, N2, SERVER, Said, WEB};
 use crate::search::bit;
-use crate::told::{number_of, run};
-use entry_book::{Agent, Batch, Bundle, Entry, OpReply, Outcome, Sequence, Shared};
+use crate::told::{answers, number_of, replies};
+use entry_book::{Agent, Bundle, Entry, OpReply};
 use plain_book::PlainBook;
 use std::alloc::Global;
 use std::test::Fail;
+
+/// The keys of all rows that there can be, and the server's own domain.
+const KEYS: [Said; 13] = [
+    Said::Show(1),
+    Said::Show(2),
+    Said::Show(3),
+    Said::Show(4),
+    Said::Show(5),
+    Said::Show(6),
+    Said::Show(7),
+    Said::ShowAgent(N1),
+    Said::ShowAgent(N2),
+    Said::ShowBundle("d100"),
+    Said::ShowBundle("d101"),
+    Said::ShowBundle("d102"),
+    Said::ShowBundle("ex.org"),
+];
+
+/// The children of each parent.
+const CHILDREN: [Said; 5] = [
+    Said::Children(N1),
+    Said::Children(N2),
+    Said::Children(SERVER),
+    Said::Children(WEB),
+    Said::Children(API),
+];
 
 /// The rows of a book of a few names.
 #[derive(Drop)]
@@ -27,21 +50,6 @@ fn empty(alloc: Global) -> BookRows {
     }
 }
 
-/// The replies to a batch that only asks and isn't refused.
-pub fn answers(
-    alloc: Global,
-    book: &mut PlainBook,
-    said: &[Said],
-) -> Result<Shared<Sequence<OpReply>>, Fail>
-    ensures { book.new.domain ≡ book.old.domain }
-{
-    let batch = Batch::new(book.domain(), ops(alloc, said)?)?;
-    match run(book, &batch)?.outcome {
-        Outcome::Answered(replies) => Ok(replies),
-        _ => Err(Fail::from("a question isn't answered")),
-    }
-}
-
 /// Is this row, where there is one, of the key that was asked for?
 fn is_of_its_key(op: &Said, reply: &OpReply) -> bool {
     match (op, reply) {
@@ -55,34 +63,32 @@ fn is_of_its_key(op: &Said, reply: &OpReply) -> bool {
     }
 }
 
-/// The rows, each asked for by its key, and each of its key.
-pub fn rows_of(alloc: Global, book: &mut PlainBook) -> Result<BookRows, Fail>
-    ensures { book.new.domain ≡ book.old.domain }
-{
-    let mut said = Vec::new(alloc);
-    for number in 1..8 {
-        said.push(Said::Show(number))?;
+/// Adds the row that is shown, where there is one, which has to be of its key.
+fn keep(rows: &mut BookRows, op: &Said, reply: &OpReply) -> Result<(), Fail> {
+    if !is_of_its_key(op, reply) {
+        return Err(Fail::from("a row of another key"));
     }
-    for agent in AGENTS {
-        said.push(Said::ShowAgent(agent))?;
+    match reply {
+        OpReply::EntryShown(Some(entry)) => rows.entries.push(entry.clone()?)?,
+        OpReply::AgentShown(Some(agent)) => rows.agents.push(agent.clone()?)?,
+        OpReply::BundleShown(Some(bundle)) => rows.bundles.push(bundle.clone()?)?,
+        _ => {}
     }
-    for domain in DOMAINS {
-        said.push(Said::ShowBundle(domain))?;
-    }
+    Ok(())
+}
+
+fn rows_at(alloc: Global, book: &mut PlainBook, keys: &[Said]) -> Result<BookRows, Fail> {
+    let reply = answers(alloc, book, keys)?;
     let mut rows = empty(alloc);
-    let replies = answers(alloc, book, &said)?;
-    for (op, reply) in said.iter().zip(replies.get().as_slice()) {
-        if !is_of_its_key(op, reply) {
-            return Err(Fail::from("a row of another key"));
-        }
-        match reply {
-            OpReply::EntryShown(Some(entry)) => rows.entries.push(entry.clone()?)?,
-            OpReply::AgentShown(Some(agent)) => rows.agents.push(agent.clone()?)?,
-            OpReply::BundleShown(Some(bundle)) => rows.bundles.push(bundle.clone()?)?,
-            _ => {}
-        }
+    for (op, reply) in keys.iter().zip(replies(&reply)) {
+        keep(&mut rows, op, reply)?;
     }
     Ok(rows)
+}
+
+/// The rows, each asked for by its key, and each of its key.
+pub fn rows_of(alloc: Global, book: &mut PlainBook) -> Result<BookRows, Fail> {
+    rows_at(alloc, book, &KEYS)
 }
 
 /// The bits of the entries; none where they aren't in order, each once.
@@ -101,14 +107,14 @@ pub fn bits(entries: &[Entry]) -> Option<u64> {
 }
 
 /// The bits of the entries of a parent; none where they aren't in order, each once, or one is of another parent.
-fn bits_of_children(parent: &str, reply: &OpReply) -> Option<u64> {
-    let OpReply::Entries(entries) = reply else {
+fn bits_of_children(said: &Said, reply: &OpReply) -> Option<u64> {
+    let (Said::Children(parent), OpReply::Entries(entries)) = (said, reply) else {
         return None;
     };
     let are_of_it = entries
         .as_slice()
         .iter()
-        .all(|entry| entry.parent().get().as_str() == parent);
+        .all(|entry| entry.parent().get().as_str() == *parent);
     if are_of_it {
         bits(entries.as_slice())
     } else {
@@ -116,27 +122,24 @@ fn bits_of_children(parent: &str, reply: &OpReply) -> Option<u64> {
     }
 }
 
+/// The bits of the entries of all these parents.
+fn bits_of_all_children(said: &[Said], replies: &[OpReply]) -> Option<u64> {
+    let mut all = 0;
+    for (said, reply) in said.iter().zip(replies) {
+        all |= bits_of_children(said, reply)?;
+    }
+    Some(all)
+}
+
 /// The children of each parent stand in order, each once and under its own parent, and all of them are the entries.
 pub fn are_children_listed(
     alloc: Global,
     book: &mut PlainBook,
     rows: &BookRows,
-) -> Result<bool, Fail>
-    ensures { book.new.domain ≡ book.old.domain }
-{
-    let mut said = Vec::new(alloc);
-    for parent in PARENTS {
-        said.push(Said::Children(parent))?;
-    }
-    let replies = answers(alloc, book, &said)?;
-    let mut all = 0;
-    for (parent, reply) in PARENTS.iter().zip(replies.get().as_slice()) {
-        let Some(found) = bits_of_children(parent, reply) else {
-            return Ok(false);
-        };
-        all |= found;
-    }
-    Ok(bits(rows.entries.as_slice()) == Some(all))
+) -> Result<bool, Fail> {
+    let reply = answers(alloc, book, &CHILDREN)?;
+    let all = bits_of_all_children(&CHILDREN, replies(&reply));
+    Ok(all.is_some() && bits(&rows.entries) == all)
 }
 
 fn is_similar(one: &Entry, other: &Entry) -> bool {

@@ -2,21 +2,22 @@
 
 ghost use Rattle.std.specs.Prelude.{◌≡◌};
 
-use crate::making::{Said, ops};
-use entry_book::{Batch, Outcome, Reply};
+use crate::making::{Said, ops, trust_domain};
+use entry_book::{Batch, OpReply, Outcome, Reply};
 use plain_book::PlainBook;
-use spiffe_name::TrustDomain;
 use std::alloc::Global;
+use std::process::Abort;
 use std::test::Fail;
 use uuid::Uuid;
 
-/// The last byte of an id.
-pub fn number_of(id: &Uuid) -> u8 {
-    id.as_bytes()[15]
+/// The number that the last two bytes of an id are.
+pub fn number_of(id: &Uuid) -> u16 {
+    let bytes = id.as_bytes();
+    u16::from_be_bytes([bytes[14], bytes[15]])
 }
 
 pub fn small_book(alloc: Global) -> Result<PlainBook, Fail> {
-    Ok(PlainBook::new(alloc, TrustDomain::parse(alloc, "ex.org")?)?)
+    Ok(PlainBook::new(alloc, trust_domain(alloc, "ex.org")?)?)
 }
 
 /// The book's reply. A run that is refused memory has changed nothing, and is made again.
@@ -33,7 +34,9 @@ pub fn run(book: &mut PlainBook, batch: &Batch) -> Result<Reply, Fail>
 }
 
 /// A reply's place, what became of the batch, or the code of its refusal, and the index of the operation refused.
-fn told(reply: &Reply) -> (u64, &'static str, Option<usize>) {
+pub type Told = (u64, &'static str, Option<usize>);
+
+fn told(reply: &Reply) -> Told {
     match &reply.outcome {
         Outcome::Committed(_) => (reply.place, "committed", None),
         Outcome::Answered(_) => (reply.place, "answered", None),
@@ -41,14 +44,38 @@ fn told(reply: &Reply) -> (u64, &'static str, Option<usize>) {
     }
 }
 
-/// What the book answers to these operations: place, outcome or code, index.
-pub fn ask(
+/// The book's reply to these operations.
+pub fn reply_to(alloc: Global, book: &mut PlainBook, said: &[Said]) -> Result<Reply, Fail> {
+    let batch = Batch::new(book.domain(), ops(alloc, said)?)?;
+    run(book, &batch)
+}
+
+/// The replies to a batch; none to one that is refused.
+pub fn replies(reply: &Reply) -> &[OpReply] {
+    match &reply.outcome {
+        Outcome::Committed(replies) | Outcome::Answered(replies) => replies.get().as_slice(),
+        Outcome::Refused(_) => &[],
+    }
+}
+
+/// The reply to a batch that only asks and isn't refused.
+pub fn answers(alloc: Global, book: &mut PlainBook, said: &[Said]) -> Result<Reply, Fail> {
+    let reply = reply_to(alloc, book, said)?;
+    if told(&reply).1 != "answered" {
+        return Err(Fail::from("a question isn't answered"));
+    }
+    Ok(reply)
+}
+
+/// The book answers these operations so.
+pub fn asks(
+    rt: &impl Abort,
     alloc: Global,
     book: &mut PlainBook,
     said: &[Said],
-) -> Result<(u64, &'static str, Option<usize>), Fail>
-    ensures { book.new.domain ≡ book.old.domain }
-{
-    let batch = Batch::new(book.domain(), ops(alloc, said)?)?;
-    Ok(told(&run(book, &batch)?))
+    want: Told,
+) -> Result<(), Fail> {
+    let reply = reply_to(alloc, book, said)?;
+    assert_eq!(rt; told(&reply), want);
+    Ok(())
 }

@@ -36,8 +36,13 @@ fn id(alloc: Global, path: &str) -> Result<Shared<SpiffeId>, Fail> {
     Ok(Shared::of(alloc, SpiffeId::parse(alloc, text.as_str())?)?)
 }
 
+/// The trust domain of a name. Nothing is said of it, so that no caller's proof computes what the grammar says of a literal.
+pub fn trust_domain(alloc: Global, name: &str) -> Result<TrustDomain, Fail> {
+    Ok(TrustDomain::parse(alloc, name)?)
+}
+
 fn domain(alloc: Global, name: &str) -> Result<Shared<TrustDomain>, Fail> {
-    Ok(Shared::of(alloc, TrustDomain::parse(alloc, name)?)?)
+    Ok(Shared::of(alloc, trust_domain(alloc, name)?)?)
 }
 
 /// The selector of this number, alone.
@@ -89,47 +94,30 @@ fn agent(alloc: Global, words: &[&str]) -> Result<Agent, Fail> {
 }
 
 fn mode(word: &str) -> DropMode {
-    if word == "delete" {
-        return DropMode::Delete;
+    match word {
+        "delete" => DropMode::Delete,
+        "dissociate" => DropMode::Dissociate,
+        _ => DropMode::Restrict,
     }
-    if word == "dissociate" {
-        return DropMode::Dissociate;
-    }
-    DropMode::Restrict
-}
-
-/// An operation on an entry; nothing where the line tells none.
-fn entry_op(alloc: Global, words: &[&str]) -> Result<Option<Op>, Fail> {
-    let kind = word(words, 0);
-    if kind == "create" {
-        return Ok(Some(Op::Create(entry(alloc, words)?)));
-    }
-    if kind == "update" {
-        return Ok(Some(Op::Update(entry(alloc, words)?, None)));
-    }
-    if kind == "delete" {
-        return Ok(Some(Op::Delete(uuid(words, 1)?, None)));
-    }
-    if kind == "prune" {
-        return Ok(Some(Op::Prune(number(words, 1)?)));
-    }
-    Ok(None)
 }
 
 /// The operation that a line tells.
 fn op(alloc: Global, words: &[&str]) -> Result<Op, Fail> {
-    if let Some(op) = entry_op(alloc, words)? {
-        return Ok(op);
+    match word(words, 0) {
+        "create" => Ok(Op::Create(entry(alloc, words)?)),
+        "update" => Ok(Op::Update(entry(alloc, words)?, None)),
+        "delete" => Ok(Op::Delete(uuid(words, 1)?, None)),
+        "prune" => Ok(Op::Prune(number(words, 1)?)),
+        "set_agent" => Ok(Op::SetAgent(agent(alloc, words)?)),
+        "drop_agent" => Ok(Op::DropAgent(id(alloc, word(words, 1))?)),
+        kind => bundle_op(alloc, words, kind == "set_bundle"),
     }
-    let kind = word(words, 0);
-    if kind == "set_agent" {
-        return Ok(Op::SetAgent(agent(alloc, words)?));
-    }
-    if kind == "drop_agent" {
-        return Ok(Op::DropAgent(id(alloc, word(words, 1))?));
-    }
+}
+
+/// An operation on a bundle, which it sets or drops.
+fn bundle_op(alloc: Global, words: &[&str], sets: bool) -> Result<Op, Fail> {
     let domain = domain(alloc, word(words, 1))?;
-    if kind == "set_bundle" {
+    if sets {
         return Ok(Op::SetBundle(domain, text(alloc)?));
     }
     Ok(Op::DropBundle(domain, mode(word(words, 2))))
@@ -153,30 +141,20 @@ pub fn mark_of(alloc: Global, line: &str) -> Result<Mark, Fail> {
 }
 
 fn mark(alloc: Global, words: &[&str]) -> Result<Mark, Fail> {
-    let kind = word(words, 0);
-    if kind == "entry" {
-        return Ok(Mark::entry(uuid(words, 1)?));
+    match word(words, 0) {
+        "entry" => Ok(Mark::entry(uuid(words, 1)?)),
+        "expiring" => Ok(Mark::expiring(number(words, 1)?)),
+        "users" => Ok(Mark::users(&domain(alloc, word(words, 1))?)?),
+        "bundle" => Ok(Mark::bundle(domain(alloc, word(words, 1))?)),
+        kind => mark_of_id(alloc, words, kind),
     }
-    if kind == "expiring" {
-        return Ok(Mark::expiring(number(words, 1)?));
-    }
-    if kind == "users" {
-        return Ok(Mark::users(&domain(alloc, word(words, 1))?)?);
-    }
-    if kind == "bundle" {
-        return Ok(Mark::bundle(domain(alloc, word(words, 1))?));
-    }
-    mark_of_id(alloc, words)
 }
 
-fn mark_of_id(alloc: Global, words: &[&str]) -> Result<Mark, Fail> {
-    let kind = word(words, 0);
+fn mark_of_id(alloc: Global, words: &[&str], kind: &str) -> Result<Mark, Fail> {
     let first = id(alloc, word(words, 1))?;
-    if kind == "group" {
-        return Ok(Mark::group(&first, &id(alloc, word(words, 2))?)?);
+    match kind {
+        "group" => Ok(Mark::group(&first, &id(alloc, word(words, 2))?)?),
+        "children" => Ok(Mark::children(&first)?),
+        _ => Ok(Mark::agent(first)),
     }
-    if kind == "children" {
-        return Ok(Mark::children(&first)?);
-    }
-    Ok(Mark::agent(first))
 }

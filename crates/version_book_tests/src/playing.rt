@@ -1,9 +1,8 @@
 //! Versions of one history, and what they answer, told by a table.
 
-use crate::making::{batch, mark_of, number, word, words};
+use crate::making::{batch, mark_of, number, trust_domain, word, words};
 use crate::running::{changes_of, next_of};
 use entry_book::Entry;
-use spiffe_name::TrustDomain;
 use std::alloc::Global;
 use std::process::Abort;
 use std::test::Fail;
@@ -24,7 +23,7 @@ pub fn number_of(id: &Uuid) -> u8 {
 
 /// The first version, alone.
 pub fn first_step(alloc: Global) -> Result<Vec<Step>, Fail> {
-    let version = Version::empty(alloc, TrustDomain::parse(alloc, "ex.org")?)?;
+    let version = Version::empty(alloc, trust_domain(alloc, "ex.org")?)?;
     let changes = Changes::new(alloc);
     let mut steps = Vec::new(alloc);
     steps.push(Step { changes, version })?;
@@ -132,17 +131,28 @@ fn answer(alloc: Global, steps: &[Step], question: &str) -> Result<String, Fail>
     }
 }
 
+/// Plays a line of a table.
+fn plays_line(
+    rt: &impl Abort,
+    alloc: Global,
+    steps: &mut Vec<Step>,
+    line: &str,
+) -> Result<(), Fail> {
+    if let Some((question, want)) = line.split_once(" =>") {
+        let got = answer(alloc, steps.as_slice(), question)?;
+        assert_eq!(rt; got.as_str(), want, "{line}");
+    } else if !line.is_empty() {
+        assert!(rt; go_on(alloc, steps, line)?, "refused: {line}");
+    }
+    Ok(())
+}
+
 /// Plays a table: a question and its answer stand in a line with `=>` between them; each other line that isn't empty
 /// tells the operation that leads to the next version.
 pub fn plays(rt: &impl Abort, alloc: Global, table: &str) -> Result<(), Fail> {
     let mut steps = first_step(alloc)?;
     for line in table.lines() {
-        if let Some((question, want)) = line.split_once(" =>") {
-            let got = answer(alloc, steps.as_slice(), question)?;
-            assert_eq!(rt; got.as_str(), want, "{line}");
-        } else if !line.is_empty() {
-            assert!(rt; go_on(alloc, &mut steps, line)?, "refused: {line}");
-        }
+        plays_line(rt, alloc, &mut steps, line)?;
     }
     Ok(())
 }

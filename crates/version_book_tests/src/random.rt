@@ -8,7 +8,7 @@ use crate::playing::{Step, first_step, go_on};
 use std::alloc::Global;
 use std::process::Abort;
 use std::test::Fail;
-use version_book::Mark;
+use version_book::{Changes, Mark, Version};
 
 const MARKS: &str = "
 entry 1
@@ -94,17 +94,25 @@ fn entry_line(alloc: Global, state: &mut u64, kind: &str) -> Result<String, Fail
     Ok(format!(in alloc; "{kind} {number} {parent} {identity} {expiry} {domains}")?)
 }
 
+/// The two words behind the kind of a random operation that isn't on one entry.
+fn words_of(state: &mut u64, kind: &str) -> (&'static str, &'static str) {
+    match kind {
+        "set_agent" | "drop_agent" => (AGENTS[below(state, 2)], NUMBERS[below(state, 2)]),
+        "prune" => (EXPIRIES[below(state, 4)], ""),
+        _ => (BUNDLES[below(state, 3)], MODES[below(state, 3)]),
+    }
+}
+
+fn is_of_one_entry(kind: &str) -> bool {
+    matches!(kind, "create" | "update" | "delete")
+}
+
 /// A random operation of the kind.
 fn line_of(alloc: Global, state: &mut u64, kind: &str) -> Result<String, Fail> {
-    let (first, second) = if kind == "set_agent" || kind == "drop_agent" {
-        (AGENTS[below(state, 2)], NUMBERS[below(state, 2)])
-    } else if kind == "set_bundle" || kind == "drop_bundle" {
-        (BUNDLES[below(state, 3)], MODES[below(state, 3)])
-    } else if kind == "prune" {
-        (EXPIRIES[below(state, 4)], "")
-    } else {
+    if is_of_one_entry(kind) {
         return entry_line(alloc, state, kind);
-    };
+    }
+    let (first, second) = words_of(state, kind);
     Ok(format!(in alloc; "{kind} {first} {second}")?)
 }
 
@@ -174,17 +182,19 @@ fn count_of(played: &Played, (start, end): (&str, &str), least: usize) -> usize 
         .count()
 }
 
+/// Does this come, so that at least so many rows are written?
+fn comes(rt: &impl Abort, played: &Played, words: (&str, &str), least: usize) {
+    assert!(rt; count_of(played, words, least) > 0, "{words:?}");
+}
+
 /// Every operation came alone and wrote something, and each way to drop a bundle met its users where it takes notice.
 fn every_operation_came(rt: &impl Abort, played: &Played) {
     for kind in KINDS {
-        assert!(rt; count_of(played, (kind, ""), 1) > 0, "{kind}");
+        comes(rt, played, (kind, ""), 1);
     }
-    for (mode, least) in [("restrict", 1), ("delete", 2), ("dissociate", 2)] {
-        assert!(rt;
-            count_of(played, ("drop_bundle", mode), least) > 0,
-            "{mode}"
-        );
-    }
+    comes(rt, played, ("drop_bundle", "restrict"), 1);
+    comes(rt, played, ("drop_bundle", "delete"), 2);
+    comes(rt, played, ("drop_bundle", "dissociate"), 2);
 }
 
 /// Every mark reads of this version what it reads of the lists.
@@ -203,25 +213,40 @@ fn are_read(
     Ok(())
 }
 
-#[test]
-fn each_mark_reads_what_the_lists_have(rt: HostRuntime) -> Result<(), Fail> {
-    let alloc = rt.alloc();
-    let marks = marks(alloc)?;
-    let played = history(alloc, 7, 1000)?;
-    assert_eq!(rt; played.steps.len(), 1001);
-    every_operation_came(&rt, &played);
+/// The version has as many rows as the lists.
+fn are_counted(rt: &impl Abort, step: &Step, listed: &Listed) {
+    let count = step.version.count();
+    assert_eq!(rt;
+        (count.entries, count.agents, count.bundles),
+        listed.counts()
+    );
+}
+
+/// Each version reads what the lists have; answers how many rows were written at once, at most.
+fn are_as_listed(
+    rt: &impl Abort,
+    alloc: Global,
+    steps: &[Step],
+    marks: &[Mark],
+) -> Result<usize, Fail> {
     let mut listed = Listed::empty(alloc);
     let mut longest = 0;
-    for step in &played.steps {
+    for step in steps {
         listed.apply(&step.changes)?;
         longest = step.changes.len().max(longest);
-        are_read(&rt, alloc, step, &listed, marks.as_slice())?;
-        let count = step.version.count();
-        assert_eq!(rt;
-            (count.entries, count.agents, count.bundles),
-            listed.counts()
-        );
+        are_read(rt, alloc, step, &listed, marks)?;
+        are_counted(rt, step, &listed);
     }
+    Ok(longest)
+}
+
+#[test]
+fn each_mark_reads_what_the_lists_have(rt: HostRuntime) -> Result<(), Fail> {
+    let marks = marks(rt.alloc())?;
+    let played = history(rt.alloc(), 7, 1000)?;
+    assert_eq!(rt; played.steps.len(), 1001);
+    every_operation_came(&rt, &played);
+    let longest = are_as_listed(&rt, rt.alloc(), &played.steps, &marks)?;
     assert!(rt; longest > 3);
     Ok(())
 }
@@ -236,30 +261,63 @@ struct Counts {
     changed_though_equal: u64,
 }
 
+fn nothing() -> Counts {
+    Counts {
+        unhit: 0,
+        unchanged: 0,
+        changed: 0,
+        unchanged_though_hit: 0,
+        changed_though_equal: 0,
+    }
+}
+
+fn each_came(counts: &Counts) -> bool {
+    counts.unhit != 0
+        && counts.unchanged != 0
+        && counts.changed != 0
+        && counts.unchanged_though_hit != 0
+        && counts.changed_though_equal != 0
+}
+
 /// One more, where this holds.
 fn add(count: &mut u64, holds: bool) {
     *count = count.wrapping_add(u64::from(holds));
+}
+
+impl Counts {
+    fn count(&mut self, is_hit: bool, is_unchanged: bool, is_equal: bool) {
+        add(&mut self.unhit, !is_hit);
+        add(&mut self.unchanged, is_unchanged);
+        add(&mut self.changed, !is_unchanged);
+        add(&mut self.unchanged_though_hit, is_unchanged && is_hit);
+        add(&mut self.changed_though_equal, !is_unchanged && is_equal);
+    }
+}
+
+/// Do both versions read the same at the mark?
+fn is_equal(
+    alloc: Global,
+    (newer, older): (&Version, &Version),
+    mark: &Mark,
+) -> Result<bool, Fail> {
+    let now = read_text(alloc, newer, mark)?;
+    let before = read_text(alloc, older, mark)?;
+    Ok(now.as_str() == before.as_str())
 }
 
 /// Compares a version with an older one at a mark that the writes since hit, or don't.
 fn compare(
     rt: &impl Abort,
     alloc: Global,
-    (newer, older): (&Step, &Step),
+    (newer, older): (&Version, &Version),
     (mark, is_hit): (&Mark, bool),
     counts: &mut Counts,
 ) -> Result<(), Fail> {
-    let is_unchanged = newer.version.unchanged(mark, &older.version);
-    let now = read_text(alloc, &newer.version, mark)?;
-    let before = read_text(alloc, &older.version, mark)?;
-    let is_equal = now.as_str() == before.as_str();
+    let is_unchanged = newer.unchanged(mark, older);
+    let is_equal = is_equal(alloc, (newer, older), mark)?;
     assert!(rt; is_equal || !is_unchanged);
     assert!(rt; is_hit || is_unchanged);
-    add(&mut counts.unhit, !is_hit);
-    add(&mut counts.unchanged, is_unchanged);
-    add(&mut counts.changed, !is_unchanged);
-    add(&mut counts.unchanged_though_hit, is_unchanged && is_hit);
-    add(&mut counts.changed_though_equal, !is_unchanged && is_equal);
+    counts.count(is_hit, is_unchanged, is_equal);
     Ok(())
 }
 
@@ -276,52 +334,85 @@ fn compare_at(
     };
     let mut is_hit = are_hit(mark, &newer.changes);
     for older in earlier.iter().rev() {
-        compare(rt, alloc, (newer, older), (mark, is_hit), counts)?;
+        let versions = (&newer.version, &older.version);
+        compare(rt, alloc, versions, (mark, is_hit), counts)?;
         is_hit = is_hit || are_hit(mark, &older.changes);
     }
     Ok(())
 }
 
-#[test]
-fn a_mark_is_unchanged_where_no_write_hits_it(rt: HostRuntime) -> Result<(), Fail> {
-    let alloc = rt.alloc();
-    let marks = marks(alloc)?;
-    let played = history(alloc, 12, 300)?;
-    every_operation_came(&rt, &played);
-    let mut counts = Counts {
-        unhit: 0,
-        unchanged: 0,
-        changed: 0,
-        unchanged_though_hit: 0,
-        changed_though_equal: 0,
-    };
-    for ten in played.steps.as_slice().windows(10) {
-        for mark in &marks {
-            compare_at(&rt, alloc, ten, mark, &mut counts)?;
-        }
+fn compare_at_all(
+    rt: &impl Abort,
+    alloc: Global,
+    steps: &[Step],
+    marks: &[Mark],
+    counts: &mut Counts,
+) -> Result<(), Fail> {
+    for mark in marks {
+        compare_at(rt, alloc, steps, mark, counts)?;
     }
-    assert!(rt; counts.unhit != 0);
-    assert!(rt; counts.unchanged != 0);
-    assert!(rt; counts.changed != 0);
-    assert!(rt; counts.unchanged_though_hit != 0);
-    assert!(rt; counts.changed_though_equal != 0);
     Ok(())
 }
 
-/// A mark reads through the writes of the next two versions what it reads of the second, and these writes hit it where
-/// those of one of the two do.
+/// Compares each version with each of the nine before it, at each mark.
+fn compare_all(
+    rt: &impl Abort,
+    alloc: Global,
+    steps: &[Step],
+    marks: &[Mark],
+) -> Result<Counts, Fail> {
+    let mut counts = nothing();
+    for ten in steps.windows(10) {
+        compare_at_all(rt, alloc, ten, marks, &mut counts)?;
+    }
+    Ok(counts)
+}
+
+#[test]
+fn a_mark_is_unchanged_where_no_write_hits_it(rt: HostRuntime) -> Result<(), Fail> {
+    let marks = marks(rt.alloc())?;
+    let played = history(rt.alloc(), 12, 300)?;
+    every_operation_came(&rt, &played);
+    let counts = compare_all(&rt, rt.alloc(), &played.steps, &marks)?;
+    assert!(rt; each_came(&counts));
+    Ok(())
+}
+
+/// The writes of two versions, one after the other.
+fn both(middle: &Step, newer: &Step) -> Result<Changes, Fail> {
+    let mut changes = middle.changes.clone()?;
+    changes.append(newer.changes.clone()?)?;
+    Ok(changes)
+}
+
+/// A mark reads through the writes of the next two versions what it reads of the second.
+fn reads_through(
+    rt: &impl Abort,
+    alloc: Global,
+    (older, newer): (&Version, &Version),
+    changes: &Changes,
+    mark: &Mark,
+) -> Result<(), Fail> {
+    let through = older.read_after(mark, changes)?;
+    let got = reading_text(alloc, &through)?;
+    let want = read_text(alloc, newer, mark)?;
+    assert_eq!(rt; got.as_str(), want.as_str());
+    Ok(())
+}
+
+/// The mark reads through the writes of the last two of three versions, and these writes hit it where those of one of the
+/// two do. Answers whether they do.
 fn is_read_through(
     rt: &impl Abort,
     alloc: Global,
-    (older, middle, newer): (&Step, &Step, &Step),
+    three: &[Step],
     mark: &Mark,
 ) -> Result<bool, Fail> {
-    let mut changes = middle.changes.clone()?;
-    changes.append(newer.changes.clone()?)?;
-    let through = older.version.read_after(mark, &changes)?;
-    let got = reading_text(alloc, &through)?;
-    let want = read_text(alloc, &newer.version, mark)?;
-    assert_eq!(rt; got.as_str(), want.as_str());
+    let [older, middle, newer] = three else {
+        return Err(Fail::from("no three versions"));
+    };
+    let changes = both(middle, newer)?;
+    reads_through(rt, alloc, (&older.version, &newer.version), &changes, mark)?;
     let is_hit = changes.hits(mark);
     assert_eq!(rt;
         is_hit,
@@ -330,18 +421,25 @@ fn is_read_through(
     Ok(is_hit)
 }
 
+/// How many of the marks are hit?
+fn hits(rt: &impl Abort, alloc: Global, three: &[Step], marks: &[Mark]) -> Result<usize, Fail> {
+    let mut hits: usize = 0;
+    for mark in marks {
+        let is_hit = is_read_through(rt, alloc, three, mark)?;
+        hits = hits.wrapping_add(usize::from(is_hit));
+    }
+    Ok(hits)
+}
+
 #[test]
 fn each_mark_reads_through_writes_what_it_reads_after_them(rt: HostRuntime) -> Result<(), Fail> {
-    let alloc = rt.alloc();
-    let marks = marks(alloc)?;
-    let played = history(alloc, 5, 100)?;
+    let marks = marks(rt.alloc())?;
+    let played = history(rt.alloc(), 5, 100)?;
     let (mut hit, mut unhit) = (0, 0);
-    for three in played.steps.as_slice().windows(3) {
-        for mark in &marks {
-            let is_hit = is_read_through(&rt, alloc, (&three[0], &three[1], &three[2]), mark)?;
-            add(&mut hit, is_hit);
-            add(&mut unhit, !is_hit);
-        }
+    for three in played.steps.windows(3) {
+        let hits = hits(&rt, rt.alloc(), three, &marks)?;
+        add(&mut hit, hits != 0);
+        add(&mut unhit, hits != marks.len());
     }
     assert!(rt; hit != 0 && unhit != 0);
     Ok(())

@@ -150,9 +150,21 @@ READS 5: children /a => 1.1
 ";
 
 #[test]
-fn versions_read_their_own_rows(rt: HostRuntime) -> Result<(), Fail> {
-    for table in [MOVED, READ, ROWS, UNCHANGED] {
-        plays(&rt, rt.alloc(), table)?;
-    }
-    Ok(())
+fn an_update_moves_an_entry_in_every_mark(rt: HostRuntime) -> Result<(), Fail> {
+    plays(&rt, rt.alloc(), MOVED)
+}
+
+#[test]
+fn marks_read_their_own_rows(rt: HostRuntime) -> Result<(), Fail> {
+    plays(&rt, rt.alloc(), READ)
+}
+
+#[test]
+fn agents_and_bundles_are_read_and_compared(rt: HostRuntime) -> Result<(), Fail> {
+    plays(&rt, rt.alloc(), ROWS)
+}
+
+#[test]
+fn marks_are_unchanged_where_their_rows_are(rt: HostRuntime) -> Result<(), Fail> {
+    plays(&rt, rt.alloc(), UNCHANGED)
 }
