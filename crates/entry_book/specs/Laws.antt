@@ -29,6 +29,11 @@ use Rattle.entry_book.specs.Batches.{Batch, IsMadeFor, IsProperOp, is_query, ent
 use Rattle.entry_book.specs.Faultless.{FaultlessEntry, FaultlessAgent, FaultlessBundle, FaultlessOp}
 use Rattle.entry_book.specs.History.{PlainState, Stands, IsHistory, CommitAll, first_books, last_book, place_of, books_after, books_of, commits, reply_to}
 use Rattle.entry_book.specs.Lawful.{Lawful}
+use Rattle.entry_book.specs.Pages.{Lists, Matches, Pages, Passes, listed, matches_by, next_of, passes, passing}
+use Rattle.entry_book.specs.declared.page.Filter.{Filter}
+use Rattle.entry_book.specs.declared.page.MatchMode.{MatchMode}
+use Rattle.entry_book.specs.declared.page.Page.{Page}
+use Rattle.spiffe_name.specs.Selector.{SelectorPair}
 
 -- ---- membership
 
@@ -334,3 +339,28 @@ AllLawful = (state : PlainState) (books : List Book) → Stands state books → 
 -- a batch that is accepted on a book lawful as book n leaves a book lawful as book n + 1
 abbrev pub BatchKeeps : Type 0
 BatchKeeps = (own : Bytes) (batch : Batch) (n : ℕ) (b : Book) → IsMadeFor own batch → Lawful own (64 * n) b → IfOk (run batch.domain batch.ops b) (λ t. Lawful own (64 * (n + 1)) (after t.writes b))
+
+-- ---- pages
+
+-- each match in the words of sets
+abbrev pub MatchesAsSaid : Type 0
+MatchesAsSaid = (mode : MatchMode) (given own : List SelectorPair) → (matches_by mode given own ≡ true) ↔ Matches mode given own
+
+-- a filter passes what meets each part that is given
+abbrev pub PassesAsSaid : Type 0
+PassesAsSaid = (f : Filter) (e : Entry) → (passes f e ≡ true) ↔ Passes f e
+
+-- a page lists exactly the first entries that pass and come after where it begins, as many as it has room for, and there is a next one just where more do
+abbrev pub PageLists : Type 0
+PageLists = (p : Page) (b : Book) → AscendingBook b → 0 < p.size → Lists p b (listed p b) (next_of p b)
+
+-- and these words settle what it lists
+abbrev pub OnePage : Type 0
+OnePage = (p : Page) (b : Book) (es fs : List Entry) (m n : Option Bytes) → 0 < p.size → Lists p b es m → Lists p b fs n → (es ≡ fs) × (m ≡ n)
+
+-- page after page, from the start, lists every entry that passes once, in order, and comes to an end
+abbrev pub PagesListAll : Type 0
+PagesListAll = (p : Page) (b : Book) → AscendingBook b → 0 < p.size → Pages p b None (passing p.filter b)
+
+abbrev pub PagesListOnce : Type 0
+PagesListOnce = (p : Page) (b : Book) (es : List Entry) → AscendingBook b → 0 < p.size → Pages p b None es → es ≡ passing p.filter b

@@ -11,6 +11,7 @@ pub mod Limits
 pub mod NamedRows
 pub mod Ops
 pub mod Order
+pub mod Pages
 pub mod Rows
 pub mod Runs
 pub mod Worked
