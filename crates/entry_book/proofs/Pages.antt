@@ -1,6 +1,6 @@
 -- What a page lists, and what page after page does.
 use Rattle.std.proofs.Common.{◌≡◌, ◌↔◌, ℕ, zero, suc, ◌+◌, ◌<◌, ◌≤◌, Bool, true, false, cond, ◌⊎◌, List, [], ◌∷◌, ◌++◌, length, Option, Some, None, IfSome, refl, sym, ap, subst, ◌∙◌, inl, inr, ⊎_elim, arith, length-append, append-nil}
-use Rattle.std.specs.Prelude.{filter, take, drop, nat_lt, bytes_eq, if◌then◌else◌}
+use Rattle.std.specs.Prelude.{MatchResult, filter, take, drop, nat_lt, bytes_eq, if◌then◌else◌}
 use Rattle.std.specs.List.{AllByRecursion}
 use Rattle.std.proofs.lemmas.Bool.{and_parts, and_from, both_ways, false≢true, cases_Bool, lt-ltb, ltb-true, le-ltb, ltb-false}
 use Rattle.std.proofs.lemmas.List.{take-append-drop, length-take-le, length-drop}
@@ -9,13 +9,16 @@ use Rattle.spiffe_name.specs.SelectorSet.{has}
 use Rattle.entry_book.specs.declared.page.Filter.{Filter}
 use Rattle.entry_book.specs.declared.page.MatchMode.{MatchMode}
 use Rattle.entry_book.specs.declared.page.MatchMode.TheVariants as mode
-use Rattle.entry_book.specs.declared.page.Page.{Page}
+use Rattle.entry_book.specs.declared.page.PageQuery.{PageQuery}
+use Rattle.entry_book.specs.declared.op.Op.TheVariants.{Page}
 use Rattle.entry_book.specs.declared.page.SelectorMatch.{SelectorMatch}
 use Rattle.entry_book.specs.Rows.{Bytes, Entry, entry_key}
 use Rattle.entry_book.specs.Order.{Within, Ascending, is_before}
 use Rattle.entry_book.specs.Book.{Book, AscendingBook}
 use Rattle.entry_book.specs.Effects.{IsListOf}
-use Rattle.entry_book.specs.Pages.{matches_by, is_given, passes_domain, passes_selectors, passes, passing, comes_after, to_list, listed, last_id, next_of, Matches, Passes, IsToList, EndsWith, GoesOn, Lists, Pages, last_page, one_more}
+use Rattle.entry_book.specs.Pages.{matches_by, is_given, passes_domain, passes_selectors, passes, passing, comes_after, to_list, listed, last_id, next_of}
+use Rattle.entry_book.specs.Listings.{Matches, Passes, IsToList, GoesOn, IsPage, ListsPage, page_after, PageAfterPage, last_page, one_more}
+use Rattle.entry_book.specs.Ops.{op_of}
 use Rattle.entry_book.proofs.Chains.{has_member, member_has, subset_of, of_subset}
 use Rattle.entry_book.proofs.EffectsOfQuestions.{names_is}
 use Rattle.entry_book.proofs.Present.{set_is, set_same}
@@ -60,7 +63,7 @@ after_said : (from : Option Bytes) (e : Entry) → (comes_after from e ≡ true)
 after_said None e = (λ h. tt, λ h. refl)
 after_said (Some k) e = (λ h. h, λ h. h)
 
-to_list_said : (p : Page) (b : Book) (e : Entry) → Within (to_list p b) e ↔ IsToList p b e
+to_list_said : (p : PageQuery) (b : Book) (e : Entry) → Within (to_list p b) e ↔ IsToList p b e
 to_list_said p b e = (
   λ w.
     let r = from_within_filter (comes_after p.from) (passing p.filter b) e w in
@@ -69,10 +72,14 @@ to_list_said p b e = (
   λ v. within_filter (comes_after p.from) (passing p.filter b) e (within_filter (passes p.filter) b.entries e v.of_book ((passes_said p.filter e).1 v.passes)) ((after_said p.from e).1 v.later),
 )
 
-to_list_ordered : (p : Page) (b : Book) → AscendingBook b → Ascending entry_key (to_list p b)
+to_list_ordered : (p : PageQuery) (b : Book) → AscendingBook b → Ascending entry_key (to_list p b)
 to_list_ordered p b a = ascending_filter entry_key (comes_after p.from) (passing p.filter b) (ascending_filter entry_key (passes p.filter) b.entries a.entries)
 
 -- ---- the last id
+
+-- the list ends with the entry of this id
+abbrev EndsWith : List Entry → Bytes → Type 0
+EndsWith es k = (front : List Entry) × (e : Entry) × (es ≡ front ++ e ∷ []) × (e.id ≡ k)
 
 last_is : (e : Entry) (es : List Entry) → (k : Bytes) × (last_id (e ∷ es) ≡ Some k) × EndsWith (e ∷ es) k
 last_is e [] = (e.id, refl, ([], e, refl, refl))
@@ -81,7 +88,7 @@ last_is e (f ∷ es) =
     let v = r.2 in
     (r.0, r.1, (e ∷ v.0, v.1, ap (λ l. e ∷ l) v.2, v.3))
 
-last_of : (front : List Entry) (e : Entry) → last_id (front ++ e ∷ []) ≡ Some e.id
+pub last_of : (front : List Entry) (e : Entry) → last_id (front ++ e ∷ []) ≡ Some e.id
 last_of [] e = refl
 last_of (x ∷ []) e = refl
 last_of (x ∷ y ∷ front) e = last_of (y ∷ front) e
@@ -119,27 +126,29 @@ none_left (suc n) [] l = refl
 none_left zero (e ∷ es) l = absurd (omega arith)
 none_left (suc n) (e ∷ es) l = none_left n es (omega arith)
 
-goes_on : (p : Page) (es : List Entry) → 0 < p.size → (left : List Entry) → drop p.size es ≡ left → GoesOn p (take p.size es) left (next_in p.size es)
-goes_on p es h [] d =
+goes_on : (p : PageQuery) (es : List Entry) → (left : List Entry) → drop p.size es ≡ left → GoesOn p (take p.size es) left (next_in p.size es)
+goes_on p es [] d =
     let l = length-drop p.size es in
     let z : length (drop p.size es) ≡ 0 = ap length d in
     let s = ap length (take-append-drop p.size es) in
     let t = length-append (take p.size es) (drop p.size es) in
-    ⊎_elim (λ v. (omega arith, v.1)) (λ f. let m = f.more in absurd (omega arith)) (in_two p.size es h)
-goes_on p es h (x ∷ left) d =
+    let n = le-ltb p.size (length es) (omega arith) in
+    (omega arith, rw n refl)
+goes_on p es (x ∷ left) d =
     let z : length (drop p.size es) ≡ suc (length left) = ap length d in
     let l = length-drop p.size es in
-    ⊎_elim
-      (λ v. let w = v.0 in absurd (omega arith))
-      (λ f. let m = f.more in (length-take-le p.size es (omega arith), (f.id, f.next_is, f.ends)))
-      (in_two p.size es h)
+    let n = lt-ltb p.size (length es) (omega arith) in
+    (length-take-le p.size es (omega arith), rw n refl)
 
-pub page_lists : (p : Page) (b : Book) → AscendingBook b → 0 < p.size → Lists p b (listed p b) (next_of p b)
-page_lists p b a h = record {
+pub page_said : (p : PageQuery) (b : Book) → AscendingBook b → IsPage p b (listed p b) (next_of p b)
+page_said p b a = record {
   left = drop p.size (to_list p b);
   all = subst (IsListOf entry_key (IsToList p b)) (sym (take-append-drop p.size (to_list p b))) (record { members = to_list_said p b; order = to_list_ordered p b a });
-  goes_on = goes_on p (to_list p b) h (drop p.size (to_list p b)) refl;
+  goes_on = goes_on p (to_list p b) (drop p.size (to_list p b)) refl;
 }
+
+pub page_effect : (own : Bytes) (p : PageQuery) (b : Book) → AscendingBook b → MatchResult (op_of own (Page p) b) (ListsPage p b) (λ refusal. ⊥)
+page_effect own p b a = record { shown = listed p b; next = next_of p b; is_page = page_said p b a; reply = refl; writes = refl }
 
 -- ---- the words settle the page
 
@@ -153,10 +162,7 @@ fronts (x ∷ es) (f ∷ fs) left rest e l =
     let r = fronts es fs left rest tail (omega arith) in
     cc
 
-one_id : (es fs : List Entry) (k j : Bytes) → es ≡ fs → EndsWith es k → EndsWith fs j → Some k ≡ Some j
-one_id es fs k j q v w = sym (ends_last es k v) ∙ ap last_id q ∙ ends_last fs j w
-
-settled : (p : Page) (es fs : List Entry) (m n : Option Bytes) (left rest : List Entry) → es ++ left ≡ fs ++ rest → GoesOn p es left m → GoesOn p fs rest n → (es ≡ fs) × (m ≡ n)
+settled : (p : PageQuery) (es fs : List Entry) (m n : Option Bytes) (left rest : List Entry) → es ++ left ≡ fs ++ rest → GoesOn p es left m → GoesOn p fs rest n → (es ≡ fs) × (m ≡ n)
 settled p es fs m n [] [] e g k = (sym (append-nil es) ∙ e ∙ append-nil fs, g.1 ∙ sym k.1)
 settled p es fs m n [] (y ∷ rest) e g k =
     let s = ap length e in
@@ -172,12 +178,10 @@ settled p es fs m n (x ∷ left) [] e g k =
     absurd (omega arith)
 settled p es fs m n (x ∷ left) (y ∷ rest) e g k =
     let q : es ≡ fs = fronts es fs (x ∷ left) (y ∷ rest) e (g.0 ∙ sym k.0) in
-    let v = g.1 in
-    let w = k.1 in
-    (q, v.1 ∙ one_id es fs v.0 w.0 q v.2 w.2 ∙ sym w.1)
+    (q, g.1 ∙ ap last_id q ∙ sym k.1)
 
-pub one_page : (p : Page) (b : Book) (es fs : List Entry) (m n : Option Bytes) → 0 < p.size → Lists p b es m → Lists p b fs n → (es ≡ fs) × (m ≡ n)
-one_page p b es fs m n h l r =
+pub one_page : (p : PageQuery) (b : Book) (es fs : List Entry) (m n : Option Bytes) → IsPage p b es m → IsPage p b fs n → (es ≡ fs) × (m ≡ n)
+one_page p b es fs m n l r =
     settled p es fs m n l.left r.left
     (same_sets entry_key (es ++ l.left) (fs ++ r.left) l.all.order r.all.order (λ x w. (r.all.members x).1 ((l.all.members x).0 w)) (λ x w. (l.all.members x).1 ((r.all.members x).0 w)))
     l.goes_on r.goes_on
@@ -233,10 +237,10 @@ left_over from rows n k a v =
 
 -- ---- page after page
 
-abbrev from_on : Page → Book → Option Bytes → List Entry
-from_on p b from = to_list (record p { from = from }) b
+abbrev from_on : PageQuery → Book → Option Bytes → List Entry
+from_on p b from = to_list (page_after p from) b
 
-next_page : (p : Page) (b : Book) (from : Option Bytes) (k : Bytes) → AscendingBook b → EndsWith (take p.size (from_on p b from)) k → take p.size (from_on p b from) ++ from_on p b (Some k) ≡ from_on p b from
+next_page : (p : PageQuery) (b : Book) (from : Option Bytes) (k : Bytes) → AscendingBook b → EndsWith (take p.size (from_on p b from)) k → take p.size (from_on p b from) ++ from_on p b (Some k) ≡ from_on p b from
 next_page p b from k a v =
     ap (λ l. take p.size (from_on p b from) ++ l) (left_over from (passing p.filter b) p.size k (ascending_filter entry_key (passes p.filter) b.entries a.entries) v)
     ∙ take-append-drop p.size (from_on p b from)
@@ -244,30 +248,30 @@ next_page p b from k a v =
 whole : (n : ℕ) (es : List Entry) → length es ≤ n → take n es ≡ es
 whole n es l = sym (append-nil (take n es)) ∙ ap (λ d. take n es ++ d) (sym (none_left n es l)) ∙ take-append-drop n es
 
-all_from : (m : ℕ) (p : Page) (b : Book) (from : Option Bytes) → AscendingBook b → 0 < p.size → length (from_on p b from) ≤ m → Pages p b from (from_on p b from)
+all_from : (m : ℕ) (p : PageQuery) (b : Book) (from : Option Bytes) → AscendingBook b → 0 < p.size → length (from_on p b from) ≤ m → PageAfterPage p b from (from_on p b from)
 all_from zero p b from a h l = ⊎_elim
-    (λ v. subst (Pages p b from) (whole p.size (from_on p b from) v.0) (last_page from v.1))
+    (λ v. subst (PageAfterPage p b from) (whole p.size (from_on p b from) v.0) (last_page from v.1))
     (λ f. let q = f.more in absurd (omega arith))
     (in_two p.size (from_on p b from) h)
 all_from (suc m) p b from a h l = ⊎_elim
-    (λ v. subst (Pages p b from) (whole p.size (from_on p b from) v.0) (last_page from v.1))
+    (λ v. subst (PageAfterPage p b from) (whole p.size (from_on p b from) v.0) (last_page from v.1))
     (λ f.
       let q = next_page p b from f.id a f.ends in
       let s = ap length q in
       let t = length-append (take p.size (from_on p b from)) (from_on p b (Some f.id)) in
       let w = f.more in
       let u = length-take-le p.size (from_on p b from) (omega arith) in
-      subst (Pages p b from) q (one_more from f.id (from_on p b (Some f.id)) f.next_is (all_from m p b (Some f.id) a h (omega arith))))
+      subst (PageAfterPage p b from) q (one_more from f.id (from_on p b (Some f.id)) f.next_is (all_from m p b (Some f.id) a h (omega arith))))
     (in_two p.size (from_on p b from) h)
 
 from_start : {X : Type 0} (xs : List X) → filter (λ x. true) xs ≡ xs
 from_start [] = refl
 from_start (x ∷ xs) = ap (λ l. x ∷ l) (from_start xs)
 
-pub pages_list_all : (p : Page) (b : Book) → AscendingBook b → 0 < p.size → Pages p b None (passing p.filter b)
-pages_list_all p b a h = subst (Pages p b None) (from_start (passing p.filter b)) (all_from (length (from_on p b None)) p b None a h (omega arith))
+pub pages_list_all : (p : PageQuery) (b : Book) → AscendingBook b → 0 < p.size → PageAfterPage p b None (passing p.filter b)
+pages_list_all p b a h = subst (PageAfterPage p b None) (from_start (passing p.filter b)) (all_from (length (from_on p b None)) p b None a h (omega arith))
 
-once : (p : Page) (b : Book) (from : Option Bytes) (es : List Entry) → AscendingBook b → 0 < p.size → Pages p b from es → es ≡ from_on p b from
+once : (p : PageQuery) (b : Book) (from : Option Bytes) (es : List Entry) → AscendingBook b → 0 < p.size → PageAfterPage p b from es → es ≡ from_on p b from
 once p b _ _ a h (last_page from none) = ⊎_elim
     (λ v. whole p.size (from_on p b from) v.0)
     (λ f. let q : None ≡ Some f.id = sym none ∙ f.next_is in absurd (cc))
@@ -281,5 +285,5 @@ once p b _ _ a h (one_more from k later next rest) = ⊎_elim
       ap (λ l. take p.size (from_on p b from) ++ l) r ∙ ap (λ j. take p.size (from_on p b from) ++ from_on p b (Some j)) i ∙ next_page p b from f.id a f.ends)
     (in_two p.size (from_on p b from) h)
 
-pub pages_list_once : (p : Page) (b : Book) (es : List Entry) → AscendingBook b → 0 < p.size → Pages p b None es → es ≡ passing p.filter b
+pub pages_list_once : (p : PageQuery) (b : Book) (es : List Entry) → AscendingBook b → 0 < p.size → PageAfterPage p b None es → es ≡ passing p.filter b
 pages_list_once p b es a h v = once p b None es a h v ∙ from_start (passing p.filter b)

@@ -8,6 +8,7 @@ pub mod History
 pub mod Lawful
 pub mod Laws
 pub mod Limits
+pub mod Listings
 pub mod NamedRows
 pub mod Ops
 pub mod Order

@@ -1,4 +1,4 @@
-//! What does a page of a listing ask for?
+//! What does a page of entries ask for?
 
 ghost use Rattle.std.specs.Prelude.{◌≡◌};
 ghost use Rattle.entry_book.specs.Pages.{is_given};
@@ -132,26 +132,23 @@ impl Clone for Filter {
     }
 }
 
-/// One page of a listing. A copy of it copies no text.
+/// One page of entries. A copy of it copies no text.
 #[derive(Drop)]
-pub struct Page {
-    /// How many entries it lists at most.
+pub struct PageQuery {
+    /// How many entries it lists at most, 1 to 500.
     pub size: u64,
-    /// The number of the book that it lists, where that isn't the one that the batch finds.
-    pub at: Option<u64>,
     /// The id after which it begins, where it doesn't begin with the first entry.
     pub from: Option<Uuid>,
     /// Which entries it lists.
     pub filter: Filter,
 }
 
-impl Clone for Page {
+impl Clone for PageQuery {
     ghost is_clone = { λ original copy. copy ≡ original };
 
-    fn clone(&self) -> Result<Page, AllocError> {
-        Ok(Page {
+    fn clone(&self) -> Result<PageQuery, AllocError> {
+        Ok(PageQuery {
             size: self.size,
-            at: self.at,
             from: self.from,
             filter: self.filter.clone()?,
         })

@@ -5,11 +5,14 @@
 //! - `random`: random batches of a few names. Each book that comes out is lawful, and each agent is told what a search
 //!   finds: `rows` reads all rows of a book and judges them, `search` looks for chains by their length.
 //! - `worked`: what a small book answers, batch after batch.
+//! - `pages`: pages of random entries are what a search finds.
 //! - `making`: operations, made of a few words; `told`: what a book answers, in short.
 #![tactic(auto)]
 
 #[cfg(test)]
 mod making;
+#[cfg(test)]
+mod pages;
 #[cfg(test)]
 mod random;
 #[cfg(test)]
