@@ -65,17 +65,17 @@ module _ (s : Bytes) (a : Agent) (es : List Entry) where
 
 -- ---- selectors
 
-has_member : (xs : List SelectorPair) (x : SelectorPair) → has xs x ≡ true → Within xs x
+pub has_member : (xs : List SelectorPair) (x : SelectorPair) → has xs x ≡ true → Within xs x
 has_member xs x h = let r = from_any (λ t. selector_eq t x) xs h in subst (Within xs) (selector_is r.0 x r.2) r.1
 
-member_has : (xs : List SelectorPair) (x : SelectorPair) → Within xs x → has xs x ≡ true
+pub member_has : (xs : List SelectorPair) (x : SelectorPair) → Within xs x → has xs x ≡ true
 member_has xs x w = within_any (λ t. selector_eq t x) xs x w (selector_same x x refl)
 
-subset_of : (xs ys : List SelectorPair) → is_within xs ys ≡ true → (x : SelectorPair) → Within xs x → Within ys x
+pub subset_of : (xs ys : List SelectorPair) → is_within xs ys ≡ true → (x : SelectorPair) → Within xs x → Within ys x
 subset_of [] ys h x w = absurd w
 subset_of (z ∷ zs) ys h x w = let k = and_parts _ _ h in ⊎_elim (λ e. subst (Within ys) e (has_member ys z k.0)) (λ v. subset_of zs ys k.1 x v) w
 
-of_subset : (xs ys : List SelectorPair) → ((x : SelectorPair) → Within xs x → Within ys x) → is_within xs ys ≡ true
+pub of_subset : (xs ys : List SelectorPair) → ((x : SelectorPair) → Within xs x → Within ys x) → is_within xs ys ≡ true
 of_subset [] ys h = refl
 of_subset (z ∷ zs) ys h = and_from _ _ (member_has ys z (h z (inl refl))) (of_subset zs ys (λ x w. h x (inr w)))
 

@@ -7,7 +7,7 @@ use Rattle.entry_book.specs.declared.entry.NewEntry.{NewEntry}
 use Rattle.entry_book.specs.declared.mode.DropMode.{DropMode}
 use Rattle.entry_book.specs.declared.mode.DropMode.TheVariants as mode
 use Rattle.entry_book.specs.declared.op.Op.{Op}
-use Rattle.entry_book.specs.declared.op.Op.TheVariants.{Create, Update, Delete, Show, ShowAgent, ShowBundle, Children, Authorised, Trust, Prune, SetAgent, DropAgent, SetBundle, DropBundle}
+use Rattle.entry_book.specs.declared.op.Op.TheVariants.{Create, Update, Delete, Show, ShowAgent, ShowBundle, Children, Page, Authorised, Trust, Prune, SetAgent, DropAgent, SetBundle, DropBundle}
 use Rattle.entry_book.specs.declared.reply.OpReply.{OpReply}
 use Rattle.entry_book.specs.declared.reply.OpReply.TheVariants as replied
 use Rattle.entry_book.specs.Rows.{Bytes, Entry, at_revision, entry_key, agent_key, bundle_key}
@@ -17,7 +17,10 @@ use Rattle.entry_book.specs.Writes.{after}
 use Rattle.entry_book.specs.Ops.{OpEffect, next_sequence}
 use Rattle.entry_book.specs.Effects.{IsListOf, IsRowAt, EntriesBecome, AgentsBecome, BundlesBecome, Creates, Updates, Deletes, Shows, Lists, OfAgent, Prunes, SetsAgent, DropsAgent, IsNext, SetsBundle, DropsOne, DropsUnused, DropsDeleting, DropsDissociating, DropsBundle}
 use Rattle.entry_book.specs.Laws.{EffectOf}
+use Rattle.entry_book.specs.Listings.{ListsPage}
+use Rattle.entry_book.specs.declared.page.PageQuery.{PageQuery}
 use Rattle.entry_book.proofs.Keys.{same_key}
+use Rattle.entry_book.proofs.Pages.{one_page}
 use Rattle.entry_book.proofs.Sets.{same_sets}
 
 -- one reply, and one book after
@@ -91,6 +94,11 @@ module _ (b : Book) (s : AscendingBook b) (c d : OpEffect) where
     ap (λ ws. after ws b) (g.writes ∙ sym h.writes),
   )
 
+  one_listed : (q : PageQuery) → ListsPage q b c → ListsPage q b d → Same b c d
+  one_listed q g h =
+      let p = one_page q b g.shown h.shown g.next h.next g.is_page h.is_page in
+      (g.reply ∙ (ap (λ es. replied.Page es g.next) p.0 ∙ (ap (replied.Page h.shown) p.1 ∙ sym h.reply)), ap (λ ws. after ws b) (g.writes ∙ sym h.writes))
+
   one_of_agent : {X : Type 0} (key : X → Bytes) (replies : List X → OpReply) (k : Bytes) (Has : Agent → X → Type 0) → OfAgent k b (λ a. Lists key replies (Has a) c) → OfAgent k b (λ a. Lists key replies (Has a) d) → Same b c d
   one_of_agent key replies k Has g h =
       let q : g.0 ≡ h.0 = same_key agent_key b.agents s.agents g.0 h.0 g.1 h.1 (g.2 ∙ sym h.2) in
@@ -145,6 +153,7 @@ one_answer own (Show k) b s c d g h = one_show b s c d entry_key b.entries s.ent
 one_answer own (ShowAgent k) b s c d g h = one_show b s c d agent_key b.agents s.agents replied.AgentShown k g h
 one_answer own (ShowBundle k) b s c d g h = one_show b s c d bundle_key b.bundles s.bundles replied.BundleShown k g h
 one_answer own (Children p) b s c d g h = one_list b s c d entry_key replied.Entries _ g h
+one_answer own (Page q) b s c d g h = one_listed b s c d q g h
 one_answer own (Authorised k) b s c d g h = one_of_agent b s c d entry_key replied.Entries k _ g h
 one_answer own (Trust k) b s c d g h = one_of_agent b s c d bundle_key replied.Bundles k _ g h
 one_answer own (Prune moment) b s c d g h = one_prune b s c d moment g h

@@ -10,7 +10,7 @@ use Rattle.entry_book.specs.declared.entry.NewEntry.{NewEntry}
 use Rattle.entry_book.specs.declared.mode.DropMode.{DropMode}
 use Rattle.entry_book.specs.declared.mode.DropMode.TheVariants as mode
 use Rattle.entry_book.specs.declared.op.Op.{Op}
-use Rattle.entry_book.specs.declared.op.Op.TheVariants.{Create, Update, Delete, Show, ShowAgent, ShowBundle, Children, Authorised, Trust, Prune, SetAgent, DropAgent, SetBundle, DropBundle}
+use Rattle.entry_book.specs.declared.op.Op.TheVariants.{Create, Update, Delete, Show, ShowAgent, ShowBundle, Children, Page, Authorised, Trust, Prune, SetAgent, DropAgent, SetBundle, DropBundle}
 use Rattle.entry_book.specs.Rows.{Bytes, Entry, at_revision, given_of, entry_key, bundle_key, IsProperEntry}
 use Rattle.entry_book.specs.Order.{Within}
 use Rattle.entry_book.specs.Book.{Book, HasBundle, entry_at, agent_at, bundle_at, names, users_of, expires_before, expired_before}
@@ -182,6 +182,7 @@ op_keeps own m (Show k) b p h l = wider (m + 1) (omega arith) l
 op_keeps own m (ShowAgent k) b p h l = wider (m + 1) (omega arith) l
 op_keeps own m (ShowBundle k) b p h l = wider (m + 1) (omega arith) l
 op_keeps own m (Children k) b p h l = wider (m + 1) (omega arith) l
+op_keeps own m (Page q) b p h l = wider (m + 1) (omega arith) l
 op_keeps own m (Authorised k) b p h l = read_keeps own (m + 1) b (agent_at k b) _ (λ a. wider (m + 1) (omega arith) l)
 op_keeps own m (Trust k) b p h l = read_keeps own (m + 1) b (agent_at k b) _ (λ a. wider (m + 1) (omega arith) l)
 op_keeps own m (Prune moment) b p h l = prune_keeps own (m + 1) moment b (wider (m + 1) (omega arith) l)

@@ -21,6 +21,7 @@ pub mod LawfulRows
 pub mod Listed
 pub mod NamedRows
 pub mod Once
+pub mod Pages
 pub mod Present
 pub mod Refused
 pub mod Replies

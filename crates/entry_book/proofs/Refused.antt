@@ -6,7 +6,7 @@ use Rattle.entry_book.specs.declared.entry.NewEntry.{NewEntry}
 use Rattle.entry_book.specs.declared.mode.DropMode.{DropMode}
 use Rattle.entry_book.specs.declared.mode.DropMode.TheVariants as mode
 use Rattle.entry_book.specs.declared.op.Op.{Op}
-use Rattle.entry_book.specs.declared.op.Op.TheVariants.{Create, Update, Delete, Show, ShowAgent, ShowBundle, Children, Authorised, Trust, Prune, SetAgent, DropAgent, SetBundle, DropBundle}
+use Rattle.entry_book.specs.declared.op.Op.TheVariants.{Create, Update, Delete, Show, ShowAgent, ShowBundle, Children, Page, Authorised, Trust, Prune, SetAgent, DropAgent, SetBundle, DropBundle}
 use Rattle.entry_book.specs.declared.reply.OpRefusal.{OpRefusal}
 use Rattle.entry_book.specs.declared.reply.OpRefusal.TheVariants.{IdTaken, Similar, NoEntry, StaleRevision, NoBundle, BundleInUse, NoAgent}
 use Rattle.entry_book.specs.Rows.{Bytes, Entry, entry_key}
@@ -23,6 +23,7 @@ use Rattle.entry_book.proofs.EffectsOfEntries.{create_effect, update_effect, del
 use Rattle.entry_book.proofs.EffectsOfQuestions.{show_effect, show_agent_effect, show_bundle_effect, children_effect, authorised_effect, trust_effect}
 use Rattle.entry_book.proofs.EffectsOfRows.{prune_effect, set_agent_effect, drop_agent_effect, set_bundle_effect}
 use Rattle.entry_book.proofs.Keys.{same_key}
+use Rattle.entry_book.proofs.Pages.{page_effect}
 
 -- no two entries of the book are alike
 abbrev Apart : Book → Type 0
@@ -166,6 +167,7 @@ effect_of own (Show k) b a = show_effect own k b a
 effect_of own (ShowAgent k) b a = show_agent_effect own k b a
 effect_of own (ShowBundle k) b a = show_bundle_effect own k b a
 effect_of own (Children p) b a = children_effect own p b a
+effect_of own (Page q) b a = page_effect own q b a
 effect_of own (Authorised k) b a = authorised_effect own k b a
 effect_of own (Trust k) b a = trust_effect own k b a
 effect_of own (Prune moment) b a = prune_effect own moment b a
@@ -182,6 +184,7 @@ not_both own (Show k) b d r a g h = h
 not_both own (ShowAgent k) b d r a g h = h
 not_both own (ShowBundle k) b d r a g h = h
 not_both own (Children p) b d r a g h = h
+not_both own (Page q) b d r a g h = h
 not_both own (Authorised k) b d r a g h = lack_not b a k r (g.0, g.1, g.2) h
 not_both own (Trust k) b d r a g h = lack_not b a k r (g.0, g.1, g.2) h
 not_both own (Prune moment) b d r a g h = h
@@ -198,6 +201,7 @@ one_refusal (Show k) b r q a l g h = absurd g
 one_refusal (ShowAgent k) b r q a l g h = absurd g
 one_refusal (ShowBundle k) b r q a l g h = absurd g
 one_refusal (Children p) b r q a l g h = absurd g
+one_refusal (Page x) b r q a l g h = absurd g
 one_refusal (Authorised k) b r q a l g h = one_lack b a k r q g h
 one_refusal (Trust k) b r q a l g h = one_lack b a k r q g h
 one_refusal (Prune moment) b r q a l g h = absurd g

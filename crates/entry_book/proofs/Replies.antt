@@ -3,7 +3,7 @@ use Rattle.std.proofs.Common.{◌≡◌, ℕ, suc, true, List, [], ◌∷◌, �
 use Rattle.std.proofs.lemmas.Bool.{and_parts}
 use Rattle.entry_book.specs.declared.agent.Agent.{Agent}
 use Rattle.entry_book.specs.declared.op.Op.{Op}
-use Rattle.entry_book.specs.declared.op.Op.TheVariants.{Create, Update, Delete, Show, ShowAgent, ShowBundle, Children, Authorised, Trust, Prune, SetAgent, DropAgent, SetBundle, DropBundle}
+use Rattle.entry_book.specs.declared.op.Op.TheVariants.{Create, Update, Delete, Show, ShowAgent, ShowBundle, Children, Page, Authorised, Trust, Prune, SetAgent, DropAgent, SetBundle, DropBundle}
 use Rattle.entry_book.specs.declared.reply.OpReply.{OpReply}
 use Rattle.entry_book.specs.Rows.{Bytes}
 use Rattle.entry_book.specs.Book.{Book, agent_at}
@@ -46,6 +46,7 @@ question_writes own (Show k) b h = refl
 question_writes own (ShowAgent k) b h = refl
 question_writes own (ShowBundle k) b h = refl
 question_writes own (Children p) b h = refl
+question_writes own (Page q) b h = refl
 question_writes own (Authorised k) b h = asked (agent_at k b) _
 question_writes own (Trust k) b h = asked (agent_at k b) _
 question_writes own (Prune moment) b h = cc

@@ -7,7 +7,7 @@ use Rattle.entry_book.specs.declared.entry.NewEntry.{NewEntry}
 use Rattle.entry_book.specs.declared.mode.DropMode.{DropMode}
 use Rattle.entry_book.specs.declared.mode.DropMode.TheVariants as mode
 use Rattle.entry_book.specs.declared.op.Op.{Op}
-use Rattle.entry_book.specs.declared.op.Op.TheVariants.{Create, Update, Delete, Show, ShowAgent, ShowBundle, Children, Authorised, Trust, Prune, SetAgent, DropAgent, SetBundle, DropBundle}
+use Rattle.entry_book.specs.declared.op.Op.TheVariants.{Create, Update, Delete, Show, ShowAgent, ShowBundle, Children, Page, Authorised, Trust, Prune, SetAgent, DropAgent, SetBundle, DropBundle}
 use Rattle.entry_book.specs.Rows.{Bytes, Entry, at_revision, entry_key, agent_key, bundle_key}
 use Rattle.entry_book.specs.Order.{Within}
 use Rattle.entry_book.specs.Book.{Book, AscendingBook, entry_at, agent_at, bundle_at, names, users_of, expires_before}
@@ -90,6 +90,7 @@ shape_of own (Show k) b = nothing refl refl
 shape_of own (ShowAgent k) b = nothing refl refl
 shape_of own (ShowBundle k) b = nothing refl refl
 shape_of own (Children p) b = nothing refl refl
+shape_of own (Page q) b = nothing refl refl
 shape_of own (Authorised k) b = of_agent (Authorised k) b _ (agent_at k b) (λ a h. nothing refl refl)
 shape_of own (Trust k) b = of_agent (Trust k) b _ (agent_at k b) (λ a h. nothing refl refl)
 shape_of own (Prune moment) b = entries (λ e. None) (λ e. tt) (expires_before moment) refl refl

@@ -1,5 +1,5 @@
 -- What has no fault is what the direct words say.
-use Rattle.std.proofs.Common.{◌≡◌, ◌≢◌, ◌↔◌, ℕ, ◌<◌, ◌≤◌, Bool, true, false, not, ◌||◌, cond, List, [], ◌∷◌, length, Option, Some, None, refl, ap, arith}
+use Rattle.std.proofs.Common.{◌≡◌, ◌≢◌, ◌↔◌, ℕ, ◌<◌, ◌≤◌, Bool, true, false, not, ◌||◌, cond, List, [], ◌∷◌, length, Option, Some, None, IfSome, refl, ap, arith}
 use Rattle.std.specs.Prelude.{⊤, bytes_eq, nat_lt}
 use Rattle.std.proofs.lemmas.Bool.{both_ways}
 use Rattle.std.proofs.lemmas.Bool.Decides.{nat_tests}
@@ -9,10 +9,12 @@ use Rattle.entry_book.specs.declared.agent.Agent.{Agent}
 use Rattle.entry_book.specs.declared.entry.NewEntry.{NewEntry}
 use Rattle.entry_book.specs.declared.fault.OpFault.{OpFault}
 use Rattle.entry_book.specs.declared.op.Op.{Op}
-use Rattle.entry_book.specs.declared.op.Op.TheVariants.{Create, Update, Delete, Show, ShowAgent, ShowBundle, Children, Authorised, Trust, Prune, SetAgent, DropAgent, SetBundle, DropBundle}
+use Rattle.entry_book.specs.declared.page.PageQuery.{PageQuery}
+use Rattle.entry_book.specs.declared.page.SelectorMatch.{SelectorMatch}
+use Rattle.entry_book.specs.declared.op.Op.TheVariants.{Create, Update, Delete, Show, ShowAgent, ShowBundle, Children, Page, Authorised, Trust, Prune, SetAgent, DropAgent, SetBundle, DropBundle}
 use Rattle.entry_book.specs.Rows.{Bytes, IsId, IsProperEntry, IsProperAgent}
-use Rattle.entry_book.specs.Faultless.{IsIdOf, IsAgentIdOf, FaultlessEntry, FaultlessAgent, FaultlessBundle, FaultlessOp}
-use Rattle.entry_book.specs.Batches.{entry_fault, parent_fault, asked_fault, agent_fault, own_fault, bundle_fault, op_fault, is_outside, IsProperOp}
+use Rattle.entry_book.specs.Faultless.{IsIdOf, IsAgentIdOf, FaultlessEntry, FaultlessAgent, FaultlessBundle, FaultlessOp, FaultlessPage}
+use Rattle.entry_book.specs.Batches.{entry_fault, parent_fault, asked_fault, agent_fault, own_fault, bundle_fault, op_fault, is_foreign, has_no_path, if_given, is_outside, page_fault, IsProperOp, IsProperPage}
 use Rattle.entry_book.proofs.Ids.{not_false, some, id_of, from_id_of, agent_id_of, from_agent_id_of}
 use Rattle.entry_book.proofs.Servers.{apart_from}
 use Rattle.entry_book.proofs.Sets.{text_same}
@@ -35,6 +37,9 @@ not_either a b h k = rw h k
 
 at_most : (m n : ℕ) → nat_lt m n ≡ false → n ≤ m
 at_most m n h = grind (arith, nat_tests)
+
+at_least : (m n : ℕ) → nat_lt n m ≡ false → m ≤ n
+at_least m n h = grind (arith, nat_tests)
 
 not_more : (m n : ℕ) → n ≤ m → nat_lt m n ≡ false
 not_more m n h = grind (arith, nat_tests)
@@ -98,6 +103,54 @@ parent_faults own id i = (
   λ v. let r = from_id_of own id v in passed _ _ _ r.0 (passed _ _ _ r.1 refl),
 )
 
+-- ---- a page
+
+given_ids : (own : Bytes) (o : Option Bytes) → IfSome o IsId → if_given (is_foreign own) o ≡ false → if_given has_no_path o ≡ false → IfSome o (IsIdOf own)
+given_ids own None i f n = tt
+given_ids own (Some id) i f n = id_of own id i f n
+
+from_given_ids : (own : Bytes) (o : Option Bytes) → IfSome o (IsIdOf own) → (if_given (is_foreign own) o ≡ false) × (if_given has_no_path o ≡ false)
+from_given_ids own None h = (refl, refl)
+from_given_ids own (Some id) h = from_id_of own id h
+
+abbrev AreFew : SelectorMatch → Type 0
+AreFew m = (0 < length m.selectors) × (length m.selectors ≤ 16)
+
+given_few : (o : Option SelectorMatch) → if_given (λ m. is_outside m.selectors) o ≡ false → IfSome o AreFew
+given_few None h = tt
+given_few (Some m) h = within m.selectors h
+
+from_given_few : (o : Option SelectorMatch) → IfSome o AreFew → if_given (λ m. is_outside m.selectors) o ≡ false
+from_given_few None h = refl
+from_given_few (Some m) h = not_outside m.selectors h.0 h.1
+
+page_faults : (own : Bytes) (q : PageQuery) → IsProperPage q → (page_fault own q ≡ None) ↔ FaultlessPage own q
+unfolding page_fault
+page_faults own q p = (
+  λ h.
+    let a = passes _ _ _ h in
+    let foreign = neither _ _ a.0 in
+    let b = passes _ _ _ a.1 in
+    let bare = neither _ _ b.0 in
+    let c = passes _ _ _ b.1 in
+    let d = passes _ _ _ c.1 in
+    let s = neither _ _ d.0 in
+    record {
+      parent = given_ids own q.filter.parent p.parent foreign.0 bare.0;
+      identity = given_ids own q.filter.identity p.identity foreign.1 bare.1;
+      selectors = given_few q.filter.selectors c.0;
+      some_room = at_least 1 q.size s.0;
+      size = at_most 500 q.size s.1;
+    },
+  λ v.
+    let r = from_given_ids own q.filter.parent v.parent in
+    let i = from_given_ids own q.filter.identity v.identity in
+    passed _ _ _ (not_either _ _ r.0 i.0)
+    (passed _ _ _ (not_either _ _ r.1 i.1)
+    (passed _ _ _ (from_given_few q.filter.selectors v.selectors)
+    (passed _ _ _ (not_either _ _ (not_more q.size 1 v.some_room) (not_more 500 q.size v.size)) refl))),
+)
+
 asked_faults : (own id : Bytes) → IsId id → (asked_fault own id ≡ None) ↔ IsAgentIdOf own id
 unfolding asked_fault
 asked_faults own id i = (
@@ -140,6 +193,7 @@ op_faults own (Show k) p = never None
 op_faults own (ShowAgent k) p = asked_faults own k p
 op_faults own (ShowBundle domain) p = never None
 op_faults own (Children parent) p = parent_faults own parent p
+op_faults own (Page q) p = page_faults own q p
 op_faults own (Authorised k) p = asked_faults own k p
 op_faults own (Trust k) p = asked_faults own k p
 op_faults own (Prune moment) p = never None

@@ -1,16 +1,18 @@
 -- Which lists of operations are a batch, and which batches only ask.
-use Rattle.std.specs.Prelude.{◌≡◌, ⊤, ℕ, ◌+◌, Bool, true, false, not, ◌||◌, ◌==◌, List, [], ◌∷◌, length, codes, nat_lt, nat_eq, Option, Some, None, bytes_eq}
+use Rattle.std.specs.Prelude.{◌≡◌, ⊤, ℕ, ◌+◌, Bool, true, false, not, ◌||◌, ◌==◌, List, [], ◌∷◌, length, codes, nat_lt, nat_eq, Option, Some, None, IfSome, bytes_eq}
 use Rattle.std.specs.List.{AllByRecursion, list_all, starts_with}
 use Rattle.spiffe_name.specs.Failures.{refuse_if}
 use Rattle.spiffe_name.specs.Domain.{IsDomain}
 use Rattle.spiffe_name.specs.Id.{domain_of, path_of, server_text}
 use Rattle.spiffe_name.specs.Selector.{SelectorPair}
+use Rattle.spiffe_name.specs.SelectorSet.{IsSelectorSet}
 use Rattle.entry_book.specs.declared.agent.Agent.{Agent}
 use Rattle.entry_book.specs.declared.entry.NewEntry.{NewEntry}
 use Rattle.entry_book.specs.declared.op.Op.{Op}
-use Rattle.entry_book.specs.declared.op.Op.TheVariants.{Create, Update, Delete, Show, ShowAgent, ShowBundle, Children, Authorised, Trust, Prune, SetAgent, DropAgent, SetBundle, DropBundle}
+use Rattle.entry_book.specs.declared.page.PageQuery.{PageQuery}
+use Rattle.entry_book.specs.declared.op.Op.TheVariants.{Create, Update, Delete, Show, ShowAgent, ShowBundle, Children, Page, Authorised, Trust, Prune, SetAgent, DropAgent, SetBundle, DropBundle}
 use Rattle.entry_book.specs.declared.fault.OpFault.{OpFault}
-use Rattle.entry_book.specs.declared.fault.OpFault.TheVariants.{ForeignId, EmptyPath, ServerIdentity, Selectors, TooManyDomains, HintTooLong, AgentPath, OwnDomainBundle, BundleTooLong}
+use Rattle.entry_book.specs.declared.fault.OpFault.TheVariants.{ForeignId, EmptyPath, ServerIdentity, Selectors, TooManyDomains, HintTooLong, PageSize, AgentPath, OwnDomainBundle, BundleTooLong}
 use Rattle.entry_book.specs.declared.fault.BatchRefusal.{BatchRefusal}
 use Rattle.entry_book.specs.declared.fault.BatchRefusal.TheVariants.{NoOps, TooManyOps, OfOp}
 use Rattle.entry_book.specs.Rows.{Bytes, IsId, IsProperEntry, IsProperAgent}
@@ -30,6 +32,7 @@ is_question (Show k) = true
 is_question (ShowAgent k) = true
 is_question (ShowBundle d) = true
 is_question (Children p) = true
+is_question (Page q) = true
 is_question (Authorised k) = true
 is_question (Trust k) = true
 is_question (Prune moment) = false
@@ -74,6 +77,20 @@ parent_fault domain parent =
     refuse_if (has_no_path parent) EmptyPath
     None)
 
+-- where a part of a filter is given, does this hold of it?
+abbrev pub if_given : {X : Type 0} → (X → Bool) → Option X → Bool
+if_given p None = false
+if_given p (Some x) = p x
+
+-- a page; what its filter gives
+unfoldable pub page_fault : Bytes → PageQuery → Option OpFault
+page_fault domain q =
+    refuse_if (if_given (is_foreign domain) q.filter.parent || if_given (is_foreign domain) q.filter.identity) ForeignId (
+    refuse_if (if_given has_no_path q.filter.parent || if_given has_no_path q.filter.identity) EmptyPath (
+    refuse_if (if_given (λ m. is_outside m.selectors) q.filter.selectors) Selectors (
+    refuse_if (nat_lt q.size 1 || nat_lt 500 q.size) PageSize
+    None)))
+
 -- an agent that is asked for, or dropped
 unfoldable pub asked_fault : Bytes → Bytes → Option OpFault
 asked_fault domain id =
@@ -110,6 +127,7 @@ op_fault domain (Show k) = None
 op_fault domain (ShowAgent k) = asked_fault domain k
 op_fault domain (ShowBundle d) = None
 op_fault domain (Children p) = parent_fault domain p
+op_fault domain (Page q) = page_fault domain q
 op_fault domain (Authorised k) = asked_fault domain k
 op_fault domain (Trust k) = asked_fault domain k
 op_fault domain (Prune moment) = None
@@ -135,6 +153,13 @@ batch_refusal domain ops =
 
 -- ---- what the types of an operation's parts see to
 
+pub record IsProperPage (q : PageQuery) : Type 0 where
+  pub from : IfSome q.from (λ k. length k ≡ 16)
+  pub parent : IfSome q.filter.parent IsId
+  pub identity : IfSome q.filter.identity IsId
+  pub domain : IfSome q.filter.domain IsDomain
+  pub selectors : IfSome q.filter.selectors (λ m. IsSelectorSet m.selectors)
+
 abbrev pub IsProperOp : Op → Type 0
 IsProperOp (Create e) = IsProperEntry e
 IsProperOp (Update e expected) = IsProperEntry e
@@ -143,6 +168,7 @@ IsProperOp (Show k) = length k ≡ 16
 IsProperOp (ShowAgent k) = IsId k
 IsProperOp (ShowBundle d) = IsDomain d
 IsProperOp (Children p) = IsId p
+IsProperOp (Page q) = IsProperPage q
 IsProperOp (Authorised k) = IsId k
 IsProperOp (Trust k) = IsId k
 IsProperOp (Prune moment) = ⊤

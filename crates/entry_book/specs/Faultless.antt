@@ -1,10 +1,11 @@
 -- What has no fault, in direct words. Laws of this crate say that the tables of faults find none in just these.
-use Rattle.std.specs.Prelude.{◌≢◌, ⊤, ◌<◌, ◌≤◌, List, ◌∷◌, codes, length}
+use Rattle.std.specs.Prelude.{◌≢◌, ⊤, ◌<◌, ◌≤◌, List, ◌∷◌, codes, length, IfSome}
 use Rattle.spiffe_name.specs.Id.{Spells, server_text}
 use Rattle.entry_book.specs.declared.agent.Agent.{Agent}
 use Rattle.entry_book.specs.declared.entry.NewEntry.{NewEntry}
 use Rattle.entry_book.specs.declared.op.Op.{Op}
-use Rattle.entry_book.specs.declared.op.Op.TheVariants.{Create, Update, Delete, Show, ShowAgent, ShowBundle, Children, Authorised, Trust, Prune, SetAgent, DropAgent, SetBundle, DropBundle}
+use Rattle.entry_book.specs.declared.page.PageQuery.{PageQuery}
+use Rattle.entry_book.specs.declared.op.Op.TheVariants.{Create, Update, Delete, Show, ShowAgent, ShowBundle, Children, Page, Authorised, Trust, Prune, SetAgent, DropAgent, SetBundle, DropBundle}
 use Rattle.entry_book.specs.Rows.{Bytes}
 
 -- an ID of the trust domain, with a path
@@ -32,6 +33,13 @@ pub record FaultlessBundle (own domain text : Bytes) : Type 0 where
   pub not_own : domain ≢ own
   pub short : length text ≤ 65536
 
+pub record FaultlessPage (own : Bytes) (q : PageQuery) : Type 0 where
+  pub parent : IfSome q.filter.parent (IsIdOf own)
+  pub identity : IfSome q.filter.identity (IsIdOf own)
+  pub selectors : IfSome q.filter.selectors (λ m. (0 < length m.selectors) × (length m.selectors ≤ 16))
+  pub some_room : 0 < q.size
+  pub size : q.size ≤ 500
+
 abbrev pub FaultlessOp : Bytes → Op → Type 0
 FaultlessOp own (Create e) = FaultlessEntry own e
 FaultlessOp own (Update e expected) = FaultlessEntry own e
@@ -40,6 +48,7 @@ FaultlessOp own (Show k) = ⊤
 FaultlessOp own (ShowAgent k) = IsAgentIdOf own k
 FaultlessOp own (ShowBundle domain) = ⊤
 FaultlessOp own (Children p) = IsIdOf own p
+FaultlessOp own (Page q) = FaultlessPage own q
 FaultlessOp own (Authorised k) = IsAgentIdOf own k
 FaultlessOp own (Trust k) = IsAgentIdOf own k
 FaultlessOp own (Prune moment) = ⊤

@@ -8,7 +8,7 @@ use Rattle.entry_book.specs.declared.fault.OpFault.{OpFault}
 use Rattle.entry_book.specs.declared.fault.BatchRefusal.TheVariants as batch
 use Rattle.entry_book.specs.declared.op.Op.{Op}
 use Rattle.entry_book.specs.declared.mode.DropMode.{DropMode}
-use Rattle.entry_book.specs.declared.op.Op.TheVariants.{Create, Update, Delete, Show, ShowAgent, ShowBundle, Children, Authorised, Trust, Prune, SetAgent, DropAgent, SetBundle, DropBundle}
+use Rattle.entry_book.specs.declared.op.Op.TheVariants.{Create, Update, Delete, Show, ShowAgent, ShowBundle, Children, Page, Authorised, Trust, Prune, SetAgent, DropAgent, SetBundle, DropBundle}
 use Rattle.entry_book.specs.declared.reply.OpReply.TheVariants as replied
 use Rattle.entry_book.specs.declared.limit.Limit.{Limit}
 use Rattle.entry_book.specs.declared.reply.OpRefusal.{OpRefusal}
@@ -29,6 +29,12 @@ use Rattle.entry_book.specs.Batches.{Batch, IsMadeFor, IsProperOp, is_query, ent
 use Rattle.entry_book.specs.Faultless.{FaultlessEntry, FaultlessAgent, FaultlessBundle, FaultlessOp}
 use Rattle.entry_book.specs.History.{PlainState, Stands, IsHistory, CommitAll, first_books, last_book, place_of, books_after, books_of, commits, reply_to}
 use Rattle.entry_book.specs.Lawful.{Lawful}
+use Rattle.entry_book.specs.Pages.{listed, matches_by, next_of, passes, passing}
+use Rattle.entry_book.specs.Listings.{IsPage, ListsPage, Matches, PageAfterPage, Passes}
+use Rattle.entry_book.specs.declared.page.Filter.{Filter}
+use Rattle.entry_book.specs.declared.page.MatchMode.{MatchMode}
+use Rattle.entry_book.specs.declared.page.PageQuery.{PageQuery}
+use Rattle.spiffe_name.specs.Selector.{SelectorPair}
 
 -- ---- membership
 
@@ -88,6 +94,9 @@ ShowBundleEffect = (own : Bytes) (k : Bytes) (b : Book) → AscendingBook b → 
 abbrev pub ChildrenEffect : Type 0
 ChildrenEffect = (own : Bytes) (p : Bytes) (b : Book) → AscendingBook b → MatchResult (op_of own (Children p) b) (ListsChildren p b) (λ refusal. ⊥)
 
+abbrev pub PageEffect : Type 0
+PageEffect = (own : Bytes) (q : PageQuery) (b : Book) → AscendingBook b → MatchResult (op_of own (Page q) b) (ListsPage q b) (λ refusal. ⊥)
+
 abbrev pub AuthorisedEffect : Type 0
 AuthorisedEffect = (own : Bytes) (k : Bytes) (b : Book) → AscendingBook b → MatchResult (op_of own (Authorised k) b) (ListsAuthorised (server_text own) k b) (LacksAgent k b)
 
@@ -118,6 +127,7 @@ EffectOf own (Show k) b = Shows entry_key b.entries replied.EntryShown k
 EffectOf own (ShowAgent k) b = Shows agent_key b.agents replied.AgentShown k
 EffectOf own (ShowBundle k) b = Shows bundle_key b.bundles replied.BundleShown k
 EffectOf own (Children p) b = ListsChildren p b
+EffectOf own (Page q) b = ListsPage q b
 EffectOf own (Authorised k) b = ListsAuthorised (server_text own) k b
 EffectOf own (Trust k) b = ListsTrust (server_text own) k b
 EffectOf own (Prune moment) b = Prunes moment b
@@ -135,6 +145,7 @@ RefusalOf (Show k) b = λ r. ⊥
 RefusalOf (ShowAgent k) b = λ r. ⊥
 RefusalOf (ShowBundle k) b = λ r. ⊥
 RefusalOf (Children p) b = λ r. ⊥
+RefusalOf (Page q) b = λ r. ⊥
 RefusalOf (Authorised k) b = LacksAgent k b
 RefusalOf (Trust k) b = LacksAgent k b
 RefusalOf (Prune moment) b = λ r. ⊥
@@ -334,3 +345,28 @@ AllLawful = (state : PlainState) (books : List Book) → Stands state books → 
 -- a batch that is accepted on a book lawful as book n leaves a book lawful as book n + 1
 abbrev pub BatchKeeps : Type 0
 BatchKeeps = (own : Bytes) (batch : Batch) (n : ℕ) (b : Book) → IsMadeFor own batch → Lawful own (64 * n) b → IfOk (run batch.domain batch.ops b) (λ t. Lawful own (64 * (n + 1)) (after t.writes b))
+
+-- ---- pages
+
+-- each match in the words of sets
+abbrev pub MatchesAsSaid : Type 0
+MatchesAsSaid = (mode : MatchMode) (given own : List SelectorPair) → (matches_by mode given own ≡ true) ↔ Matches mode given own
+
+-- a filter passes what meets each part that is given
+abbrev pub PassesAsSaid : Type 0
+PassesAsSaid = (f : Filter) (e : Entry) → (passes f e ≡ true) ↔ Passes f e
+
+-- a page has exactly the first entries that pass and come after where it begins, as many as it has room for, and there is a next one just where more do
+abbrev pub PageAsSaid : Type 0
+PageAsSaid = (q : PageQuery) (b : Book) → AscendingBook b → IsPage q b (listed q b) (next_of q b)
+
+-- and these words settle what it has
+abbrev pub OnePage : Type 0
+OnePage = (q : PageQuery) (b : Book) (es fs : List Entry) (m n : Option Bytes) → IsPage q b es m → IsPage q b fs n → (es ≡ fs) × (m ≡ n)
+
+-- page after page, from the start, whatever their size, lists every entry that passes once, in order, and comes to an end
+abbrev pub PagesListAll : Type 0
+PagesListAll = (q : PageQuery) (b : Book) → AscendingBook b → 0 < q.size → PageAfterPage q b None (passing q.filter b)
+
+abbrev pub PagesListOnce : Type 0
+PagesListOnce = (q : PageQuery) (b : Book) (es : List Entry) → AscendingBook b → 0 < q.size → PageAfterPage q b None es → es ≡ passing q.filter b

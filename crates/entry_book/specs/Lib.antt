@@ -8,9 +8,11 @@ pub mod History
 pub mod Lawful
 pub mod Laws
 pub mod Limits
+pub mod Listings
 pub mod NamedRows
 pub mod Ops
 pub mod Order
+pub mod Pages
 pub mod Rows
 pub mod Runs
 pub mod Worked

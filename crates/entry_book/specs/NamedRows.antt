@@ -1,7 +1,7 @@
 -- Which rows an operation names. A law of this crate says that an operation writes these rows, in this order, and no other.
 use Rattle.std.specs.Prelude.{List, [], ◌∷◌, ◌++◌, map}
 use Rattle.entry_book.specs.declared.op.Op.{Op}
-use Rattle.entry_book.specs.declared.op.Op.TheVariants.{Create, Update, Delete, Show, ShowAgent, ShowBundle, Children, Authorised, Trust, Prune, SetAgent, DropAgent, SetBundle, DropBundle}
+use Rattle.entry_book.specs.declared.op.Op.TheVariants.{Create, Update, Delete, Show, ShowAgent, ShowBundle, Children, Page, Authorised, Trust, Prune, SetAgent, DropAgent, SetBundle, DropBundle}
 use Rattle.entry_book.specs.Rows.{Bytes, Entry}
 use Rattle.entry_book.specs.Book.{Book, users_of, expired_before}
 use Rattle.entry_book.specs.Writes.{RowWrite, wrote_entry, wrote_agent, wrote_bundle}
@@ -29,6 +29,7 @@ rows_named (Show k) b = []
 rows_named (ShowAgent k) b = []
 rows_named (ShowBundle domain) b = []
 rows_named (Children p) b = []
+rows_named (Page q) b = []
 rows_named (Authorised k) b = []
 rows_named (Trust k) b = []
 rows_named (Prune moment) b = map entry_name (expired_before moment b)

@@ -9,7 +9,7 @@ use Rattle.entry_book.specs.declared.entry.NewEntry.{NewEntry}
 use Rattle.entry_book.specs.declared.mode.DropMode.{DropMode}
 use Rattle.entry_book.specs.declared.mode.DropMode.TheVariants as mode
 use Rattle.entry_book.specs.declared.op.Op.{Op}
-use Rattle.entry_book.specs.declared.op.Op.TheVariants.{Create, Update, Delete, Show, ShowAgent, ShowBundle, Children, Authorised, Trust, Prune, SetAgent, DropAgent, SetBundle, DropBundle}
+use Rattle.entry_book.specs.declared.op.Op.TheVariants.{Create, Update, Delete, Show, ShowAgent, ShowBundle, Children, Page, Authorised, Trust, Prune, SetAgent, DropAgent, SetBundle, DropBundle}
 use Rattle.entry_book.specs.declared.reply.OpReply.{OpReply}
 use Rattle.entry_book.specs.declared.reply.OpReply.TheVariants as replied
 use Rattle.entry_book.specs.declared.reply.OpRefusal.{OpRefusal}
@@ -19,6 +19,7 @@ use Rattle.entry_book.specs.Order.{first}
 use Rattle.entry_book.specs.Book.{Book, entry_at, agent_at, bundle_at, group_of, children_of, names, users_of, expired_before}
 use Rattle.entry_book.specs.Writes.{RowWrite, wrote_entry, wrote_agent, wrote_bundle}
 use Rattle.entry_book.specs.Authorised.{authorised}
+use Rattle.entry_book.specs.Pages.{listed, next_of}
 
 pub record OpEffect : Type 0 where
   pub reply : OpReply
@@ -153,6 +154,7 @@ op_of own (Show k) b = done (replied.EntryShown (entry_at k b)) []
 op_of own (ShowAgent k) b = done (replied.AgentShown (agent_at k b)) []
 op_of own (ShowBundle k) b = done (replied.BundleShown (bundle_at k b)) []
 op_of own (Children p) b = done (replied.Entries (children_of p b)) []
+op_of own (Page q) b = done (replied.Page (listed q b) (next_of q b)) []
 op_of own (Authorised k) b = for_agent (agent_at k b) (λ a. done (replied.Entries (authorised (server_text own) a b)) [])
 op_of own (Trust k) b = for_agent (agent_at k b) (λ a. done (replied.Bundles (bundles_of (authorised (server_text own) a b) b)) [])
 op_of own (Prune moment) b = done (replied.Pruned (map entry_key (expired_before moment b))) (map removed (expired_before moment b))

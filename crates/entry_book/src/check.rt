@@ -1,19 +1,22 @@
 //! Can these operations stand in a batch of a trust domain?
 
-ghost use Rattle.std.specs.Prelude.{◌≡◌, bytes_eq, length};
+ghost use Rattle.std.specs.Prelude.{◌≡◌, IfSome, bytes_eq, length};
 ghost use Rattle.std.specs.List.{AllByRecursion};
-ghost use Rattle.entry_book.specs.Rows.{IsProperAgent, IsProperEntry};
-ghost use Rattle.entry_book.specs.Batches.{IsProperOp, agent_fault, asked_fault, batch_refusal, bundle_fault, entry_fault, has_no_path, is_agent_path, is_foreign, is_outside, op_fault, ops_refusal, own_fault, parent_fault};
+ghost use Rattle.entry_book.specs.Rows.{IsId, IsProperAgent, IsProperEntry};
+ghost use Rattle.entry_book.specs.Batches.{IsProperOp, IsProperPage, agent_fault, asked_fault, batch_refusal, bundle_fault, entry_fault, has_no_path, if_given, is_agent_path, is_foreign, is_outside, op_fault, ops_refusal, own_fault, page_fault, parent_fault};
 ghost use Rattle.spiffe_name.specs.Domain.{IsDomain};
 ghost use Rattle.spiffe_name.specs.Id.{path_of, server_text};
+ghost use Rattle.spiffe_name.specs.SelectorSet.{IsSelectorSet};
 
 use crate::agent::Agent;
 use crate::entry::NewEntry;
 use crate::fault::{BatchRefusal, OpFault};
 use crate::op::Op;
+use crate::page::{PageQuery, SelectorMatch};
 use crate::shared::Shared;
 use crate::text::Text;
 use spiffe_name::{SelectorSet, SpiffeId, TrustDomain};
+use uuid::Uuid;
 
 /// The first fault of a list of operations.
 #[tactic(auto, unfolding(crate::specs::Batches::batch_refusal))]
@@ -52,6 +55,7 @@ fn op_fault(domain: &TrustDomain, op: &Op) -> Option<OpFault>
             asked_fault(domain, agent.get())
         }
         Op::Children(parent) => parent_fault(domain, parent.get()),
+        Op::Page(query) => page_fault(domain, query.get()),
         Op::SetAgent(agent) => agent_fault(domain, agent),
         Op::SetBundle(of, text) => bundle_fault(domain, of.get(), text.get()),
         Op::DropBundle(of, _) => own_fault(domain, of.get()),
@@ -98,6 +102,57 @@ fn parent_fault(domain: &TrustDomain, parent: &SpiffeId) -> Option<OpFault>
         return Some(OpFault::EmptyPath);
     }
     None
+}
+
+/// The least fault of a page.
+#[tactic(auto, unfolding(crate::specs::Batches::page_fault))]
+fn page_fault(domain: &TrustDomain, query: &PageQuery) -> Option<OpFault>
+    ensures { result ≡ page_fault domain.now query.now }
+{
+    let filter = &query.filter;
+    if is_given_foreign(domain, &filter.parent) || is_given_foreign(domain, &filter.identity) {
+        return Some(OpFault::ForeignId);
+    }
+    if is_given_bare(&filter.parent) || is_given_bare(&filter.identity) {
+        return Some(OpFault::EmptyPath);
+    }
+    if is_given_outside(&filter.selectors) {
+        return Some(OpFault::Selectors);
+    }
+    if query.size < 1 || query.size > 500 {
+        return Some(OpFault::PageSize);
+    }
+    None
+}
+
+/// Is an ID given, of another trust domain?
+fn is_given_foreign(domain: &TrustDomain, given: &Option<Shared<SpiffeId>>) -> bool
+    ensures { result ≡ if_given (is_foreign domain.now) given.now }
+{
+    match given {
+        Some(id) => is_foreign(domain, id.get()),
+        None => false,
+    }
+}
+
+/// Is an ID given that has no path?
+fn is_given_bare(given: &Option<Shared<SpiffeId>>) -> bool
+    ensures { result ≡ if_given has_no_path given.now }
+{
+    match given {
+        Some(id) => has_no_path(id.get()),
+        None => false,
+    }
+}
+
+/// Are selectors given that aren't 1 to 16?
+fn is_given_outside(given: &Option<SelectorMatch>) -> bool
+    ensures { result ≡ if_given (λ question. is_outside question.selectors) given.now }
+{
+    match given {
+        Some(question) => is_outside(question.selectors.get()),
+        None => false,
+    }
 }
 
 /// The fault of an agent that is asked for, or dropped.
@@ -220,6 +275,7 @@ fn know_op(op: &Op)
         | Op::DropAgent(id) => {
             let _ = id.get().as_str();
         }
+        Op::Page(query) => know_page(query.get()),
         Op::SetAgent(agent) => know_agent(agent),
         Op::ShowBundle(domain) | Op::SetBundle(domain, _) | Op::DropBundle(domain, _) => {
             let _ = domain.get().as_str();
@@ -250,6 +306,48 @@ fn know_agent(agent: &Agent)
 {
     let _ = agent.id.get().as_str();
     let _ = agent.selectors.get().as_slice();
+}
+
+fn know_page(query: &PageQuery)
+    ensures { IsProperPage query.now }
+{
+    know_given_uuid(&query.from);
+    know_given_id(&query.filter.parent);
+    know_given_id(&query.filter.identity);
+    know_given_domain(&query.filter.domain);
+    know_given_selectors(&query.filter.selectors);
+}
+
+fn know_given_uuid(given: &Option<Uuid>)
+    ensures { IfSome given.now (λ id. length id ≡ 16) }
+{
+    if let Some(id) = given {
+        let _ = byte_count(id.as_bytes());
+    }
+}
+
+fn know_given_id(given: &Option<Shared<SpiffeId>>)
+    ensures { IfSome given.now IsId }
+{
+    if let Some(id) = given {
+        let _ = id.get().as_str();
+    }
+}
+
+fn know_given_domain(given: &Option<Shared<TrustDomain>>)
+    ensures { IfSome given.now IsDomain }
+{
+    if let Some(domain) = given {
+        let _ = domain.get().as_str();
+    }
+}
+
+fn know_given_selectors(given: &Option<SelectorMatch>)
+    ensures { IfSome given.now (λ question. IsSelectorSet question.selectors) }
+{
+    if let Some(question) = given {
+        let _ = question.selectors.get().as_slice();
+    }
 }
 
 /// How many bytes a UUID has.

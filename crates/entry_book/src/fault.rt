@@ -12,12 +12,14 @@ pub enum OpFault {
     EmptyPath,
     /// An entry's identity is the ID of the server.
     ServerIdentity,
-    /// An entry's selectors aren't 1 to 16, or an agent's are over 64.
+    /// An entry's selectors, or a filter's, aren't 1 to 16, or an agent's are over 64.
     Selectors,
     /// An entry names over 8 trust domains.
     TooManyDomains,
     /// An entry's hint has over 1,024 bytes.
     HintTooLong,
+    /// A page's size isn't 1 to 500.
+    PageSize,
     /// An agent's path doesn't begin with `/spire/agent/`.
     AgentPath,
     /// The bundle of the server's own trust domain is set or dropped.
@@ -38,6 +40,7 @@ impl OpFault {
             OpFault::Selectors => "B6",
             OpFault::TooManyDomains => "B7",
             OpFault::HintTooLong => "B8",
+            OpFault::PageSize => "B9",
             OpFault::AgentPath => "B10",
             OpFault::OwnDomainBundle => "B11",
             OpFault::BundleTooLong => "B12",

@@ -3,7 +3,7 @@
 //! Each function does nothing. What it ensures is a law of the definitions, stated in `specs/Laws.antt`; a caller
 //! that calls it may rest on the law.
 
-ghost use Rattle.entry_book.specs.Laws.{AcceptedAsSaid, AgentFaults, AliasIsHeld, AllLawful, AllWithinLimits, AuthorisedEffect, AuthorisedInOrder, BatchKeeps, BundleFaults, ChangesCommit, ChildIsAuthorised, ChildrenEffect, CommitAdds, CountOfBooks, CreateEffect, DeleteEffect, DropAgentEffect, DropBundleEffect, EndsOfChains, EntryFaults, FirstFault, FullRefused, HeldIsAuthorised, HistoryBounded, HistoryGoesOn, LawfulHistory, NoFault, NoOpsRefused, NoneIsPassed, OneList, OneMore, OneMoreCommits, OpFaults, OpRefuses, OthersDontMatter, OthersLeave, PruneEffect, QueriesAnswered, QueriesOnlyAsk, QueryWrites, RefusedAsSaid, RunFits, RunGoesOn, RunKeeps, RunOfNone, RunReplies, RunStops, SetAgentEffect, SetBundleEffect, ShowAgentEffect, ShowBundleEffect, ShowEffect, TooManyRefused, TrustEffect, UpdateEffect, WithinIsContains, WritesNamed, WritesOnce};
+ghost use Rattle.entry_book.specs.Laws.{AcceptedAsSaid, AgentFaults, AliasIsHeld, AllLawful, AllWithinLimits, AuthorisedEffect, AuthorisedInOrder, BatchKeeps, BundleFaults, ChangesCommit, ChildIsAuthorised, ChildrenEffect, CommitAdds, CountOfBooks, CreateEffect, DeleteEffect, DropAgentEffect, DropBundleEffect, EndsOfChains, EntryFaults, FirstFault, FullRefused, HeldIsAuthorised, HistoryBounded, HistoryGoesOn, LawfulHistory, MatchesAsSaid, NoFault, NoOpsRefused, NoneIsPassed, OneList, OneMore, OneMoreCommits, OnePage, OpFaults, OpRefuses, OthersDontMatter, OthersLeave, PageAsSaid, PageEffect, PagesListAll, PagesListOnce, PassesAsSaid, PruneEffect, QueriesAnswered, QueriesOnlyAsk, QueryWrites, RefusedAsSaid, RunFits, RunGoesOn, RunKeeps, RunOfNone, RunReplies, RunStops, SetAgentEffect, SetBundleEffect, ShowAgentEffect, ShowBundleEffect, ShowEffect, TooManyRefused, TrustEffect, UpdateEffect, WithinIsContains, WritesNamed, WritesOnce};
 ghost use Rattle.entry_book.specs.Rows.{agent_key, bundle_key, entry_key};
 ghost use Rattle.entry_book.specs.Worked.{AliasHeld, AliasHeldWithMore, AliasNotHeld, AliasNotHeldWithNone, AliasOfAnother, CycleIsAuthorised, EmptyRefuses, FirstBatches, FreedInOneBatch, NothingKept, PrunesBefore, SequencesCount, StaleDelete};
 
@@ -36,6 +36,7 @@ pub fn effects()
     ensures show_agent { ShowAgentEffect }
     ensures show_bundle { ShowBundleEffect }
     ensures children { ChildrenEffect }
+    ensures page { PageEffect }
     ensures authorised { AuthorisedEffect }
     ensures trust { TrustEffect }
     ensures prune { PruneEffect }
@@ -47,6 +48,17 @@ pub fn effects()
     ensures refused { RefusedAsSaid }
     ensures once { WritesOnce }
     ensures named { WritesNamed }
+{}
+
+/// What a page lists, in direct words, and that page after page lists every entry that passes its filter once, in the order
+/// of ids, whatever the size of a page.
+pub fn pages()
+    ensures matches { MatchesAsSaid }
+    ensures passes { PassesAsSaid }
+    ensures lists { PageAsSaid }
+    ensures one { OnePage }
+    ensures all { PagesListAll }
+    ensures once { PagesListOnce }
 {}
 
 /// What the run of a batch's operations comes to.

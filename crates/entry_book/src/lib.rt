@@ -6,8 +6,9 @@
 //!
 //! - [`Batch`]: 1 to 64 operations for the book of one trust domain, none with a fault. [`BatchRefusal`] and
 //!   [`OpFault`] tell why a list of operations is none.
-//! - [`Op`]: one operation; [`NewEntry`], what a caller gives of an entry, and [`DropMode`], what becomes of the entries
-//!   that name a bundle when it is dropped.
+//! - [`Op`]: one operation; [`NewEntry`], what a caller gives of an entry, [`DropMode`], what becomes of the entries that
+//!   name a bundle when it is dropped, and [`PageQuery`], what a page lists: up to so many entries that pass a [`Filter`],
+//!   with a question to their selectors ([`SelectorMatch`], by one of four [`MatchMode`]s).
 //! - [`Reply`]: what became of a batch ([`Outcome`]): the [`OpReply`] of each operation, or the [`Refusal`], of the
 //!   first operation that the book refuses ([`OpRefusal`]) or for a [`Limit`] of the book. A copy of it shares the
 //!   replies.
@@ -31,6 +32,7 @@ pub mod laws;
 mod limit;
 mod mode;
 mod op;
+mod page;
 mod reply;
 mod sequence;
 mod shared;
@@ -46,6 +48,7 @@ pub use fault::{BatchRefusal, OpFault};
 pub use limit::{Limit, limit_passed};
 pub use mode::DropMode;
 pub use op::Op;
+pub use page::{Filter, MatchMode, PageQuery, SelectorMatch};
 pub use reply::{OpRefusal, OpReply, Outcome, Refusal, Reply};
 pub use sequence::Sequence;
 pub use shared::Shared;

@@ -5,6 +5,7 @@ ghost use Rattle.std.specs.Prelude.{◌≡◌};
 use crate::agent::Agent;
 use crate::entry::NewEntry;
 use crate::mode::DropMode;
+use crate::page::PageQuery;
 use crate::shared::Shared;
 use crate::text::Text;
 use spiffe_name::{SpiffeId, TrustDomain};
@@ -30,6 +31,8 @@ pub enum Op {
     ShowBundle(Shared<TrustDomain>),
     /// Asks for the entries of a parent. Never refused.
     Children(Shared<SpiffeId>),
+    /// Asks for a page of the entries. Never refused.
+    Page(Shared<PageQuery>),
     /// Asks for the authorised entries of an agent. Refused `NoAgent`.
     Authorised(Shared<SpiffeId>),
     /// Asks for the bundles of the domains that the authorised entries of an agent name. Refused `NoAgent`.
@@ -60,6 +63,7 @@ impl Op {
             | Op::ShowAgent(_)
             | Op::ShowBundle(_)
             | Op::Children(_)
+            | Op::Page(_)
             | Op::Authorised(_)
             | Op::Trust(_) => true,
             Op::Create(_)
@@ -86,6 +90,7 @@ impl Clone for Op {
             Op::ShowAgent(agent) => Ok(Op::ShowAgent(agent.clone()?)),
             Op::ShowBundle(domain) => Ok(Op::ShowBundle(domain.clone()?)),
             Op::Children(parent) => Ok(Op::Children(parent.clone()?)),
+            Op::Page(query) => Ok(Op::Page(query.clone()?)),
             Op::Authorised(agent) => Ok(Op::Authorised(agent.clone()?)),
             Op::Trust(agent) => Ok(Op::Trust(agent.clone()?)),
             Op::Prune(moment) => Ok(Op::Prune(*moment)),

@@ -22,6 +22,8 @@ pub enum OpReply {
     EntryShown(Option<Entry>),
     /// The entries that were asked for, in the order of their ids.
     Entries(Sequence<Entry>),
+    /// The entries of a page, in the order of their ids, and the id after which the next page begins, where there is one.
+    Page(Sequence<Entry>, Option<Uuid>),
     /// The agent that was set or removed.
     Agent(Agent),
     /// The agent that was asked for, where there is one.
@@ -47,6 +49,7 @@ impl Clone for OpReply {
             OpReply::Entry(entry) => Ok(OpReply::Entry(entry.clone()?)),
             OpReply::EntryShown(shown) => Ok(OpReply::EntryShown(shown.clone()?)),
             OpReply::Entries(entries) => Ok(OpReply::Entries(entries.clone()?)),
+            OpReply::Page(entries, next) => Ok(OpReply::Page(entries.clone()?, *next)),
             OpReply::Agent(agent) => Ok(OpReply::Agent(agent.clone()?)),
             OpReply::AgentShown(shown) => Ok(OpReply::AgentShown(shown.clone()?)),
             OpReply::Bundle(bundle) => Ok(OpReply::Bundle(bundle.clone()?)),

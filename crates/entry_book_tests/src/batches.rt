@@ -20,7 +20,7 @@ fn fault(alloc: Global, ops: Sequence<Op>) -> Result<(&'static str, usize), Fail
 }
 
 /// Is this the code of the batch of this one operation?
-fn check(rt: &impl Abort, alloc: Global, op: Op, code: &str) -> Result<(), Fail> {
+pub fn check(rt: &impl Abort, alloc: Global, op: Op, code: &str) -> Result<(), Fail> {
     let mut ops = Sequence::empty(alloc);
     ops.push(op)?;
     assert_eq!(rt; fault(alloc, ops)?.0, code);

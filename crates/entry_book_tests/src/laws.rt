@@ -7,6 +7,7 @@ fn the_laws_can_be_called() {
     laws::membership();
     laws::authorised_entries();
     laws::effects();
+    laws::pages();
     laws::runs();
     laws::faults();
     laws::histories();

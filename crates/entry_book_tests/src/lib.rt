@@ -2,7 +2,7 @@
 //!
 //! The crate has tests alone, over the public calls of `entry_book`:
 //!
-//! - `batches`: batches and their refusals; `rows`: what rows are made of; `laws`: each law is called.
+//! - `batches`: batches and their refusals; `pages`: those of pages, and which entries a filter passes; `rows`: what rows are made of; `laws`: each law is called.
 //! - `making`: entries, and the parts of operations.
 #![tactic(auto)]
 
@@ -12,5 +12,7 @@ mod batches;
 mod laws;
 #[cfg(test)]
 mod making;
+#[cfg(test)]
+mod pages;
 #[cfg(test)]
 mod rows;

@@ -2,5 +2,6 @@ pub mod Answered
 pub mod Copies
 pub mod Flags
 pub mod Kept
+pub mod ToList
 pub mod Reached
 pub mod Running

@@ -6,10 +6,11 @@ mod counts;
 
 use crate::expired::{expired_ids, unexpired};
 use crate::find::{agent_of, bundle_of, children_of, entry_of, similar_to};
+use crate::listing::page_of;
 use crate::row::{with_row, without_row};
 use crate::users::{freed, named_bundles, non_users, user_ids, user_of};
 use crate::worklist::authorised_of;
-use entry_book::{Agent, Bundle, DomainSet, Entry, NewEntry, Sequence, Shared};
+use entry_book::{Agent, Bundle, DomainSet, Entry, NewEntry, PageQuery, Sequence, Shared};
 use spiffe_name::{SpiffeId, TrustDomain};
 use std::alloc::{AllocError, Global};
 use std::marker::Model;
@@ -45,6 +46,7 @@ impl Book {
     ghost use Rattle.entry_book.specs.Book.{agent_at, bundle_at, children_of, entry_at, expired_before, users_of};
     ghost use Rattle.entry_book.specs.Authorised.{authorised};
     ghost use Rattle.entry_book.specs.Ops.{bundles_of, lacking, similar};
+    ghost use Rattle.entry_book.specs.Pages.{listed, next_of};
 
     /// The entry of an id.
     pub(crate) fn entry(&self, id: &Uuid) -> Option<&Entry>
@@ -123,6 +125,19 @@ impl Book {
     {
         let found = children_of(alloc, self.entries.get().as_slice(), parent)?;
         Ok(Sequence::of(found))
+    }
+
+    /// The entries that a page lists, in the order of their ids, and the id after which the next page begins, where there is
+    /// one.
+    pub(crate) fn page(
+        &self,
+        alloc: Global,
+        query: &PageQuery,
+    ) -> Result<(Sequence<Entry>, Option<Uuid>), AllocError>
+        ensures { IfOk result (λ page. page ≡ (listed query.now self.now, next_of query.now self.now)) }
+    {
+        let (found, next) = page_of(alloc, self.entries.get().as_slice(), query)?;
+        Ok((Sequence::of(found), next))
     }
 
     /// The entries that an agent may hand out, in the order of their ids, in the book of a trust domain.

@@ -16,6 +16,7 @@ mod book;
 mod expired;
 mod find;
 pub mod laws;
+mod listing;
 mod ops;
 mod plain_book;
 mod row;

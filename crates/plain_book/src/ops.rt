@@ -10,6 +10,7 @@ mod create;
 mod delete;
 mod drop_agent;
 mod drop_bundle;
+mod page;
 mod prune;
 mod put;
 mod set_agent;
@@ -28,6 +29,7 @@ use delete::delete;
 use drop_agent::drop_agent;
 use drop_bundle::drop_bundle;
 use entry_book::{Op, OpRefusal, OpReply};
+use page::page;
 use prune::prune;
 use set_agent::set_agent;
 use set_bundle::set_bundle;
@@ -59,6 +61,7 @@ pub(crate) fn perform(
         Op::ShowAgent(id) => show_agent(id.get(), book),
         Op::ShowBundle(domain) => show_bundle(domain.get(), book),
         Op::Children(parent) => children(alloc, parent.get(), book),
+        Op::Page(query) => page(alloc, query.get(), book),
         Op::Authorised(agent) => authorised(alloc, own, agent.get(), book),
         Op::Trust(agent) => trust(alloc, own, agent.get(), book),
         Op::Prune(moment) => prune(alloc, *moment, book),

@@ -6,6 +6,7 @@
 //!   finds: `rows` reads all rows of a book and judges them, `search` looks for chains by their length.
 //! - `large`: what a book of over five hundred entries answers.
 //! - `worked`: what a small book answers, batch after batch.
+//! - `pages`: pages of random entries are what a search finds.
 //! - `making`: operations, made of a few words; `told`: what a book answers, in short.
 #![tactic(auto)]
 
@@ -13,6 +14,8 @@
 mod large;
 #[cfg(test)]
 mod making;
+#[cfg(test)]
+mod pages;
 #[cfg(test)]
 mod random;
 #[cfg(test)]

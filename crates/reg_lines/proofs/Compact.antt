@@ -29,8 +29,8 @@ use Rattle.reg_lines.specs.declared.fault.Fault.{Fault}
 use Rattle.reg_lines.specs.declared.fault.Field.{Field}
 use Rattle.reg_lines.specs.declared.printing.refusal.LineRefusal.{LineRefusal}
 use Rattle.reg_lines.specs.Refusals.{fault_json, failure_json, no_memory_json, op_member, refusal_json}
-use Rattle.reg_lines.specs.Replies.{agent_json, bundle_json, detail_member, dropped_json, entry_json, op_reply_json, selector_json, uuid_json, uuid_text, under, done_json, refused_json, outcome_json, reply_json}
-use Rattle.reg_lines.specs.Values.{list_data, option_data, uuid_data, selector_data, agent_data, bundle_data, dropped_data, entry_data, op_reply_data, done_data, refused_data, outcome_data, reply_data, fault_data, failure_data, refusal_data}
+use Rattle.reg_lines.specs.Replies.{agent_json, bundle_json, detail_member, dropped_json, entry_json, page_json, op_reply_json, selector_json, uuid_json, uuid_text, under, done_json, refused_json, outcome_json, reply_json}
+use Rattle.reg_lines.specs.Values.{list_data, option_data, uuid_data, selector_data, agent_data, bundle_data, dropped_data, entry_data, page_data, op_reply_data, done_data, refused_data, outcome_data, reply_data, fault_data, failure_data, refusal_data}
 
 same_for_all : (f g : ℕ → List ℕ) → ((b : ℕ) → f b ≡ g b) → (s : List ℕ) → flat_map f s ≡ flat_map g s
 same_for_all f g h [] = refl
@@ -125,6 +125,18 @@ agent_shown-is a = option_json-is agent_json agent_data agent_json-is a
 bundle_shown-is : (b : Option Bundle) → option_json bundle_json b ≡ compact_text (option_data bundle_data b)
 bundle_shown-is b = option_json-is bundle_json bundle_data bundle_json-is b
 
+next-is : (next : Option (List ℕ)) → option_json uuid_json next ≡ compact_text (option_data uuid_data next)
+next-is next = option_json-is uuid_json uuid_data (λ id. text_json-is (uuid_text id)) next
+
+page_json-is : (es : List Entry) (next : Option (List ℕ)) → page_json es next ≡ compact_text (page_data es next)
+unfolding page_json serde_json_on_literals
+page_json-is es next =
+    left-right (codes "{\"entries\":") (
+    list_json entry_json es
+    ∷ codes ",\"next\":" ∷ option_json uuid_json next
+    ∷ codes "}" ∷ [])
+    ∙ simp (entries-are, next-is) refl
+
 bundles-are : (bs : List Bundle) → list_json bundle_json bs ≡ compact_text (list_data bundle_data bs)
 bundles-are bs = list_json-is bundle_json bundle_data bundle_json-is bs
 
@@ -133,6 +145,7 @@ unfolding under serde_json_on_literals
 op_reply_json-is (replied.Entry e) = simp (append_assoc, text_json-is, entry_json-is) refl
 op_reply_json-is (replied.EntryShown e) = simp (append_assoc, text_json-is, entry_shown-is) refl
 op_reply_json-is (replied.Entries es) = simp (append_assoc, text_json-is, entries-are) refl
+op_reply_json-is (replied.Page es next) = page_json-is es next
 op_reply_json-is (replied.Agent a) = simp (append_assoc, text_json-is, agent_json-is) refl
 op_reply_json-is (replied.AgentShown a) = simp (append_assoc, text_json-is, agent_shown-is) refl
 op_reply_json-is (replied.Bundle b) = simp (append_assoc, text_json-is, bundle_json-is) refl
@@ -246,6 +259,7 @@ op_reply-no_float : (r : OpReply) → has_float (op_reply_data r) ≡ false
 op_reply-no_float (replied.Entry e) = simp entry-no_float refl
 op_reply-no_float (replied.EntryShown e) = simp (option-no_float entry_data entry-no_float) refl
 op_reply-no_float (replied.Entries es) = simp entries-no_float refl
+op_reply-no_float (replied.Page es next) = simp (entries-no_float, option-no_float uuid_data (λ id. refl)) refl
 op_reply-no_float (replied.Agent a) = simp agent-no_float refl
 op_reply-no_float (replied.AgentShown a) = simp (option-no_float agent_data agent-no_float) refl
 op_reply-no_float (replied.Bundle b) = simp bundle-no_float refl

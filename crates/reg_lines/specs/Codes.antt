@@ -26,6 +26,9 @@ key_name key.Domain = codes "domain"
 key_name key.Before = codes "before"
 key_name key.Text = codes "text"
 key_name key.Mode = codes "mode"
+key_name key.Size = codes "size"
+key_name key.From = codes "from"
+key_name key.Match = codes "match"
 
 abbrev pub field_text : Field → List ℕ
 field_text (field.Known k) = key_name k

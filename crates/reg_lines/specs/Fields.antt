@@ -14,6 +14,8 @@ use Rattle.entry_book.specs.Order.{is_before}
 use Rattle.entry_book.specs.Rows.{domain_set}
 use Rattle.entry_book.specs.declared.mode.DropMode.{DropMode}
 use Rattle.entry_book.specs.declared.mode.DropMode.TheVariants.{Restrict, Delete, Dissociate}
+use Rattle.entry_book.specs.declared.page.MatchMode.{MatchMode}
+use Rattle.entry_book.specs.declared.page.MatchMode.TheVariants.{Exact, Any, Superset, Subset}
 use Rattle.rand_chacha.specs.ChaCha.{ChaCha}
 use Rattle.reg_lines.specs.declared.fault.Code.{Code}
 use Rattle.reg_lines.specs.declared.fault.Code.TheVariants as code
@@ -96,6 +98,21 @@ mode_in key d = required key (option_and_then mode_of (as_str d))
 unfoldable pub optional_mode_at : Key → Data → Result (Option DropMode) Fault
 optional_mode_at key d = optional (mode_in key) (given_at key d)
 
+-- how an entry's selectors have to stand to those of a filter
+abbrev pub match_of : List ℕ → Option MatchMode
+match_of text =
+    if bytes_eq text (codes "exact") then Some Exact else (
+    if bytes_eq text (codes "any") then Some Any else (
+    if bytes_eq text (codes "superset") then Some Superset else (
+    if bytes_eq text (codes "subset") then Some Subset else
+    None)))
+
+unfoldable pub match_in : Key → Data → Result MatchMode Fault
+match_in key d = required key (option_and_then match_of (as_str d))
+
+unfoldable pub optional_match_at : Key → Data → Result (Option MatchMode) Fault
+optional_match_at key d = optional (match_in key) (given_at key d)
+
 -- ---- whole numbers
 
 unfoldable pub number_in : Key → Data → Result ℕ Fault
@@ -124,6 +141,14 @@ id_at key d = do
   text ← text_at key d
   unless (coded code.Id (id_refusal text)) key text
 
+unfoldable pub id_in : Key → Data → Result (List ℕ) Fault
+id_in key d = do
+  text ← text_in key d
+  unless (coded code.Id (id_refusal text)) key text
+
+unfoldable pub optional_id_at : Key → Data → Result (Option (List ℕ)) Fault
+optional_id_at key d = optional (id_in key) (given_at key d)
+
 abbrev pub domain_of : Key → List ℕ → Result (List ℕ) Fault
 domain_of key text = unless (coded code.Id (domain_refusal text)) key text
 
@@ -145,6 +170,9 @@ unfoldable pub uuid_at : Key → Data → Result (List ℕ) Fault
 uuid_at key d = do
   text ← text_at key d
   uuid_of key (parsed text)
+
+unfoldable pub optional_uuid_at : Key → Data → Result (Option (List ℕ)) Fault
+optional_uuid_at key d = optional (uuid_in key) (given_at key d)
 
 -- the id at the key, or one that is drawn, and what is left of the ids
 unfoldable pub new_uuid_at : ChaCha → Key → Data → Result (List ℕ × ChaCha) Fault
@@ -173,10 +201,23 @@ selectors_at key d = do
   selectors ← selectors_in key items
   Ok (set_of selectors)
 
+-- the same of a value, and of an optional key
+unfoldable pub selector_set_in : Key → Data → Result (List SelectorPair) Fault
+selector_set_in key d = do
+  items ← required key (as_array d)
+  selectors ← selectors_in key items
+  Ok (set_of selectors)
+
+unfoldable pub optional_selectors_at : Key → Data → Result (Option (List SelectorPair)) Fault
+optional_selectors_at key d = optional (selector_set_in key) (given_at key d)
+
 unfoldable pub domain_in : Key → Data → Result (List ℕ) Fault
 domain_in key d = do
   text ← text_in key d
   domain_of key text
+
+unfoldable pub optional_domain_at : Key → Data → Result (Option (List ℕ)) Fault
+optional_domain_at key d = optional (domain_in key) (given_at key d)
 
 abbrev pub domains_in : Key → Items → Result (List (List ℕ)) Fault
 domains_in key no_items = Ok []

@@ -1,16 +1,21 @@
 -- Which operation an object spells, or the first fault found in it. The order of the lines of each reader is the order of the format.
-use Rattle.std.specs.Prelude.{ℕ, ◌+◌, List, [], ◌∷◌, Some, Result, Ok, Err, bytes_eq, codes, unwrap_or, if◌then◌else◌}
+use Rattle.std.specs.Prelude.{ℕ, ◌+◌, List, [], ◌∷◌, Option, Some, None, Result, Ok, Err, bytes_eq, codes, unwrap_or, if◌then◌else◌}
 use Rattle.serde_json.specs.Data.{Data, Items, no_items, item, Members}
 use Rattle.serde_json.specs.Find.{as_object}
 use Rattle.rand_chacha.specs.ChaCha.{ChaCha}
 use Rattle.entry_book.specs.declared.entry.NewEntry.{NewEntry}
 use Rattle.entry_book.specs.declared.mode.DropMode.TheVariants.{Restrict}
 use Rattle.entry_book.specs.declared.op.Op.{Op}
-use Rattle.entry_book.specs.declared.op.Op.TheVariants.{Create, Update, Delete, Show, ShowAgent, ShowBundle, Children, Authorised, Trust, Prune, SetAgent, DropAgent, SetBundle, DropBundle}
+use Rattle.entry_book.specs.declared.page.Filter.{Filter}
+use Rattle.entry_book.specs.declared.page.MatchMode.{MatchMode}
+use Rattle.entry_book.specs.declared.page.MatchMode.TheVariants.{Superset}
+use Rattle.entry_book.specs.declared.page.SelectorMatch.{SelectorMatch}
+use Rattle.spiffe_name.specs.Selector.{SelectorPair}
+use Rattle.entry_book.specs.declared.op.Op.TheVariants.{Create, Update, Delete, Show, ShowAgent, ShowBundle, Children, Page, Authorised, Trust, Prune, SetAgent, DropAgent, SetBundle, DropBundle}
 use Rattle.reg_lines.specs.declared.fault.Code.TheVariants as code
 use Rattle.reg_lines.specs.declared.fault.Fault.{Fault}
 use Rattle.reg_lines.specs.declared.fault.Key.TheVariants as key
-use Rattle.reg_lines.specs.Fields.{◌>>=◌, at_key, required, text_at, optional_text_at, optional_mode_at, number_at, optional_number_at, id_at, domain_at, uuid_at, new_uuid_at, selectors_at, optional_domains_at, no_others}
+use Rattle.reg_lines.specs.Fields.{◌>>=◌, at_key, required, text_at, optional_text_at, optional_mode_at, number_at, optional_number_at, id_at, optional_id_at, domain_at, optional_domain_at, uuid_at, optional_uuid_at, new_uuid_at, selectors_at, optional_selectors_at, optional_match_at, optional_domains_at, no_others}
 
 -- ---- entries
 
@@ -59,6 +64,30 @@ children_in d ms = do
   parent ← id_at key.Parent d
   none ← no_others (key.Op ∷ key.Parent ∷ []) ms
   Ok (Children parent)
+
+-- a filter's question to selectors; by default the entry's contain those that are given, and without these there is no question
+abbrev pub selector_match : Option (List SelectorPair) → Option MatchMode → Result (Option SelectorMatch) Fault
+selector_match None None = Ok None
+selector_match None (Some mode) = at_key code.Field key.Match
+selector_match (Some selectors) mode = Ok (Some (record { selectors = selectors; mode = unwrap_or mode Superset }))
+
+unfoldable pub filter_in : Data → Result Filter Fault
+filter_in d = do
+  parent ← optional_id_at key.Parent d
+  identity ← optional_id_at key.Identity d
+  domain ← optional_domain_at key.Domain d
+  selectors ← optional_selectors_at key.Selectors d
+  mode ← optional_match_at key.Match d
+  question ← selector_match selectors mode
+  Ok (record { parent = parent; identity = identity; domain = domain; selectors = question })
+
+unfoldable pub page_in : Data → Members → Result Op Fault
+page_in d ms = do
+  size ← number_at key.Size d
+  from ← optional_uuid_at key.From d
+  filter ← filter_in d
+  none ← no_others (key.Op ∷ key.Size ∷ key.From ∷ key.Parent ∷ key.Identity ∷ key.Domain ∷ key.Selectors ∷ key.Match ∷ []) ms
+  Ok (Page (record { size = size; from = from; filter = filter }))
 
 unfoldable pub prune_in : Data → Members → Result Op Fault
 prune_in d ms = do
@@ -136,6 +165,7 @@ undrawn_in name d ms =
     if bytes_eq name (codes "show_agent") then show_agent_in d ms else (
     if bytes_eq name (codes "show_bundle") then show_bundle_in d ms else (
     if bytes_eq name (codes "children") then children_in d ms else (
+    if bytes_eq name (codes "page") then page_in d ms else (
     if bytes_eq name (codes "authorised") then authorised_in d ms else (
     if bytes_eq name (codes "trust") then trust_in d ms else (
     if bytes_eq name (codes "prune") then prune_in d ms else (
@@ -143,7 +173,7 @@ undrawn_in name d ms =
     if bytes_eq name (codes "drop_agent") then drop_agent_in d ms else (
     if bytes_eq name (codes "set_bundle") then set_bundle_in d ms else (
     if bytes_eq name (codes "drop_bundle") then drop_bundle_in d ms else
-    at_key code.Field key.Op))))))))))))
+    at_key code.Field key.Op)))))))))))))
 
 abbrev pub beside : {A : Type 0} → ChaCha → Result A Fault → Result (A × ChaCha) Fault
 beside ids (Ok x) = Ok (x, ids)

@@ -1,5 +1,5 @@
 -- Which line prints the reply to a batch: compact text, the keys of each object in ascending order of their bytes.
-use Rattle.std.specs.Prelude.{ℕ, List, [], ◌++◌, codes, decimal}
+use Rattle.std.specs.Prelude.{ℕ, List, [], ◌++◌, codes, decimal, Option}
 use Rattle.uuid.specs.Text.{hyphenated_text, lower}
 use Rattle.spiffe_name.specs.Selector.{SelectorPair, selector_text}
 use Rattle.entry_book.specs.Codes.{refusal_code, refusal_op}
@@ -61,6 +61,13 @@ bundle_json b =
 unfoldable pub under : List ℕ → List ℕ → List ℕ
 under key text = codes "{" ++ text_json key ++ codes ":" ++ text ++ codes "}"
 
+-- the entries of a page, and the id after which the next one begins, or null
+unfoldable pub page_json : List Entry → Option (List ℕ) → List ℕ
+page_json es next =
+    codes "{\"entries\":" ++ list_json entry_json es
+    ++ codes ",\"next\":" ++ option_json uuid_json next
+    ++ codes "}"
+
 -- what was dropped with a bundle: the ids that were deleted, and those that were dissociated
 unfoldable pub dropped_json : List (List ℕ) → List (List ℕ) → List ℕ
 dropped_json deleted dissociated =
@@ -73,6 +80,7 @@ abbrev pub op_reply_json : OpReply → List ℕ
 op_reply_json (replied.Entry e) = under (codes "entry") (entry_json e)
 op_reply_json (replied.EntryShown e) = under (codes "entry") (option_json entry_json e)
 op_reply_json (replied.Entries es) = under (codes "entries") (list_json entry_json es)
+op_reply_json (replied.Page es next) = page_json es next
 op_reply_json (replied.Agent a) = under (codes "agent") (agent_json a)
 op_reply_json (replied.AgentShown a) = under (codes "agent") (option_json agent_json a)
 op_reply_json (replied.Bundle b) = under (codes "bundle") (bundle_json b)

@@ -74,10 +74,17 @@ dropped_data deleted dissociated = object (
     put (codes "dissociated") (list_data uuid_data dissociated)
     no_members))
 
+abbrev pub page_data : List Entry → Option (List ℕ) → Data
+page_data es next = object (
+    put (codes "entries") (list_data entry_data es) (
+    put (codes "next") (option_data uuid_data next)
+    no_members))
+
 abbrev pub op_reply_data : OpReply → Data
 op_reply_data (replied.Entry e) = object (put (codes "entry") (entry_data e) no_members)
 op_reply_data (replied.EntryShown e) = object (put (codes "entry") (option_data entry_data e) no_members)
 op_reply_data (replied.Entries es) = object (put (codes "entries") (list_data entry_data es) no_members)
+op_reply_data (replied.Page es next) = page_data es next
 op_reply_data (replied.Agent a) = object (put (codes "agent") (agent_data a) no_members)
 op_reply_data (replied.AgentShown a) = object (put (codes "agent") (option_data agent_data a) no_members)
 op_reply_data (replied.Bundle b) = object (put (codes "bundle") (bundle_data b) no_members)

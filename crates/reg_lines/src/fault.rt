@@ -41,6 +41,12 @@ pub enum Key {
     Text,
     /// What becomes of the entries that name a dropped bundle.
     Mode,
+    /// How many entries a page lists at most.
+    Size,
+    /// The id after which a page begins.
+    From,
+    /// How an entry's selectors have to stand to those of a filter.
+    Match,
 }
 
 impl Key {
@@ -65,6 +71,9 @@ impl Key {
             Key::Before => "before",
             Key::Text => "text",
             Key::Mode => "mode",
+            Key::Size => "size",
+            Key::From => "from",
+            Key::Match => "match",
         }
     }
 }

@@ -22,6 +22,8 @@ mod ids;
 #[cfg(test)]
 mod operations;
 #[cfg(test)]
+mod pages;
+#[cfg(test)]
 mod replies;
 #[cfg(test)]
 mod requests;

@@ -1,8 +1,8 @@
 //! Which operations does a line spell, in a text that tables tell?
 
 use crate::answers::{line_of, new_ids, printed};
-use entry_book::{NewEntry, Op};
-use reg_lines::{Ids, read_request};
+use entry_book::{NewEntry, Op, PageQuery, SelectorMatch};
+use reg_lines::{Ids, PrintJson, read_request};
 use spiffe_name::{Failure, TrustDomain};
 use std::alloc::Global;
 use std::process::Abort;
@@ -32,6 +32,32 @@ fn entry_text(alloc: Global, new: &NewEntry) -> Result<String, Fail> {
     Ok(text)
 }
 
+/// What was read of each key of a page; `-` where it isn't there.
+fn page_text(alloc: Global, query: &PageQuery) -> Result<String, Fail> {
+    let mut text = number_text(alloc, Some(query.size))?;
+    let filter = &query.filter;
+    for field in [
+        given_text(alloc, &query.from)?,
+        given_text(alloc, &filter.parent)?,
+        given_text(alloc, &filter.identity)?,
+        given_text(alloc, &filter.domain)?,
+    ] {
+        text.push_str(" ")?;
+        text.push_str(field.as_str())?;
+    }
+    match &filter.selectors {
+        Some(SelectorMatch { selectors, mode }) => Ok(format!(in alloc; "{text} {} {mode:?}", printed(alloc, selectors)?)?),
+        None => Ok(format!(in alloc; "{text} -")?),
+    }
+}
+
+fn given_text<T: PrintJson>(alloc: Global, given: &Option<T>) -> Result<String, Fail> {
+    match given {
+        Some(value) => printed(alloc, value),
+        None => Ok(String::from_str(alloc, "-")?),
+    }
+}
+
 /// The operation's name, and what was read of each of its keys.
 fn op_text(alloc: Global, op: &Op) -> Result<String, Fail> {
     let (name, fields) = match op {
@@ -56,6 +82,7 @@ fn op_text(alloc: Global, op: &Op) -> Result<String, Fail> {
         Op::ShowAgent(agent) => ("show_agent", printed(alloc, agent)?),
         Op::ShowBundle(domain) => ("show_bundle", printed(alloc, domain)?),
         Op::Children(parent) => ("children", printed(alloc, parent)?),
+        Op::Page(query) => ("page", page_text(alloc, query.get())?),
         Op::Authorised(agent) => ("authorised", printed(alloc, agent)?),
         Op::Trust(agent) => ("trust", printed(alloc, agent)?),
         Op::Prune(moment) => ("prune", number_text(alloc, Some(*moment))?),

@@ -4,6 +4,7 @@ mod engine;
 mod ids;
 mod limits;
 mod operations;
+mod pages;
 mod refusals;
 mod runs;
 mod story;

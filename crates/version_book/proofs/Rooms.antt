@@ -17,7 +17,7 @@ use Rattle.entry_book.specs.declared.fault.OpFault.TheVariants.{ForeignId, Empty
 use Rattle.entry_book.specs.declared.mode.DropMode.{DropMode}
 use Rattle.entry_book.specs.declared.mode.DropMode.TheVariants as mode
 use Rattle.entry_book.specs.declared.op.Op.{Op}
-use Rattle.entry_book.specs.declared.op.Op.TheVariants.{Create, Update, Delete, Show, ShowAgent, ShowBundle, Children, Authorised, Trust, Prune, SetAgent, DropAgent, SetBundle, DropBundle}
+use Rattle.entry_book.specs.declared.op.Op.TheVariants.{Create, Update, Delete, Show, ShowAgent, ShowBundle, Children, Page, Authorised, Trust, Prune, SetAgent, DropAgent, SetBundle, DropBundle}
 use Rattle.entry_book.specs.Rows.{Bytes, Entry, at_revision, given_of, entry_key, agent_key, bundle_key}
 use Rattle.entry_book.specs.Order.{Within, is_before, with_row}
 use Rattle.entry_book.specs.Book.{Book, AscendingBook, entry_at, agent_at, bundle_at, names, users_of, expired_before}

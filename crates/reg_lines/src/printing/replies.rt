@@ -1,7 +1,7 @@
 //! Which line prints the reply to a batch?
 
 ghost use Rattle.std.specs.Prelude.{◌++◌, codes};
-ghost use Rattle.reg_lines.specs.Replies.{detail_member, done_json, dropped_json, op_detail_member, op_reply_json, refused_json, reply_json, under};
+ghost use Rattle.reg_lines.specs.Replies.{detail_member, done_json, dropped_json, op_detail_member, op_reply_json, page_json, refused_json, reply_json, under};
 ghost use Rattle.reg_lines.specs.Stream.{Puts};
 
 use crate::devices::output::Output;
@@ -9,7 +9,7 @@ use crate::devices::sink::Sink;
 use crate::printing::json::{PrintJson, print_list, print_number};
 use crate::printing::refusal::put_op;
 use crate::printing::text::print_text;
-use entry_book::{OpRefusal, OpReply, Outcome, Refusal, Reply};
+use entry_book::{Entry, OpRefusal, OpReply, Outcome, Refusal, Reply};
 use uuid::Uuid;
 
 /// An object whose first key says what kind of reply it is. A row that isn't there is `null`.
@@ -21,6 +21,7 @@ impl PrintJson for OpReply {
             OpReply::Entry(entry) => print_under("entry", entry, output),
             OpReply::EntryShown(entry) => print_under("entry", entry, output),
             OpReply::Entries(entries) => print_under("entries", entries, output),
+            OpReply::Page(entries, next) => print_page(entries.as_slice(), next, output),
             OpReply::Agent(agent) => print_under("agent", agent, output),
             OpReply::AgentShown(agent) => print_under("agent", agent, output),
             OpReply::Bundle(bundle) => print_under("bundle", bundle, output),
@@ -42,6 +43,17 @@ fn print_under<T: PrintJson, S: Sink>(key: &str, value: &T, output: &mut Output<
     print_text(key, output);
     output.put(b":");
     value.print_to(output);
+    output.put(b"}");
+}
+
+/// Prints the entries of a page, and the id after which the next one begins.
+fn print_page<S: Sink>(entries: &[Entry], next: &Option<Uuid>, output: &mut Output<S>)
+    ensures { Puts output.old output.new (page_json entries.now next.now) }
+{
+    output.put(b"{\"entries\":");
+    print_list(entries, output);
+    output.put(b",\"next\":");
+    next.print_to(output);
     output.put(b"}");
 }
 

@@ -8,6 +8,7 @@ ghost use Rattle.reg_lines.specs.Operations.{at_op, named_op, op_in, ops_in, und
 mod agents;
 mod bundles;
 mod entries;
+mod pages;
 
 use crate::fault::{Code, Fault, Key};
 use crate::reading::fields::{at_key, text_at};
@@ -16,6 +17,7 @@ use agents::{authorised_in, drop_agent_in, set_agent_in, show_agent_in, trust_in
 use bundles::{drop_bundle_in, set_bundle_in, show_bundle_in};
 use entries::{children_in, create_in, delete_in, prune_in, show_in, update_in};
 use entry_book::{Op, Sequence};
+use pages::page_in;
 use serde_json::{Map, Value};
 use spiffe_name::Failure;
 use std::alloc::Global;
@@ -47,6 +49,9 @@ fn undrawn_in(
     }
     if name == "children" {
         return children_in(alloc, object, members);
+    }
+    if name == "page" {
+        return page_in(alloc, object, members);
     }
     if name == "authorised" {
         return authorised_in(alloc, object, members);

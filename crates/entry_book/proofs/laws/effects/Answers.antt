@@ -5,6 +5,7 @@ use Rattle.entry_book.proofs.EffectsOfRows.{prune_effect, set_agent_effect, drop
 use Rattle.entry_book.proofs.NamedRows.{writes_named}
 use Rattle.entry_book.proofs.Once.{writes_once}
 use Rattle.entry_book.proofs.Refused.{accepted_as_said, refused_as_said}
+use Rattle.entry_book.proofs.Pages.{page_effect}
 use Rattle.entry_book.proofs.laws.effects.Goals as goal
 
 pub returns-clause-create : goal.returns-clause-create
@@ -27,6 +28,9 @@ returns-clause-show_bundle c = show_bundle_effect
 
 pub returns-clause-children : goal.returns-clause-children
 returns-clause-children c = children_effect
+
+pub returns-clause-page : goal.returns-clause-page
+returns-clause-page c = page_effect
 
 pub returns-clause-authorised : goal.returns-clause-authorised
 returns-clause-authorised c = authorised_effect

@@ -3,7 +3,7 @@
 ghost use Rattle.std.specs.Prelude.{◌≡◌, IfOk};
 ghost use Rattle.serde_json.specs.View.{items_view, view};
 ghost use Rattle.entry_book.specs.Rows.{domain_set};
-ghost use Rattle.reg_lines.specs.Fields.{Gives, domain_in, domain_set_in, domains_in, optional_domains_at, selector_in, selectors_at, selectors_in};
+ghost use Rattle.reg_lines.specs.Fields.{Gives, domain_in, domain_set_in, domains_in, optional_domain_at, optional_domains_at, optional_selectors_at, selector_in, selector_set_in, selectors_at, selectors_in};
 
 use super::names::domain_of;
 use super::texts::text_in;
@@ -58,6 +58,33 @@ pub(crate) fn selectors_at(
     Ok(SelectorSet::of(selectors.into_vec())?)
 }
 
+/// The set of the selectors that the items of the key's list are.
+#[tactic(auto, unfolding(crate::specs::Fields::selector_set_in))]
+fn selector_set_in(alloc: Global, value: &Value, key: Key) -> Result<SelectorSet, Failure<Fault>>
+    ensures { Gives (λ set. set) result (selector_set_in key (view value.now)) }
+{
+    let Some(items) = value.as_array() else {
+        return Err(at_key(Code::Field, key));
+    };
+    let selectors = selectors_in(alloc, items, key)?;
+    Ok(SelectorSet::of(selectors.into_vec())?)
+}
+
+/// The set of the selectors that are listed at an optional key.
+#[tactic(auto, unfolding(crate::specs::Fields::optional_selectors_at))]
+pub(crate) fn optional_selectors_at(
+    alloc: Global,
+    object: &Value,
+    key: Key,
+) -> Result<Option<SelectorSet>, Failure<Fault>>
+    ensures { Gives (λ set. set) result (optional_selectors_at key (view object.now)) }
+{
+    let Some(value) = given_at(object, key) else {
+        return Ok(None);
+    };
+    Ok(Some(selector_set_in(alloc, value, key)?))
+}
+
 /// The trust domain that an item of the key's list is.
 #[tactic(auto, unfolding(crate::specs::Fields::domain_in))]
 fn domain_in(alloc: Global, item: &Value, key: Key) -> Result<TrustDomain, Failure<Fault>>
@@ -65,6 +92,21 @@ fn domain_in(alloc: Global, item: &Value, key: Key) -> Result<TrustDomain, Failu
 {
     let text = text_in(item, key)?;
     domain_of(alloc, text, key)
+}
+
+/// The trust domain at an optional key.
+#[tactic(auto, unfolding(crate::specs::Fields::optional_domain_at))]
+pub(crate) fn optional_domain_at(
+    alloc: Global,
+    object: &Value,
+    key: Key,
+) -> Result<Option<TrustDomain>, Failure<Fault>>
+    ensures { Gives (λ domain. domain) result (optional_domain_at key (view object.now)) }
+{
+    let Some(value) = given_at(object, key) else {
+        return Ok(None);
+    };
+    Ok(Some(domain_in(alloc, value, key)?))
 }
 
 /// The trust domains that the items of the key's list are.

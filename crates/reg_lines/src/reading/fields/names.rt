@@ -1,7 +1,7 @@
 //! SPIFFE IDs, trust domains and UUIDs.
 
 ghost use Rattle.serde_json.specs.View.{view};
-ghost use Rattle.reg_lines.specs.Fields.{Gives, domain_at, domain_of, id_at, new_uuid_at, uuid_at, uuid_in, uuid_of};
+ghost use Rattle.reg_lines.specs.Fields.{Gives, domain_at, domain_of, id_at, id_in, new_uuid_at, optional_id_at, optional_uuid_at, uuid_at, uuid_in, uuid_of};
 ghost use Rattle.uuid.specs.Text.{parsed};
 
 use super::texts::{text_at, text_in};
@@ -24,6 +24,34 @@ pub(crate) fn id_at(alloc: Global, object: &Value, key: Key) -> Result<SpiffeId,
         Err(Failure::NoMemory) => Err(Failure::NoMemory),
         Err(Failure::Refused(refusal)) => Err(at_key(Code::Id(refusal), key)),
     }
+}
+
+/// The SPIFFE ID that a value is.
+#[tactic(auto, unfolding(crate::specs::Fields::id_in))]
+fn id_in(alloc: Global, value: &Value, key: Key) -> Result<SpiffeId, Failure<Fault>>
+    ensures { Gives (λ id. id) result (id_in key (view value.now)) }
+{
+    let text = text_in(value, key)?;
+    match SpiffeId::parse(alloc, text) {
+        Ok(id) => Ok(id),
+        Err(Failure::NoMemory) => Err(Failure::NoMemory),
+        Err(Failure::Refused(refusal)) => Err(at_key(Code::Id(refusal), key)),
+    }
+}
+
+/// The SPIFFE ID at an optional key.
+#[tactic(auto, unfolding(crate::specs::Fields::optional_id_at))]
+pub(crate) fn optional_id_at(
+    alloc: Global,
+    object: &Value,
+    key: Key,
+) -> Result<Option<SpiffeId>, Failure<Fault>>
+    ensures { Gives (λ id. id) result (optional_id_at key (view object.now)) }
+{
+    let Some(value) = given_at(object, key) else {
+        return Ok(None);
+    };
+    Ok(Some(id_in(alloc, value, key)?))
 }
 
 /// The trust domain of this text.
@@ -76,6 +104,17 @@ pub(crate) fn uuid_at(object: &Value, key: Key) -> Result<Uuid, Failure<Fault>>
 {
     let text = text_at(object, key)?;
     uuid_of(text, key)
+}
+
+/// The UUID at an optional key.
+#[tactic(auto, unfolding(crate::specs::Fields::optional_uuid_at))]
+pub(crate) fn optional_uuid_at(object: &Value, key: Key) -> Result<Option<Uuid>, Failure<Fault>>
+    ensures { Gives (λ id. id) result (optional_uuid_at key (view object.now)) }
+{
+    let Some(value) = given_at(object, key) else {
+        return Ok(None);
+    };
+    Ok(Some(uuid_in(value, key)?))
 }
 
 /// The UUID at an optional key, or else one that is drawn.

@@ -2,11 +2,11 @@
 
 ghost use Rattle.std.specs.Prelude.{◌≡◌, option_map};
 ghost use Rattle.serde_json.specs.View.{view};
-ghost use Rattle.reg_lines.specs.Fields.{Gives, mode_in, mode_of, optional_mode_at, optional_text_at, text_at, text_in};
+ghost use Rattle.reg_lines.specs.Fields.{Gives, match_in, match_of, mode_in, mode_of, optional_match_at, optional_mode_at, optional_text_at, text_at, text_in};
 
 use super::{at_key, given_at, value_at};
 use crate::fault::{Code, Fault, Key};
-use entry_book::{DropMode, Text};
+use entry_book::{DropMode, MatchMode, Text};
 use serde_json::Value;
 use spiffe_name::Failure;
 use std::alloc::Global;
@@ -85,4 +85,48 @@ pub(crate) fn optional_mode_at(object: &Value, key: Key) -> Result<Option<DropMo
         return Ok(None);
     };
     Ok(Some(mode_in(value, key)?))
+}
+
+/// The way to match that has this name.
+fn match_of(word: &str) -> Option<MatchMode>
+    ensures { result ≡ match_of word.now }
+{
+    if word == "exact" {
+        return Some(MatchMode::Exact);
+    }
+    if word == "any" {
+        return Some(MatchMode::Any);
+    }
+    if word == "superset" {
+        return Some(MatchMode::Superset);
+    }
+    if word == "subset" {
+        return Some(MatchMode::Subset);
+    }
+    None
+}
+
+/// The way to match that a value names.
+#[tactic(auto, unfolding(crate::specs::Fields::match_in))]
+fn match_in(value: &Value, key: Key) -> Result<MatchMode, Failure<Fault>>
+    ensures { Gives (λ mode. mode) result (match_in key (view value.now)) }
+{
+    match value.as_str().and_then(match_of) {
+        Some(mode) => Ok(mode),
+        None => Err(at_key(Code::Field, key)),
+    }
+}
+
+/// The way to match at an optional key.
+#[tactic(auto, unfolding(crate::specs::Fields::optional_match_at))]
+pub(crate) fn optional_match_at(
+    object: &Value,
+    key: Key,
+) -> Result<Option<MatchMode>, Failure<Fault>>
+    ensures { Gives (λ mode. mode) result (optional_match_at key (view object.now)) }
+{
+    let Some(value) = given_at(object, key) else {
+        return Ok(None);
+    };
+    Ok(Some(match_in(value, key)?))
 }

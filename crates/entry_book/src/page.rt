@@ -1,0 +1,156 @@
+//! What does a page of entries ask for?
+
+ghost use Rattle.std.specs.Prelude.{◌≡◌};
+ghost use Rattle.entry_book.specs.Pages.{is_given};
+
+use crate::entry::Entry;
+use crate::shared::Shared;
+use spiffe_name::{SelectorSet, SpiffeId, TrustDomain};
+use std::alloc::AllocError;
+use uuid::Uuid;
+
+/// How an entry's selectors have to stand to those that are given.
+#[derive(Clone, Copy, Debug, PartialEq, Eq, Drop)]
+pub enum MatchMode {
+    /// They are the same set.
+    Exact,
+    /// They have one in common.
+    Any,
+    /// The entry's contain the given ones.
+    Superset,
+    /// The entry's lie within the given ones.
+    Subset,
+}
+
+/// A question to an entry's selectors. A copy of it copies no text.
+#[derive(Drop)]
+pub struct SelectorMatch {
+    /// The selectors that are given.
+    pub selectors: Shared<SelectorSet>,
+    /// How the entry's have to stand to them.
+    pub mode: MatchMode,
+}
+
+impl SelectorMatch {
+    ghost use Rattle.std.specs.Prelude.{◌≡◌};
+    ghost use Rattle.entry_book.specs.Pages.{matches};
+
+    /// Does the entry have such selectors?
+    pub fn matches(&self, entry: &Entry) -> bool
+        ensures { result ≡ matches self.now entry.now }
+    {
+        let given = self.selectors.get();
+        let own = entry.selectors().get();
+        match self.mode {
+            MatchMode::Exact => own == given,
+            MatchMode::Any => own.meets(given),
+            MatchMode::Superset => given.within(own),
+            MatchMode::Subset => own.within(given),
+        }
+    }
+}
+
+impl Clone for SelectorMatch {
+    ghost is_clone = { λ original copy. copy ≡ original };
+
+    fn clone(&self) -> Result<SelectorMatch, AllocError> {
+        Ok(SelectorMatch {
+            selectors: self.selectors.clone()?,
+            mode: self.mode,
+        })
+    }
+}
+
+/// Which entries a page lists: those that meet each part that is given. A copy of it copies no text.
+#[derive(Drop)]
+pub struct Filter {
+    /// The parent of the entry.
+    pub parent: Option<Shared<SpiffeId>>,
+    /// The ID that the workload gets.
+    pub identity: Option<Shared<SpiffeId>>,
+    /// A trust domain that the entry names.
+    pub domain: Option<Shared<TrustDomain>>,
+    /// A question to the entry's selectors.
+    pub selectors: Option<SelectorMatch>,
+}
+
+/// Where an ID is given, is it this one?
+fn is_given(given: &Option<Shared<SpiffeId>>, id: &Shared<SpiffeId>) -> bool
+    ensures { result ≡ is_given given.now id.now }
+{
+    match given {
+        Some(given) => id.get() == given.get(),
+        None => true,
+    }
+}
+
+impl Filter {
+    ghost use Rattle.std.specs.Prelude.{◌≡◌};
+    ghost use Rattle.entry_book.specs.Pages.{passes, passes_domain, passes_selectors};
+
+    /// Does the entry meet each part that is given?
+    pub fn passes(&self, entry: &Entry) -> bool
+        ensures { result ≡ passes self.now entry.now }
+    {
+        is_given(&self.parent, entry.parent())
+            && is_given(&self.identity, entry.identity())
+            && self.passes_domain(entry)
+            && self.passes_selectors(entry)
+    }
+
+    /// Where a trust domain is given, does the entry name it?
+    fn passes_domain(&self, entry: &Entry) -> bool
+        ensures { result ≡ passes_domain self.now.domain entry.now }
+    {
+        match &self.domain {
+            Some(domain) => entry.names(domain.get()),
+            None => true,
+        }
+    }
+
+    /// Where there is a question to selectors, does the entry have such ones?
+    fn passes_selectors(&self, entry: &Entry) -> bool
+        ensures { result ≡ passes_selectors self.now.selectors entry.now }
+    {
+        match &self.selectors {
+            Some(question) => question.matches(entry),
+            None => true,
+        }
+    }
+}
+
+impl Clone for Filter {
+    ghost is_clone = { λ original copy. copy ≡ original };
+
+    fn clone(&self) -> Result<Filter, AllocError> {
+        Ok(Filter {
+            parent: self.parent.clone()?,
+            identity: self.identity.clone()?,
+            domain: self.domain.clone()?,
+            selectors: self.selectors.clone()?,
+        })
+    }
+}
+
+/// One page of entries. A copy of it copies no text.
+#[derive(Drop)]
+pub struct PageQuery {
+    /// How many entries it lists at most, 1 to 500.
+    pub size: u64,
+    /// The id after which it begins, where it doesn't begin with the first entry.
+    pub from: Option<Uuid>,
+    /// Which entries it lists.
+    pub filter: Filter,
+}
+
+impl Clone for PageQuery {
+    ghost is_clone = { λ original copy. copy ≡ original };
+
+    fn clone(&self) -> Result<PageQuery, AllocError> {
+        Ok(PageQuery {
+            size: self.size,
+            from: self.from,
+            filter: self.filter.clone()?,
+        })
+    }
+}

@@ -1,0 +1,63 @@
+//! Which entries does a page list?
+
+ghost use Rattle.std.specs.Prelude.{◌≡◌, ◌&&◌, ◌++◌, ◌∷◌, [], IfOk, OnOk, filter, length, nat_lt, take, if◌then◌else◌, None};
+ghost use Rattle.entry_book.specs.Pages.{comes_after, last_id, passes};
+
+use entry_book::{Entry, PageQuery};
+use std::alloc::{AllocError, Global};
+use uuid::Uuid;
+
+/// Does the entry come after this id, where one is given?
+#[tactic(auto, unfolding(entry_book::specs::Order::is_before))]
+fn comes_after(entry: &Entry, from: Option<Uuid>) -> bool
+    ensures { result ≡ comes_after from entry.now }
+{
+    match from {
+        Some(from) => from.cmp(entry.id()).is_lt(),
+        None => true,
+    }
+}
+
+/// Would the page list the entry, had it room for all?
+fn is_to_list(entry: &Entry, query: &PageQuery) -> bool
+    ensures { result ≡ (passes query.now.filter entry.now && comes_after query.now.from entry.now) }
+{
+    query.filter.passes(entry) && comes_after(entry, query.from)
+}
+
+/// Adds an entry, and answers its id, which is the last one then. The error is want of memory.
+#[tactic(auto, using(entry_book::proofs::Pages::last_of))]
+fn push_last(listed: &mut Vec<Entry>, entry: &Entry) -> Result<Option<Uuid>, AllocError>
+    ensures pushed { OnOk result (listed.new.items ≡ listed.old.items ++ entry.now ∷ []) }
+    ensures last { IfOk result (λ last. last ≡ last_id listed.new.items) }
+{
+    listed.push(entry.clone()?)?;
+    Ok(Some(*entry.id()))
+}
+
+/// The first of these entries that a page lists, as many as it has room for, and the id after which the next page begins,
+/// where there is one. The error is want of memory.
+pub(crate) fn page_of(
+    alloc: Global,
+    entries: &[Entry],
+    query: &PageQuery,
+) -> Result<(Vec<Entry>, Option<Uuid>), AllocError>
+    ensures listed { IfOk result (λ page. page.0.items ≡ take query.now.size
+        (filter (λ entry. passes query.now.filter entry && comes_after query.now.from entry) entries.now)) }
+    ensures next { IfOk result (λ page. page.1 ≡ (
+        if nat_lt query.now.size (length (filter (λ entry. passes query.now.filter entry && comes_after query.now.from entry) entries.now))
+        then last_id page.0.items
+        else None)) }
+{
+    let mut listed = Vec::new(alloc);
+    let mut last = None;
+    for entry in entries {
+        if is_to_list(entry, query) {
+            if listed.len() as u64 == query.size {
+                return Ok((listed, last));
+            }
+            last = push_last(&mut listed, entry)?;
+        }
+    }
+    Ok((listed, None))
+}

@@ -1,0 +1,75 @@
+//! Which keys has a page, what do they spell, and what is printed of its reply?
+
+use crate::answers::printed;
+use crate::spelled::spells;
+use entry_book::{OpReply, Sequence};
+use std::test::Fail;
+use uuid::Uuid;
+
+/// Lines of pages, and what each spells.
+const PAGES: &str = r#"
+# the optional keys, and their defaults; null is as if the key were absent
+{"ops":[{"op":"page","size":1}]} => 1; page 1 - - - - -
+{"ops":[{"op":"page","size":500,"from":null,"parent":null,"identity":null,"domain":null,"selectors":null,"match":null}]} => 1; page 500 - - - - -
+{"ops":[{"op":"page","size":2,"from":"00000000-0000-0000-0000-000000000002","parent":"spiffe://ex.org/a","identity":"spiffe://ex.org/b","domain":"b.org","selectors":["u:2","u:1","u:2"],"match":"exact"}]} => 1; page 2 "00000000-0000-0000-0000-000000000002" "spiffe://ex.org/a" "spiffe://ex.org/b" "b.org" ["u:1","u:2"] Exact
+{"ops":[{"op":"page","match":"any","selectors":["u:1"],"size":2}]} => 1; page 2 - - - - ["u:1"] Any
+{"ops":[{"op":"page","size":2,"selectors":["u:1"],"match":"subset"}]} => 1; page 2 - - - - ["u:1"] Subset
+{"ops":[{"op":"page","size":2,"selectors":["u:1"],"match":"superset"}]} => 1; page 2 - - - - ["u:1"] Superset
+{"ops":[{"op":"page","size":2,"selectors":["u:1"]}]} => 1; page 2 - - - - ["u:1"] Superset
+{"ops":[{"op":"page","size":2,"selectors":["u:1"],"match":null}]} => 1; page 2 - - - - ["u:1"] Superset
+{"ops":[{"op":"page","size":2,"from":"{00000000-0000-0000-0000-000000000002}"}]} => 1; page 2 "00000000-0000-0000-0000-000000000002" - - - -
+{"ops":[{"op":"page","size":100,"from":"00000000-0000-0000-0000-000000000001","parent":"spiffe://ex.org/spire/agent/n1","identity":"spiffe://ex.org/web","domain":"b.org","selectors":["unix:uid:1000"],"match":"superset"}]} => 1; page 100 "00000000-0000-0000-0000-000000000001" "spiffe://ex.org/spire/agent/n1" "spiffe://ex.org/web" "b.org" ["unix:uid:1000"] Superset
+# the keys in their order
+{"ops":[{"op":"page","from":7,"parent":7}]} => {"code":"L5","field":"size","line":1,"op":0}
+{"ops":[{"op":"page","size":null,"from":7}]} => {"code":"L5","field":"size","line":1,"op":0}
+{"ops":[{"op":"page","size":-1,"from":7}]} => {"code":"L5","field":"size","line":1,"op":0}
+{"ops":[{"op":"page","size":1.0,"from":7}]} => {"code":"L5","field":"size","line":1,"op":0}
+{"ops":[{"op":"page","size":"1","from":7}]} => {"code":"L5","field":"size","line":1,"op":0}
+{"ops":[{"op":"page","size":1,"from":7,"parent":7}]} => {"code":"L5","field":"from","line":1,"op":0}
+{"ops":[{"op":"page","size":1,"from":"","parent":7}]} => {"code":"U1","field":"from","line":1,"op":0}
+{"ops":[{"op":"page","size":1,"parent":7,"identity":7}]} => {"code":"L5","field":"parent","line":1,"op":0}
+{"ops":[{"op":"page","size":1,"parent":"spiffe://ex.org/","identity":7}]} => {"code":"I6","field":"parent","line":1,"op":0}
+{"ops":[{"op":"page","size":1,"identity":7,"domain":7}]} => {"code":"L5","field":"identity","line":1,"op":0}
+{"ops":[{"op":"page","size":1,"identity":"http://ex.org","domain":7}]} => {"code":"I2","field":"identity","line":1,"op":0}
+{"ops":[{"op":"page","size":1,"domain":7,"selectors":7}]} => {"code":"L5","field":"domain","line":1,"op":0}
+{"ops":[{"op":"page","size":1,"domain":"B.org","selectors":7}]} => {"code":"I5","field":"domain","line":1,"op":0}
+{"ops":[{"op":"page","size":1,"selectors":7,"match":7}]} => {"code":"L5","field":"selectors","line":1,"op":0}
+{"ops":[{"op":"page","size":1,"selectors":[7],"match":7}]} => {"code":"L5","field":"selectors","line":1,"op":0}
+{"ops":[{"op":"page","size":1,"selectors":["unix"],"match":7}]} => {"code":"S2","field":"selectors","line":1,"op":0}
+{"ops":[{"op":"page","size":1,"selectors":["u:1"],"match":7,"zz":1}]} => {"code":"L5","field":"match","line":1,"op":0}
+{"ops":[{"op":"page","size":1,"selectors":["u:1"],"match":"Exact","zz":1}]} => {"code":"L5","field":"match","line":1,"op":0}
+{"ops":[{"op":"page","size":1,"selectors":["u:1"],"match":"","zz":1}]} => {"code":"L5","field":"match","line":1,"op":0}
+{"ops":[{"op":"page","size":1,"zz":1,"agent":1}]} => {"code":"L5","field":"agent","line":1,"op":0}
+{"ops":[{"op":"page","size":1,"domains":["b.org"]}]} => {"code":"L5","field":"domains","line":1,"op":0}
+# a way to match without selectors
+{"ops":[{"op":"page","size":1,"match":"any"}]} => {"code":"L5","field":"match","line":1,"op":0}
+{"ops":[{"op":"page","size":1,"selectors":null,"match":"any","zz":1}]} => {"code":"L5","field":"match","line":1,"op":0}
+{"ops":[{"op":"page","size":1,"match":7}]} => {"code":"L5","field":"match","line":1,"op":0}
+# pages that no batch can have
+{"ops":[{"op":"page","size":0}]} => {"code":"B9","line":1,"op":0}
+{"ops":[{"op":"page","size":501}]} => {"code":"B9","line":1,"op":0}
+{"ops":[{"op":"page","size":18446744073709551615}]} => {"code":"B9","line":1,"op":0}
+{"ops":[{"op":"page","size":1,"selectors":[]}]} => {"code":"B6","line":1,"op":0}
+{"ops":[{"op":"page","size":0,"parent":"spiffe://b.org/a"}]} => {"code":"B3","line":1,"op":0}
+{"ops":[{"op":"page","size":0,"identity":"spiffe://ex.org"}]} => {"code":"B4","line":1,"op":0}
+"#;
+
+#[test]
+fn pages_are_read_key_by_key(rt: HostRuntime) -> Result<(), Fail> {
+    spells(&rt, rt.alloc(), PAGES)
+}
+
+#[test]
+fn the_id_after_which_the_next_page_begins_is_printed_or_null(rt: HostRuntime) -> Result<(), Fail> {
+    for (next, text) in [
+        (None, r#"{"entries":[],"next":null}"#),
+        (
+            Some(Uuid::from_u64_pair(0, 2)),
+            r#"{"entries":[],"next":"00000000-0000-0000-0000-000000000002"}"#,
+        ),
+    ] {
+        let reply = OpReply::Page(Sequence::empty(rt.alloc()), next);
+        assert_eq!(rt; printed(rt.alloc(), &reply)?.as_str(), text);
+    }
+    Ok(())
+}
