@@ -2,7 +2,8 @@
 //!
 //! The crate has tests alone, over the public calls of `entry_book`:
 //!
-//! - `batches`: batches and their refusals; `rows`: what rows are made of; `limits`: when a limit comes; `laws`: each law is called.
+//! - `batches`: batches and their refusals; `rows`: what rows are made of; `limits`: when a limit comes; `laws`: each law is
+//!   called.
 //! - `making`: entries, and the parts of operations.
 #![tactic(auto)]
 
