@@ -1,11 +1,9 @@
 -- How the list of all books grows, and that each of them is lawful.
-use Rattle.std.proofs.Common.{◌≡◌, ℕ, zero, suc, ◌+◌, ◌-◌, ◌*◌, ◌<◌, ◌≤◌, Bool, true, false, cond, List, [], ◌∷◌, ◌++◌, length, Option, Some, None, Ok, Err, refl, sym, ap, subst, ◌∙◌, ⊎_elim, IfOk, arith, length-append}
-use Rattle.std.specs.Prelude.{slice_get, ◌↔◌, nat_lt}
+use Rattle.std.proofs.Common.{◌≡◌, ℕ, zero, suc, ◌+◌, ◌-◌, ◌*◌, ◌<◌, ◌≤◌, Bool, true, false, List, [], ◌∷◌, ◌++◌, length, Option, Some, None, Ok, Err, refl, sym, ap, subst, ◌∙◌, ⊎_elim, IfOk, arith, length-append}
+use Rattle.std.specs.Prelude.{slice_get, ◌↔◌, ◌^◌}
 use Rattle.std.specs.List.{AllByRecursion}
 use Rattle.std.proofs.lemmas.Bool.{cases_Bool}
-use Rattle.std.proofs.lemmas.Bool.Decides.{nat_tests}
 use Rattle.entry_book.specs.declared.limit.Limit.{Limit}
-use Rattle.entry_book.specs.declared.limit.Limit.TheVariants.{History}
 use Rattle.entry_book.specs.declared.reply.OpReply.{OpReply}
 use Rattle.entry_book.specs.Rows.{Bytes}
 use Rattle.entry_book.specs.Book.{Book, empty_book}
@@ -19,6 +17,7 @@ use Rattle.entry_book.proofs.Keeps.{run_keeps}
 use Rattle.entry_book.proofs.LawfulRows.{wider}
 use Rattle.entry_book.proofs.Faults.{few_ops, no_fault}
 use Rattle.entry_book.proofs.Sets.{All-more}
+use Rattle.entry_book.proofs.WithinLimits.{none_is_passed}
 
 -- ---- one batch
 
@@ -107,28 +106,24 @@ history_goes_on own batch books h m =
 
 -- ---- a history ends
 
-none_when : (t : Bool) (limit : Limit) (later : Option Limit) → cond t (Some limit) later ≡ None → t ≡ false
-none_when true limit later h = cc
-none_when false limit later h = refl
+-- within the limits, the place is below 2^48
+pub place_within : (n : ℕ) (b : Book) → limit_passed n b ≡ None → n < 2 ^ 48
+place_within n b h = ((none_is_passed n b).0 h).0
 
--- within the limits, the place is at most 65,535
-pub place_within : (n : ℕ) (b : Book) → limit_passed n b ≡ None → n ≤ 65535
-place_within n b h = let q = none_when (nat_lt 65535 n) History _ h in grind (arith, nat_tests, q)
-
-few_with : (books : List Book) (c : Book) (replies : List OpReply) (o : Option Limit) → limit_passed (place_of books) c ≡ o → length books ≤ 65537 → length (books_with books (adds_within o replies c)) ≤ 65537
+few_with : (books : List Book) (c : Book) (replies : List OpReply) (o : Option Limit) → limit_passed (place_of books) c ≡ o → length books ≤ 2 ^ 48 + 1 → length (books_with books (adds_within o replies c)) ≤ 2 ^ 48 + 1
 few_with books c replies (Some limit) h l = l
 few_with books c replies None h l = let k = place_within (place_of books) c h in let n = length-append books (c ∷ []) in omega arith
 
-few_when : (query : Bool) (books : List Book) (b : Book) (r : RunResult) → length books ≤ 65537 → length (books_with books (verdict_when query (place_of books) b r)) ≤ 65537
+few_when : (query : Bool) (books : List Book) (b : Book) (r : RunResult) → length books ≤ 2 ^ 48 + 1 → length (books_with books (verdict_when query (place_of books) b r)) ≤ 2 ^ 48 + 1
 few_when query books b (Err s) l = l
 few_when true books b (Ok t) l = l
 few_when false books b (Ok t) l = few_with books (after t.writes b) t.replies (limit_passed (place_of books) (after t.writes b)) refl l
 
-few_from : (books : List Book) (batches : List Batch) → length books ≤ 65537 → length (books_from books batches) ≤ 65537
+few_from : (books : List Book) (batches : List Batch) → length books ≤ 2 ^ 48 + 1 → length (books_from books batches) ≤ 2 ^ 48 + 1
 few_from books [] l = l
 few_from books (x ∷ xs) l = few_from (books_after x books) xs (few_when (is_query x.ops) books (last_book books) (run x.domain x.ops (last_book books)) l)
 
-pub history_bounded : (own : Bytes) (books : List Book) → IsHistory own books → length books ≤ 65537
+pub history_bounded : (own : Bytes) (books : List Book) → IsHistory own books → length books ≤ 2 ^ 48 + 1
 history_bounded own books h =
     let leads : Leads own h.0 books = h.1 in
     let few = few_from first_books h.0 (omega arith) in

@@ -50,10 +50,10 @@ selectors_said (Some m) e = matches_said m.mode m.selectors e.selectors
 pub passes_said : (f : Filter) (e : Entry) → (passes f e ≡ true) ↔ Passes f e
 passes_said f e = (
   λ h.
-    let s = and_parts _ _ h in
-    let d = and_parts _ _ s.0 in
-    let i = and_parts _ _ d.0 in
-    record { parent = (given_said f.parent e.parent).0 i.0; identity = (given_said f.identity e.identity).0 i.1; domain = (domain_said f.domain e).0 d.1; selectors = (selectors_said f.selectors e).0 s.1 },
+      let s = and_parts _ _ h in
+      let d = and_parts _ _ s.0 in
+      let i = and_parts _ _ d.0 in
+      record { parent = (given_said f.parent e.parent).0 i.0; identity = (given_said f.identity e.identity).0 i.1; domain = (domain_said f.domain e).0 d.1; selectors = (selectors_said f.selectors e).0 s.1 },
   λ v. and_from _ _ (and_from _ _ (and_from _ _ ((given_said f.parent e.parent).1 v.parent) ((given_said f.identity e.identity).1 v.identity)) ((domain_said f.domain e).1 v.domain)) ((selectors_said f.selectors e).1 v.selectors),
 )
 
@@ -66,9 +66,9 @@ after_said (Some k) e = (λ h. h, λ h. h)
 to_list_said : (p : PageQuery) (b : Book) (e : Entry) → Within (to_list p b) e ↔ IsToList p b e
 to_list_said p b e = (
   λ w.
-    let r = from_within_filter (comes_after p.from) (passing p.filter b) e w in
-    let q = from_within_filter (passes p.filter) b.entries e r.0 in
-    record { of_book = q.0; passes = (passes_said p.filter e).0 q.1; later = (after_said p.from e).0 r.1 },
+      let r = from_within_filter (comes_after p.from) (passing p.filter b) e w in
+      let q = from_within_filter (passes p.filter) b.entries e r.0 in
+      record { of_book = q.0; passes = (passes_said p.filter e).0 q.1; later = (after_said p.from e).0 r.1 },
   λ v. within_filter (comes_after p.from) (passing p.filter b) e (within_filter (passes p.filter) b.entries e v.of_book ((passes_said p.filter e).1 v.passes)) ((after_said p.from e).1 v.later),
 )
 
@@ -256,12 +256,12 @@ all_from zero p b from a h l = ⊎_elim
 all_from (suc m) p b from a h l = ⊎_elim
     (λ v. subst (PageAfterPage p b from) (whole p.size (from_on p b from) v.0) (last_page from v.1))
     (λ f.
-      let q = next_page p b from f.id a f.ends in
-      let s = ap length q in
-      let t = length-append (take p.size (from_on p b from)) (from_on p b (Some f.id)) in
-      let w = f.more in
-      let u = length-take-le p.size (from_on p b from) (omega arith) in
-      subst (PageAfterPage p b from) q (one_more from f.id (from_on p b (Some f.id)) f.next_is (all_from m p b (Some f.id) a h (omega arith))))
+    let q = next_page p b from f.id a f.ends in
+    let s = ap length q in
+    let t = length-append (take p.size (from_on p b from)) (from_on p b (Some f.id)) in
+    let w = f.more in
+    let u = length-take-le p.size (from_on p b from) (omega arith) in
+    subst (PageAfterPage p b from) q (one_more from f.id (from_on p b (Some f.id)) f.next_is (all_from m p b (Some f.id) a h (omega arith))))
     (in_two p.size (from_on p b from) h)
 
 from_start : {X : Type 0} (xs : List X) → filter (λ x. true) xs ≡ xs
@@ -279,10 +279,10 @@ once p b _ _ a h (last_page from none) = ⊎_elim
 once p b _ _ a h (one_more from k later next rest) = ⊎_elim
     (λ v. let q : Some k ≡ None = sym next ∙ v.1 in absurd (cc))
     (λ f.
-      let q : Some k ≡ Some f.id = sym next ∙ f.next_is in
-      let i : k ≡ f.id = cc in
-      let r = once p b (Some k) later a h rest in
-      ap (λ l. take p.size (from_on p b from) ++ l) r ∙ ap (λ j. take p.size (from_on p b from) ++ from_on p b (Some j)) i ∙ next_page p b from f.id a f.ends)
+    let q : Some k ≡ Some f.id = sym next ∙ f.next_is in
+    let i : k ≡ f.id = cc in
+    let r = once p b (Some k) later a h rest in
+    ap (λ l. take p.size (from_on p b from) ++ l) r ∙ ap (λ j. take p.size (from_on p b from) ++ from_on p b (Some j)) i ∙ next_page p b from f.id a f.ends)
     (in_two p.size (from_on p b from) h)
 
 pub pages_list_once : (p : PageQuery) (b : Book) (es : List Entry) → AscendingBook b → 0 < p.size → PageAfterPage p b None es → es ≡ passing p.filter b

@@ -128,27 +128,27 @@ page_faults : (own : Bytes) (q : PageQuery) → IsProperPage q → (page_fault o
 unfolding page_fault
 page_faults own q p = (
   λ h.
-    let a = passes _ _ _ h in
-    let foreign = neither _ _ a.0 in
-    let b = passes _ _ _ a.1 in
-    let bare = neither _ _ b.0 in
-    let c = passes _ _ _ b.1 in
-    let d = passes _ _ _ c.1 in
-    let s = neither _ _ d.0 in
-    record {
-      parent = given_ids own q.filter.parent p.parent foreign.0 bare.0;
-      identity = given_ids own q.filter.identity p.identity foreign.1 bare.1;
-      selectors = given_few q.filter.selectors c.0;
-      some_room = at_least 1 q.size s.0;
-      size = at_most 500 q.size s.1;
-    },
+      let a = passes _ _ _ h in
+      let foreign = neither _ _ a.0 in
+      let b = passes _ _ _ a.1 in
+      let bare = neither _ _ b.0 in
+      let c = passes _ _ _ b.1 in
+      let d = passes _ _ _ c.1 in
+      let s = neither _ _ d.0 in
+      record {
+        parent = given_ids own q.filter.parent p.parent foreign.0 bare.0;
+        identity = given_ids own q.filter.identity p.identity foreign.1 bare.1;
+        selectors = given_few q.filter.selectors c.0;
+        some_room = at_least 1 q.size s.0;
+        size = at_most 500 q.size s.1;
+      },
   λ v.
-    let r = from_given_ids own q.filter.parent v.parent in
-    let i = from_given_ids own q.filter.identity v.identity in
-    passed _ _ _ (not_either _ _ r.0 i.0)
-    (passed _ _ _ (not_either _ _ r.1 i.1)
-    (passed _ _ _ (from_given_few q.filter.selectors v.selectors)
-    (passed _ _ _ (not_either _ _ (not_more q.size 1 v.some_room) (not_more 500 q.size v.size)) refl))),
+      let r = from_given_ids own q.filter.parent v.parent in
+      let i = from_given_ids own q.filter.identity v.identity in
+      passed _ _ _ (not_either _ _ r.0 i.0)
+      (passed _ _ _ (not_either _ _ r.1 i.1)
+      (passed _ _ _ (from_given_few q.filter.selectors v.selectors)
+      (passed _ _ _ (not_either _ _ (not_more q.size 1 v.some_room) (not_more 500 q.size v.size)) refl))),
 )
 
 asked_faults : (own id : Bytes) → IsId id → (asked_fault own id ≡ None) ↔ IsAgentIdOf own id

@@ -1,6 +1,6 @@
 -- When no limit is passed, and that no book of a history passes one.
 use Rattle.std.proofs.Common.{◌≡◌, ℕ, zero, suc, ◌<◌, ◌≤◌, Bool, true, false, cond, List, [], ◌∷◌, length, Option, Some, None, Ok, Err, refl, sym, ap, subst, ◌∙◌, ◌↔◌, arith}
-use Rattle.std.specs.Prelude.{slice_get, nat_lt}
+use Rattle.std.specs.Prelude.{◌^◌, slice_get, nat_lt, not}
 use Rattle.std.specs.List.{AllByRecursion}
 use Rattle.std.proofs.lemmas.Bool.Decides.{nat_tests}
 use Rattle.entry_book.specs.declared.limit.Limit.{Limit}
@@ -36,17 +36,22 @@ passed_not n m h = grind (arith, nat_tests, h)
 not_passed : (n m : ℕ) → m ≤ n → nat_lt n m ≡ false
 not_passed n m h = grind (arith, nat_tests, h)
 
-pub none_is_passed : (place : ℕ) (b : Book) → (limit_passed place b ≡ None) ↔ ((place < 65536) × IsWithinLimits b)
+below : (n m : ℕ) → not (nat_lt n m) ≡ false → n < m
+below n m h = grind (arith, nat_tests, h)
+
+not_from : (n m : ℕ) → n < m → not (nat_lt n m) ≡ false
+not_from n m h = grind (arith, nat_tests, h)
+
+pub none_is_passed : (place : ℕ) (b : Book) → (limit_passed place b ≡ None) ↔ ((place < 2 ^ 48) × IsWithinLimits b)
 none_is_passed place b = (
   λ h.
-      let k = all_fail (nat_lt 65535 place) (nat_lt 16384 (length b.entries)) (nat_lt 4096 (length b.agents)) (nat_lt 1024 (length b.bundles)) h in
-      let p = passed_not 65535 place k.0 in
-      (omega arith, record { entries = passed_not 16384 (length b.entries) k.1; agents = passed_not 4096 (length b.agents) k.2; bundles = passed_not 1024 (length b.bundles) k.3 }),
+      let k = all_fail (not (nat_lt place (2 ^ 48))) (nat_lt 16384 (length b.entries)) (nat_lt 4096 (length b.agents)) (nat_lt 1024 (length b.bundles)) h in
+      (below place (2 ^ 48) k.0, record { entries = passed_not 16384 (length b.entries) k.1; agents = passed_not 4096 (length b.agents) k.2; bundles = passed_not 1024 (length b.bundles) k.3 }),
   λ h.
       let p = h.0 in
       let w : IsWithinLimits b = h.1 in
-      lines_none (nat_lt 65535 place) (nat_lt 16384 (length b.entries)) (nat_lt 4096 (length b.agents)) (nat_lt 1024 (length b.bundles))
-      (not_passed 65535 place (omega arith)) (not_passed 16384 (length b.entries) w.entries) (not_passed 4096 (length b.agents) w.agents) (not_passed 1024 (length b.bundles) w.bundles),
+      lines_none (not (nat_lt place (2 ^ 48))) (nat_lt 16384 (length b.entries)) (nat_lt 4096 (length b.agents)) (nat_lt 1024 (length b.bundles))
+      (not_from place (2 ^ 48) p) (not_passed 16384 (length b.entries) w.entries) (not_passed 4096 (length b.agents) w.agents) (not_passed 1024 (length b.bundles) w.bundles),
 )
 
 -- ---- the books of a history

@@ -1,5 +1,5 @@
 -- The laws of the book. Each is a clause of a function of the module `laws`.
-use Rattle.std.specs.Prelude.{◌≡◌, ◌↔◌, ◌⊎◌, ℕ, ◌+◌, ◌*◌, ◌<◌, ◌≤◌, true, false, List, [], ◌∷◌, ◌++◌, length, map, Option, Some, None, Ok, Err, IfOk, MatchResult, slice_get, Contains, ⊤}
+use Rattle.std.specs.Prelude.{◌≡◌, ◌↔◌, ◌⊎◌, ℕ, ◌+◌, ◌*◌, ◌^◌, ◌<◌, ◌≤◌, true, false, List, [], ◌∷◌, ◌++◌, length, map, Option, Some, None, Ok, Err, IfOk, MatchResult, slice_get, Contains, ⊤}
 use Rattle.std.specs.List.{AllByRecursion}
 use Rattle.spiffe_name.specs.Id.{server_text}
 use Rattle.entry_book.specs.declared.agent.Agent.{Agent}
@@ -307,15 +307,15 @@ pub record IsWithinLimits (b : Book) : Type 0 where
   pub bundles : length b.bundles ≤ 1024
 
 abbrev pub NoneIsPassed : Type 0
-NoneIsPassed = (place : ℕ) (b : Book) → (limit_passed place b ≡ None) ↔ ((place < 65536) × IsWithinLimits b)
+NoneIsPassed = (place : ℕ) (b : Book) → (limit_passed place b ≡ None) ↔ ((place < 2 ^ 48) × IsWithinLimits b)
 
 -- each book of a history is within the limits
 abbrev pub AllWithinLimits : Type 0
 AllWithinLimits = (own : Bytes) (books : List Book) → IsHistory own books → (n : ℕ) (b : Book) → slice_get books n ≡ Some b → IsWithinLimits b
 
--- a history has at most 65,536 books after the first
+-- a history has at most 2^48 books after the first
 abbrev pub HistoryBounded : Type 0
-HistoryBounded = (own : Bytes) (books : List Book) → IsHistory own books → length books ≤ 65537
+HistoryBounded = (own : Bytes) (books : List Book) → IsHistory own books → length books ≤ 2 ^ 48 + 1
 
 -- the books after one batch more
 abbrev pub OneMore : Type 0

@@ -1,5 +1,5 @@
 -- How large a book and its history may become. A batch of changes is held against this after all its operations.
-use Rattle.std.specs.Prelude.{ℕ, length, nat_lt, Option, None}
+use Rattle.std.specs.Prelude.{ℕ, ◌^◌, length, nat_lt, not, Option, None}
 use Rattle.spiffe_name.specs.Failures.{refuse_if}
 use Rattle.entry_book.specs.declared.limit.Limit.{Limit}
 use Rattle.entry_book.specs.declared.limit.Limit.TheVariants.{History, Entries, Agents, Bundles}
@@ -8,7 +8,7 @@ use Rattle.entry_book.specs.Book.{Book}
 -- the first limit that is passed by a book of so many entries, agents and bundles that is to follow the one at this place; the place is the count of batches committed so far
 abbrev pub limit_over : ℕ → ℕ → ℕ → ℕ → Option Limit
 limit_over place entries agents bundles =
-    refuse_if (nat_lt 65535 place) History (
+    refuse_if (not (nat_lt place (2 ^ 48))) History (
     refuse_if (nat_lt 16384 entries) Entries (
     refuse_if (nat_lt 4096 agents) Agents (
     refuse_if (nat_lt 1024 bundles) Bundles

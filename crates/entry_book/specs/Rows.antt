@@ -23,15 +23,17 @@ pub record Entry : Type 0 where
   pub hint : Bytes
   pub domains : List Bytes
   pub expiry : ℕ
+  pub x509_svid_ttl : ℕ
+  pub jwt_svid_ttl : ℕ
   pub revision : ℕ
 
 -- the entry that was given, at this revision
 abbrev pub at_revision : ℕ → NewEntry → Entry
-at_revision n e = record { id = e.id; parent = e.parent; identity = e.identity; selectors = e.selectors; hint = e.hint; domains = e.domains; expiry = e.expiry; revision = n }
+at_revision n e = record { id = e.id; parent = e.parent; identity = e.identity; selectors = e.selectors; hint = e.hint; domains = e.domains; expiry = e.expiry; x509_svid_ttl = e.x509_svid_ttl; jwt_svid_ttl = e.jwt_svid_ttl; revision = n }
 
 -- what was given of the entry
 abbrev pub given_of : Entry → NewEntry
-given_of e = record { id = e.id; parent = e.parent; identity = e.identity; selectors = e.selectors; hint = e.hint; domains = e.domains; expiry = e.expiry }
+given_of e = record { id = e.id; parent = e.parent; identity = e.identity; selectors = e.selectors; hint = e.hint; domains = e.domains; expiry = e.expiry; x509_svid_ttl = e.x509_svid_ttl; jwt_svid_ttl = e.jwt_svid_ttl }
 
 -- what keeps the rows of each set apart
 abbrev pub entry_key : Entry → Bytes

@@ -37,7 +37,7 @@ abbrev pub selector : Bytes → Bytes → SelectorPair
 selector t v = record { type = t; value = v }
 
 abbrev pub entry : ℕ → Bytes → Bytes → List SelectorPair → Entry
-entry n parent identity selectors = record { id = uuid_of n; parent = parent; identity = identity; selectors = selectors; hint = []; domains = []; expiry = 0; revision = 0 }
+entry n parent identity selectors = record { id = uuid_of n; parent = parent; identity = identity; selectors = selectors; hint = []; domains = []; expiry = 0; x509_svid_ttl = 0; jwt_svid_ttl = 0; revision = 0 }
 
 abbrev pub agent : List SelectorPair → Agent
 agent selectors = record { id = agent_id; selectors = selectors }

@@ -27,6 +27,10 @@ pub struct NewEntry {
     pub domains: DomainSet,
     /// Seconds since the epoch, 0 for none.
     pub expiry: u64,
+    /// How long an X.509 document of the identity is good, in seconds; 0 for the server's default.
+    pub x509_svid_ttl: u64,
+    /// How long a JWT of the identity is good, in seconds; 0 for the server's default.
+    pub jwt_svid_ttl: u64,
 }
 
 impl NewEntry {
@@ -47,12 +51,14 @@ impl NewEntry {
             hint: self.hint.clone()?,
             domains,
             expiry: self.expiry,
+            x509_svid_ttl: self.x509_svid_ttl,
+            jwt_svid_ttl: self.jwt_svid_ttl,
         })
     }
 }
 
 /// An entry of the book: what was given, and how often it was changed since. A copy of it copies no text. A contract
-/// sees it as a record of its eight fields.
+/// sees it as a record of its ten fields.
 #[derive(Drop)]
 pub struct Entry {
     given: Shared<NewEntry>,
@@ -130,6 +136,20 @@ impl Entry {
         ensures { result ≡ self.now.expiry }
     {
         self.given.get().expiry
+    }
+
+    /// How long an X.509 document of the identity is good, in seconds; 0 for the server's default.
+    pub fn x509_svid_ttl(&self) -> u64
+        ensures { result ≡ self.now.x509_svid_ttl }
+    {
+        self.given.get().x509_svid_ttl
+    }
+
+    /// How long a JWT of the identity is good, in seconds; 0 for the server's default.
+    pub fn jwt_svid_ttl(&self) -> u64
+        ensures { result ≡ self.now.jwt_svid_ttl }
+    {
+        self.given.get().jwt_svid_ttl
     }
 
     /// How often the entry was changed since it was added.

@@ -8,7 +8,7 @@ ghost use Rattle.entry_book.specs.Limits.{limit_over};
 /// large. The first that holds, in this order.
 #[derive(Clone, Copy, Debug, PartialEq, Eq, Drop)]
 pub enum Limit {
-    /// 65,536 batches are committed already.
+    /// 2^48 batches are committed already.
     History,
     /// The new book would have over 16,384 entries.
     Entries,
@@ -37,7 +37,7 @@ impl Limit {
 pub fn limit_passed(place: u64, entries: usize, agents: usize, bundles: usize) -> Option<Limit>
     ensures { result ≡ limit_over place entries agents bundles }
 {
-    if place > 65_535 {
+    if place >= 1 << 48 {
         return Some(Limit::History);
     }
     if entries > 16_384 {

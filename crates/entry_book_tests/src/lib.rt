@@ -2,7 +2,8 @@
 //!
 //! The crate has tests alone, over the public calls of `entry_book`:
 //!
-//! - `batches`: batches and their refusals; `pages`: those of pages, and which entries a filter passes; `rows`: what rows are made of; `laws`: each law is called.
+//! - `batches`: batches and their refusals; `pages`: those of pages, and which entries a filter passes; `rows`: what rows
+//!   are made of; `limits`: when a limit comes; `laws`: each law is called.
 //! - `making`: entries, and the parts of operations.
 #![tactic(auto)]
 
@@ -10,6 +11,8 @@
 mod batches;
 #[cfg(test)]
 mod laws;
+#[cfg(test)]
+mod limits;
 #[cfg(test)]
 mod making;
 #[cfg(test)]

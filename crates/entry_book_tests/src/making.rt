@@ -65,7 +65,7 @@ pub fn text(alloc: Global, length: usize) -> Result<Shared<Text>, Fail> {
     Ok(Shared::of(alloc, Text::of(text))?)
 }
 
-/// An entry with one selector, no hint and no domains, that expires at 99.
+/// An entry with one selector, no hint and no domains, that expires at 99 and gives its two lifetimes.
 pub fn new_entry(alloc: Global, parent: &str, identity: &str) -> Result<NewEntry, Fail> {
     let parent = id(alloc, parent)?;
     let identity = id(alloc, identity)?;
@@ -79,6 +79,8 @@ pub fn new_entry(alloc: Global, parent: &str, identity: &str) -> Result<NewEntry
         hint,
         domains: DomainSet::empty(alloc),
         expiry: 99,
+        x509_svid_ttl: 3600,
+        jwt_svid_ttl: 300,
     })
 }
 

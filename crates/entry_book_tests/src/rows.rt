@@ -17,6 +17,7 @@ fn the_parts_of_an_entry_are_those_that_were_given(rt: HostRuntime) -> Result<()
     assert_eq!(rt; entry.selectors().get().len(), 1);
     assert_eq!(rt; entry.hint().get().as_str(), "hh");
     assert_eq!(rt; (entry.expiry(), entry.revision()), (99, 3));
+    assert_eq!(rt; (entry.x509_svid_ttl(), entry.jwt_svid_ttl()), (3600, 300));
     let domains = entry.domains().as_slice();
     assert_eq!(rt; domains.len(), 2);
     assert_eq!(rt; domains[0].get().as_str(), "d100");
@@ -45,6 +46,7 @@ fn an_entry_says_what_it_is_asked(rt: HostRuntime) -> Result<(), Fail> {
     let freed = entry.dissociated(rt.alloc(), named.get())?;
     assert!(rt; !freed.names(named.get()));
     assert_eq!(rt; freed.revision(), 4);
+    assert_eq!(rt; (freed.x509_svid_ttl(), freed.jwt_svid_ttl()), (3600, 300));
     Ok(())
 }
 

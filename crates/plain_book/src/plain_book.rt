@@ -21,7 +21,7 @@ pub struct PlainBook {
 }
 
 impl Model for PlainBook {
-    ghost use Rattle.std.specs.Prelude.{◌*◌, ◌≤◌};
+    ghost use Rattle.std.specs.Prelude.{◌*◌, ◌^◌, ◌≤◌};
     ghost use Rattle.entry_book.specs.History.{PlainState};
     ghost use Rattle.entry_book.specs.Lawful.{Lawful};
 
@@ -29,11 +29,11 @@ impl Model for PlainBook {
 
     ghost view = { λ book. record { domain = book.domain; newest = book.newest; place = book.place } };
 
-    ghost invariant = { λ book. Lawful book.domain (64 * book.place) book.newest × (book.place ≤ 65536) };
+    ghost invariant = { λ book. Lawful book.domain (64 * book.place) book.newest × (book.place ≤ 2 ^ 48) };
 }
 
 impl PlainBook {
-    ghost use Rattle.std.specs.Prelude.{◌≡◌, ◌≤◌, ◌*◌, IfOk, OnErr, OnOk, List};
+    ghost use Rattle.std.specs.Prelude.{◌≡◌, ◌≤◌, ◌*◌, ◌^◌, IfOk, OnErr, OnOk, List};
     ghost use Rattle.entry_book.specs.Book.{Book as BookRows};
     ghost use Rattle.entry_book.specs.History.{Stands, books_after, first_books, reply_on, reply_to, state_after};
     ghost use Rattle.entry_book.specs.Lawful.{Lawful};
@@ -97,7 +97,7 @@ impl PlainBook {
     /// The number of the last book, which is the count of committed batches.
     pub fn place(&self) -> u64
         ensures place { result ≡ self.now.place }
-        ensures most { self.now.place ≤ 65536 }
+        ensures most { self.now.place ≤ 2 ^ 48 }
         ensures lawful { Lawful self.now.domain (64 * self.now.place) self.now.newest }
     {
         let PlainBook { place, .. } = self;

@@ -86,6 +86,8 @@ fn draft_of(number: u16) -> Draft {
         selectors: selectors_of(number),
         domains: domains_of(number),
         expiry: expiry_of(number),
+        x509_svid_ttl: 0,
+        jwt_svid_ttl: 0,
     }
 }
 

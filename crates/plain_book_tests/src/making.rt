@@ -16,7 +16,8 @@ pub const WEB: &str = "spiffe://ex.org/web";
 
 pub const API: &str = "spiffe://ex.org/api";
 
-/// An entry to be made: the number that the last two bytes of its id are, its IDs, how many selectors and domains it has, and its expiry.
+/// An entry to be made: the number that the last two bytes of its id are, its IDs, how many selectors and domains it has, its
+/// expiry, and its lifetimes.
 #[derive(Clone, Copy)]
 pub struct Draft {
     pub number: u16,
@@ -25,6 +26,8 @@ pub struct Draft {
     pub selectors: u32,
     pub domains: u32,
     pub expiry: u64,
+    pub x509_svid_ttl: u64,
+    pub jwt_svid_ttl: u64,
 }
 
 /// An operation to be made. A bundle's text is told by its length, an agent's selectors by their count.
@@ -103,6 +106,8 @@ fn new_entry(alloc: Global, draft: Draft) -> Result<Shared<NewEntry>, Fail> {
         hint,
         domains,
         expiry: draft.expiry,
+        x509_svid_ttl: draft.x509_svid_ttl,
+        jwt_svid_ttl: draft.jwt_svid_ttl,
     };
     Ok(Shared::of(alloc, new)?)
 }

@@ -97,6 +97,8 @@ fn create(alloc: Global, row: &Row) -> Result<Op, Fail> {
         hint,
         domains,
         expiry: 0,
+        x509_svid_ttl: 0,
+        jwt_svid_ttl: 0,
     };
     Ok(Op::Create(Shared::of(alloc, new)?))
 }

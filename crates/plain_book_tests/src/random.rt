@@ -32,6 +32,8 @@ const COUNTS: [u32; 4] = [0, 0, 1, 2];
 
 const MOMENTS: [u64; 4] = [0, 1, 2, 3];
 
+const LIFETIMES: [u64; 3] = [0, 300, 3600];
+
 const EXPECTED: [Option<u64>; 4] = [None, None, Some(0), Some(1)];
 
 /// A random number below a bound.
@@ -52,6 +54,8 @@ fn draft(state: &mut u64) -> Draft {
     let selectors = COUNTS[below(state, 2).wrapping_add(2)];
     let domains = COUNTS[below(state, 4)];
     let expiry = MOMENTS[below(state, 4)];
+    let x509_svid_ttl = LIFETIMES[below(state, 3)];
+    let jwt_svid_ttl = LIFETIMES[below(state, 3)];
     Draft {
         number,
         parent,
@@ -59,6 +63,8 @@ fn draft(state: &mut u64) -> Draft {
         selectors,
         domains,
         expiry,
+        x509_svid_ttl,
+        jwt_svid_ttl,
     }
 }
 
@@ -229,7 +235,13 @@ fn is_trust(shown: &[Bundle], rows: &BookRows, ends: u64) -> bool {
     count == shown.len()
 }
 
-/// Is what the batch was answered of agents what a search finds in these rows, those of the book that came out?
+/// Are the entry's lifetimes those that were given?
+fn has_lifetimes(draft: &Draft, entry: &Entry) -> bool {
+    entry.x509_svid_ttl() == draft.x509_svid_ttl && entry.jwt_svid_ttl() == draft.jwt_svid_ttl
+}
+
+/// Is what the batch was answered of agents what a search finds in these rows, those of the book that came out? And has
+/// each entry that it made the lifetimes that were given?
 fn are_right(said: &[Said], reply: &Reply, rows: &BookRows) -> bool {
     said.iter().zip(replies(reply)).all(|(op, reply)| match (op, reply) {
         (Said::Authorised(text), OpReply::Entries(entries)) => {
@@ -237,6 +249,9 @@ fn are_right(said: &[Said], reply: &Reply, rows: &BookRows) -> bool {
         }
         (Said::Trust(text), OpReply::Bundles(bundles)) => {
             is_trust(bundles.as_slice(), rows, ends_of(rows, text))
+        }
+        (Said::Create(draft) | Said::Update(draft, _), OpReply::Entry(entry)) => {
+            has_lifetimes(draft, entry)
         }
         _ => true,
     })

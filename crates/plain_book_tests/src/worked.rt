@@ -23,6 +23,8 @@ const UNDER: Draft = Draft {
     selectors: 1,
     domains: 0,
     expiry: 99,
+    x509_svid_ttl: 0,
+    jwt_svid_ttl: 0,
 };
 
 const BESIDE: Draft = Draft {

@@ -3,7 +3,7 @@ use Rattle.std.proofs.Common.{◌≡◌, ◌||◌, ℕ, true, false, List, [], �
 use Rattle.std.specs.Prelude.{codes, decimal}
 use Rattle.std.specs.List.{flat_map}
 use Rattle.std.proofs.lemmas.Bool.Decides.{nat_tests}
-use Rattle.serde_json.specs.Data.{Data, string}
+use Rattle.serde_json.specs.Data.{Data, object, string, put, no_members}
 use Rattle.serde_json.specs.View.{items_of}
 use Rattle.serde_json.specs.Written.{compact_text, has_float, items_text}
 use Rattle.serde_json.proofs.OnLiterals.{serde_json_on_literals}
@@ -29,8 +29,8 @@ use Rattle.reg_lines.specs.declared.fault.Fault.{Fault}
 use Rattle.reg_lines.specs.declared.fault.Field.{Field}
 use Rattle.reg_lines.specs.declared.printing.refusal.LineRefusal.{LineRefusal}
 use Rattle.reg_lines.specs.Refusals.{fault_json, failure_json, no_memory_json, op_member, refusal_json}
-use Rattle.reg_lines.specs.Replies.{agent_json, bundle_json, detail_member, dropped_json, entry_json, page_json, op_reply_json, selector_json, uuid_json, uuid_text, under, done_json, refused_json, outcome_json, reply_json}
-use Rattle.reg_lines.specs.Values.{list_data, option_data, uuid_data, selector_data, agent_data, bundle_data, dropped_data, entry_data, page_data, op_reply_data, done_data, refused_data, outcome_data, reply_data, fault_data, failure_data, refusal_data}
+use Rattle.reg_lines.specs.Replies.{agent_json, bundle_json, detail_member, dropped_json, entry_json, given_lifetime, lifetime_member, op_reply_json, selector_json, uuid_json, uuid_text, under, done_json, refused_json, outcome_json, reply_json, page_json}
+use Rattle.reg_lines.specs.Values.{whole, if_due, list_data, option_data, uuid_data, selector_data, agent_data, bundle_data, dropped_data, entry_data, op_reply_data, done_data, refused_data, outcome_data, reply_data, fault_data, failure_data, refusal_data, page_data}
 
 same_for_all : (f g : ℕ → List ℕ) → ((b : ℕ) → f b ≡ g b) → (s : List ℕ) → flat_map f s ≡ flat_map g s
 same_for_all f g h [] = refl
@@ -77,20 +77,62 @@ left-right : (a : List ℕ) (ps : List (List ℕ)) → left a ps ≡ a ++ right 
 left-right a [] = sym (append-nil a)
 left-right a (p ∷ ps) = left-right (a ++ p) ps ∙ append_assoc a p (right ps)
 
-pub entry_json-is : (e : Entry) → entry_json e ≡ compact_text (entry_data e)
-unfolding entry_json serde_json_on_literals
-entry_json-is e =
-    left-right (codes "{\"domains\":") (
+-- the text and the value of an entry, by the lifetimes that are given
+abbrev entry_text : Entry → Option ℕ → Option ℕ → List ℕ
+entry_text e jwt x509 =
+    codes "{\"domains\":" ++ list_json text_json e.domains
+    ++ codes ",\"expiry\":" ++ decimal e.expiry
+    ++ codes ",\"hint\":" ++ text_json e.hint
+    ++ codes ",\"id\":" ++ uuid_json e.id
+    ++ codes ",\"identity\":" ++ text_json e.identity
+    ++ lifetime_member (codes ",\"jwt_svid_ttl\":") jwt
+    ++ codes ",\"parent\":" ++ text_json e.parent
+    ++ codes ",\"revision\":" ++ decimal e.revision
+    ++ codes ",\"selectors\":" ++ list_json selector_json e.selectors
+    ++ lifetime_member (codes ",\"x509_svid_ttl\":") x509
+    ++ codes "}"
+
+abbrev entry_value : Entry → Option ℕ → Option ℕ → Data
+entry_value e jwt x509 = object (
+    put (codes "domains") (list_data string e.domains) (
+    put (codes "expiry") (whole e.expiry) (
+    put (codes "hint") (string e.hint) (
+    put (codes "id") (uuid_data e.id) (
+    put (codes "identity") (string e.identity) (
+    if_due (codes "jwt_svid_ttl") whole jwt (
+    put (codes "parent") (string e.parent) (
+    put (codes "revision") (whole e.revision) (
+    put (codes "selectors") (list_data selector_data e.selectors) (
+    if_due (codes "x509_svid_ttl") whole x509
+    no_members))))))))))
+
+abbrev entry_parts : Entry → Option ℕ → Option ℕ → List (List ℕ)
+entry_parts e jwt x509 =
     list_json text_json e.domains
     ∷ codes ",\"expiry\":" ∷ decimal e.expiry
     ∷ codes ",\"hint\":" ∷ text_json e.hint
     ∷ codes ",\"id\":" ∷ text_json (uuid_text e.id)
     ∷ codes ",\"identity\":" ∷ text_json e.identity
+    ∷ lifetime_member (codes ",\"jwt_svid_ttl\":") jwt
     ∷ codes ",\"parent\":" ∷ text_json e.parent
     ∷ codes ",\"revision\":" ∷ decimal e.revision
     ∷ codes ",\"selectors\":" ∷ list_json selector_json e.selectors
-    ∷ codes "}" ∷ [])
-    ∙ simp (text_json-is, texts-are, selectors-are) refl
+    ∷ lifetime_member (codes ",\"x509_svid_ttl\":") x509
+    ∷ codes "}" ∷ []
+
+entry_pieces : (e : Entry) (jwt x509 : Option ℕ) → entry_text e jwt x509 ≡ codes "{\"domains\":" ++ right (entry_parts e jwt x509)
+entry_pieces e jwt x509 = left-right (codes "{\"domains\":") (entry_parts e jwt x509)
+
+entry_text-is : (e : Entry) (jwt x509 : Option ℕ) → entry_text e jwt x509 ≡ compact_text (entry_value e jwt x509)
+unfolding serde_json_on_literals
+entry_text-is e None None = entry_pieces e None None ∙ simp (text_json-is, texts-are, selectors-are) refl
+entry_text-is e None (Some m) = entry_pieces e None (Some m) ∙ simp (text_json-is, texts-are, selectors-are) refl
+entry_text-is e (Some n) None = entry_pieces e (Some n) None ∙ simp (text_json-is, texts-are, selectors-are) refl
+entry_text-is e (Some n) (Some m) = entry_pieces e (Some n) (Some m) ∙ simp (text_json-is, texts-are, selectors-are) refl
+
+pub entry_json-is : (e : Entry) → entry_json e ≡ compact_text (entry_data e)
+unfolding entry_json
+entry_json-is e = entry_text-is e (given_lifetime e.jwt_svid_ttl) (given_lifetime e.x509_svid_ttl)
 
 bundle_json-is : (b : Bundle) → bundle_json b ≡ compact_text (bundle_data b)
 unfolding bundle_json serde_json_on_literals
@@ -233,8 +275,14 @@ texts-no_float xs = list-no_float string (λ x. refl) xs
 selectors-no_float : (xs : List SelectorPair) → has_float (list_data selector_data xs) ≡ false
 selectors-no_float xs = list-no_float selector_data (λ x. refl) xs
 
+entry_value-no_float : (e : Entry) (jwt x509 : Option ℕ) → has_float (entry_value e jwt x509) ≡ false
+entry_value-no_float e None None = simp (texts-no_float, selectors-no_float) refl
+entry_value-no_float e None (Some m) = simp (texts-no_float, selectors-no_float) refl
+entry_value-no_float e (Some n) None = simp (texts-no_float, selectors-no_float) refl
+entry_value-no_float e (Some n) (Some m) = simp (texts-no_float, selectors-no_float) refl
+
 entry-no_float : (e : Entry) → has_float (entry_data e) ≡ false
-entry-no_float e = simp (texts-no_float, selectors-no_float) refl
+entry-no_float e = entry_value-no_float e (given_lifetime e.jwt_svid_ttl) (given_lifetime e.x509_svid_ttl)
 
 agent-no_float : (a : Agent) → has_float (agent_data a) ≡ false
 agent-no_float a = simp selectors-no_float refl

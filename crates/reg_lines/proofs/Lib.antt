@@ -8,6 +8,7 @@ pub mod InputLemmas
 pub mod Puts
 pub mod Escapes
 pub mod Items
+pub mod Lifetimes
 pub mod RunLemmas
 pub mod LinesLaw
 pub mod Front

@@ -19,7 +19,7 @@ use Rattle.reg_lines.specs.Fields.{◌>>=◌, at_key, required, text_at, optiona
 
 -- ---- entries
 
--- what is given of an entry beside its id; its hint is empty by default, it has no domains, and its expiry is 0
+-- what is given of an entry beside its id; its hint is empty by default, it has no domains, and its expiry and both its lifetimes are 0
 unfoldable pub entry_in : List ℕ → Data → Result NewEntry Fault
 entry_in id d = do
   parent ← id_at key.Parent d
@@ -28,14 +28,16 @@ entry_in id d = do
   hint ← optional_text_at key.Hint d
   domains ← optional_domains_at key.Domains d
   expiry ← optional_number_at key.Expiry d
-  Ok (record { id = id; parent = parent; identity = identity; selectors = selectors; hint = unwrap_or hint []; domains = unwrap_or domains []; expiry = unwrap_or expiry 0 })
+  x509 ← optional_number_at key.X509SvidTtl d
+  jwt ← optional_number_at key.JwtSvidTtl d
+  Ok (record { id = id; parent = parent; identity = identity; selectors = selectors; hint = unwrap_or hint []; domains = unwrap_or domains []; expiry = unwrap_or expiry 0; x509_svid_ttl = unwrap_or x509 0; jwt_svid_ttl = unwrap_or jwt 0 })
 
 -- an entry that comes without an id draws one; beside the operation stands what is left of the ids
 unfoldable pub create_in : ChaCha → Data → Members → Result (Op × ChaCha) Fault
 create_in ids d ms = do
   id ← new_uuid_at ids key.Id d
   entry ← entry_in id.0 d
-  none ← no_others (key.Op ∷ key.Id ∷ key.Parent ∷ key.Identity ∷ key.Selectors ∷ key.Hint ∷ key.Domains ∷ key.Expiry ∷ []) ms
+  none ← no_others (key.Op ∷ key.Id ∷ key.Parent ∷ key.Identity ∷ key.Selectors ∷ key.Hint ∷ key.Domains ∷ key.Expiry ∷ key.X509SvidTtl ∷ key.JwtSvidTtl ∷ []) ms
   Ok (Create entry, id.1)
 
 unfoldable pub update_in : Data → Members → Result Op Fault
@@ -43,7 +45,7 @@ update_in d ms = do
   id ← uuid_at key.Id d
   entry ← entry_in id d
   expected ← optional_number_at key.Revision d
-  none ← no_others (key.Op ∷ key.Id ∷ key.Parent ∷ key.Identity ∷ key.Selectors ∷ key.Hint ∷ key.Domains ∷ key.Expiry ∷ key.Revision ∷ []) ms
+  none ← no_others (key.Op ∷ key.Id ∷ key.Parent ∷ key.Identity ∷ key.Selectors ∷ key.Hint ∷ key.Domains ∷ key.Expiry ∷ key.X509SvidTtl ∷ key.JwtSvidTtl ∷ key.Revision ∷ []) ms
   Ok (Update entry expected)
 
 unfoldable pub delete_in : Data → Members → Result Op Fault

@@ -1,5 +1,5 @@
 -- Which line prints the reply to a batch: compact text, the keys of each object in ascending order of their bytes.
-use Rattle.std.specs.Prelude.{ℕ, List, [], ◌++◌, codes, decimal, Option}
+use Rattle.std.specs.Prelude.{ℕ, List, [], ◌++◌, Option, None, Some, nat_lt, if◌then◌else◌, codes, decimal}
 use Rattle.uuid.specs.Text.{hyphenated_text, lower}
 use Rattle.spiffe_name.specs.Selector.{SelectorPair, selector_text}
 use Rattle.entry_book.specs.Codes.{refusal_code, refusal_op}
@@ -30,6 +30,15 @@ uuid_json id = text_json (uuid_text id)
 abbrev pub selector_json : SelectorPair → List ℕ
 selector_json s = text_json (selector_text s)
 
+-- a lifetime of documents, where it isn't the server's default
+abbrev pub given_lifetime : ℕ → Option ℕ
+given_lifetime seconds = if nat_lt 0 seconds then Some seconds else None
+
+-- what stands before a lifetime, and the lifetime, where one is given
+abbrev pub lifetime_member : List ℕ → Option ℕ → List ℕ
+lifetime_member before None = []
+lifetime_member before (Some seconds) = before ++ decimal seconds
+
 unfoldable pub entry_json : Entry → List ℕ
 entry_json e =
     codes "{\"domains\":" ++ list_json text_json e.domains
@@ -37,9 +46,11 @@ entry_json e =
     ++ codes ",\"hint\":" ++ text_json e.hint
     ++ codes ",\"id\":" ++ uuid_json e.id
     ++ codes ",\"identity\":" ++ text_json e.identity
+    ++ lifetime_member (codes ",\"jwt_svid_ttl\":") (given_lifetime e.jwt_svid_ttl)
     ++ codes ",\"parent\":" ++ text_json e.parent
     ++ codes ",\"revision\":" ++ decimal e.revision
     ++ codes ",\"selectors\":" ++ list_json selector_json e.selectors
+    ++ lifetime_member (codes ",\"x509_svid_ttl\":") (given_lifetime e.x509_svid_ttl)
     ++ codes "}"
 
 unfoldable pub agent_json : Agent → List ℕ

@@ -24,7 +24,7 @@ use Rattle.reg_lines.specs.declared.fault.Field.{Field}
 use Rattle.reg_lines.specs.declared.printing.refusal.LineRefusal.{LineRefusal}
 use Rattle.reg_lines.specs.Codes.{code_text, field_text}
 use Rattle.reg_lines.specs.Refusals.{refusal_json}
-use Rattle.reg_lines.specs.Replies.{reply_json, uuid_text}
+use Rattle.reg_lines.specs.Replies.{given_lifetime, reply_json, uuid_text}
 
 abbrev pub whole : ℕ → Data
 whole n = number (unsigned n)
@@ -43,6 +43,11 @@ uuid_data id = string (uuid_text id)
 abbrev pub selector_data : SelectorPair → Data
 selector_data s = string (selector_text s)
 
+-- a key that stands there where it is due
+abbrev pub if_due : {A : Type 0} → List ℕ → (A → Data) → Option A → Members → Members
+if_due key f None ms = ms
+if_due key f (Some x) ms = put key (f x) ms
+
 abbrev pub entry_data : Entry → Data
 entry_data e = object (
     put (codes "domains") (list_data string e.domains) (
@@ -50,10 +55,12 @@ entry_data e = object (
     put (codes "hint") (string e.hint) (
     put (codes "id") (uuid_data e.id) (
     put (codes "identity") (string e.identity) (
+    if_due (codes "jwt_svid_ttl") whole (given_lifetime e.jwt_svid_ttl) (
     put (codes "parent") (string e.parent) (
     put (codes "revision") (whole e.revision) (
-    put (codes "selectors") (list_data selector_data e.selectors)
-    no_members))))))))
+    put (codes "selectors") (list_data selector_data e.selectors) (
+    if_due (codes "x509_svid_ttl") whole (given_lifetime e.x509_svid_ttl)
+    no_members))))))))))
 
 abbrev pub agent_data : Agent → Data
 agent_data a = object (
@@ -100,11 +107,6 @@ done_data call place replies result = object (
     put (codes "replies") (list_data op_reply_data replies) (
     put (codes "result") (string result)
     no_members))))
-
--- a key that stands there where it is due
-abbrev pub if_due : {A : Type 0} → List ℕ → (A → Data) → Option A → Members → Members
-if_due key f None ms = ms
-if_due key f (Some x) ms = put key (f x) ms
 
 abbrev pub op_detail : OpRefusal → Option (List ℕ)
 op_detail refused.IdTaken = None

@@ -29,6 +29,10 @@ pub enum Key {
     Domains,
     /// When an entry expires.
     Expiry,
+    /// How long an X.509 document of the workload is good.
+    X509SvidTtl,
+    /// How long a JWT of the workload is good.
+    JwtSvidTtl,
     /// The revision that an entry is expected to have.
     Revision,
     /// An agent's ID.
@@ -65,6 +69,8 @@ impl Key {
             Key::Hint => "hint",
             Key::Domains => "domains",
             Key::Expiry => "expiry",
+            Key::X509SvidTtl => "x509_svid_ttl",
+            Key::JwtSvidTtl => "jwt_svid_ttl",
             Key::Revision => "revision",
             Key::Agent => "agent",
             Key::Domain => "domain",

@@ -2,7 +2,8 @@
 
 use crate::answers::{answer, answers, answers_in_a_row, new_book, printed, without_memory};
 use entry_book::{
-    Batch, DomainSet, NewEntry, Op, OpRefusal, Outcome, Refusal, Reply, Sequence, Shared, Text,
+    Batch, DomainSet, Limit, NewEntry, Op, OpRefusal, Outcome, Refusal, Reply, Sequence, Shared,
+    Text,
 };
 use reg_lines::CallReply;
 use spiffe_name::{Selector, SelectorSet, SpiffeId, TrustDomain};
@@ -31,7 +32,7 @@ const RUN: &str = r#"
 {"ops":[{"op":"drop_agent","agent":"spiffe://ex.org/spire/agent/n1"}]} => {"call":17,"place":9,"replies":[{"agent":{"id":"spiffe://ex.org/spire/agent/n1","selectors":["x:1"]}}],"result":"committed"}
 "#;
 
-/// Lines, each answered on a book with nothing in it: escapes, sets in their order, refusals of the book.
+/// Lines, each answered on a book with nothing in it: escapes, sets in their order, refusals of the book, lifetimes.
 const ANSWERS: &str = r#"
 {"ops":[{"op":"set_agent","agent":"spiffe:\/\/ex.org/spire/agent/\u006e1","selectors":["x:\u0041\"\\\/\b\f\n\r\t\u0001\u001F\u00e9\ud83d\ude00"]}]} => {"call":1,"place":1,"replies":[{"agent":{"id":"spiffe://ex.org/spire/agent/n1","selectors":["x:A\"\\/\b\f\n\r\t\u0001\u001fé😀"]}}],"result":"committed"}
 {"ops":[{"op":"set_agent","agent":"spiffe://ex.org/spire/agent/n1","selectors":["u:2","a!:y","u:1","a:x","u:2"]}]} => {"call":1,"place":1,"replies":[{"agent":{"id":"spiffe://ex.org/spire/agent/n1","selectors":["a:x","a!:y","u:1","u:2"]}}],"result":"committed"}
@@ -39,6 +40,10 @@ const ANSWERS: &str = r#"
 {"ops":[{"op":"authorised","agent":"spiffe://ex.org/spire/agent/n1"}]} => {"call":1,"code":"O7","op":0,"place":0,"result":"refused"}
 {"ops":[{"op":"create","id":"00000000-0000-0000-0000-000000000001","parent":"spiffe://ex.org/a","identity":"spiffe://ex.org/b","selectors":["u:1"]},{"op":"create","id":"00000000000000000000000000000001","parent":"spiffe://ex.org/a","identity":"spiffe://ex.org/c","selectors":["u:1"]}]} => {"call":1,"code":"O1","op":1,"place":0,"result":"refused"}
 {"ops":[{"op":"create","id":"0000000a-0000-0000-0000-000000000001","parent":"spiffe://ex.org/a","identity":"spiffe://ex.org/b","selectors":["u:1","u:2"]},{"op":"create","id":"00000000000000000000000000000002","parent":"spiffe://ex.org/a","identity":"spiffe://ex.org/b","selectors":["u:2","u:1"]}]} => {"call":1,"code":"O2","detail":"0000000a-0000-0000-0000-000000000001","op":1,"place":0,"result":"refused"}
+{"ops":[{"op":"create","id":"00000000-0000-0000-0000-000000000001","parent":"spiffe://ex.org/spire/agent/n1","identity":"spiffe://ex.org/web","selectors":["u:1"],"x509_svid_ttl":3600}]} => {"call":1,"place":1,"replies":[{"entry":{"domains":[],"expiry":0,"hint":"","id":"00000000-0000-0000-0000-000000000001","identity":"spiffe://ex.org/web","parent":"spiffe://ex.org/spire/agent/n1","revision":0,"selectors":["u:1"],"x509_svid_ttl":3600}}],"result":"committed"}
+{"ops":[{"op":"create","id":"00000000-0000-0000-0000-000000000001","parent":"spiffe://ex.org/spire/agent/n1","identity":"spiffe://ex.org/web","selectors":["u:1"],"jwt_svid_ttl":300}]} => {"call":1,"place":1,"replies":[{"entry":{"domains":[],"expiry":0,"hint":"","id":"00000000-0000-0000-0000-000000000001","identity":"spiffe://ex.org/web","jwt_svid_ttl":300,"parent":"spiffe://ex.org/spire/agent/n1","revision":0,"selectors":["u:1"]}}],"result":"committed"}
+{"ops":[{"op":"create","id":"00000000-0000-0000-0000-000000000001","parent":"spiffe://ex.org/spire/agent/n1","identity":"spiffe://ex.org/web","selectors":["u:1"],"jwt_svid_ttl":300,"x509_svid_ttl":3600}]} => {"call":1,"place":1,"replies":[{"entry":{"domains":[],"expiry":0,"hint":"","id":"00000000-0000-0000-0000-000000000001","identity":"spiffe://ex.org/web","jwt_svid_ttl":300,"parent":"spiffe://ex.org/spire/agent/n1","revision":0,"selectors":["u:1"],"x509_svid_ttl":3600}}],"result":"committed"}
+{"ops":[{"op":"create","id":"00000000-0000-0000-0000-000000000001","parent":"spiffe://ex.org/spire/agent/n1","identity":"spiffe://ex.org/web","selectors":["u:1"],"jwt_svid_ttl":0,"x509_svid_ttl":0}]} => {"call":1,"place":1,"replies":[{"entry":{"domains":[],"expiry":0,"hint":"","id":"00000000-0000-0000-0000-000000000001","identity":"spiffe://ex.org/web","parent":"spiffe://ex.org/spire/agent/n1","revision":0,"selectors":["u:1"]}}],"result":"committed"}
 "#;
 
 #[test]
@@ -152,7 +157,7 @@ fn id_of(alloc: Global, text: &str) -> Result<Shared<SpiffeId>, Fail> {
     Ok(Shared::of(alloc, SpiffeId::parse(alloc, text)?)?)
 }
 
-/// The reply to a create with a hint that has to be escaped and the latest expiry.
+/// The reply to a create with a hint that has to be escaped, the latest expiry, and the longest and the shortest lifetime.
 fn reply_with_hint(alloc: Global) -> Result<Reply, Fail> {
     let selectors = Vec::from_array(alloc, [Selector::parse(alloc, "u:1")?])?;
     let new = NewEntry {
@@ -163,6 +168,8 @@ fn reply_with_hint(alloc: Global) -> Result<Reply, Fail> {
         hint: Shared::of(alloc, Text::of(String::from_str(alloc, "a \"hint\"\n")?))?,
         domains: DomainSet::empty(alloc),
         expiry: u64::MAX,
+        x509_svid_ttl: u64::MAX,
+        jwt_svid_ttl: 1,
     };
     let mut book = new_book(alloc)?;
     let mut ops = Sequence::empty(alloc);
@@ -180,7 +187,7 @@ fn values_made_without_a_line_are_printed(rt: HostRuntime) -> Result<(), Fail> {
         reply: &reply,
     };
     let want =
-        r#"{"call":18446744073709551615,"place":1,"replies":[{"entry":{"domains":[],"expiry":18446744073709551615,"hint":"a \"hint\"\n","id":"00000000-0000-0000-0000-000000000001","identity":"spiffe://ex.org/b","parent":"spiffe://ex.org/a","revision":0,"selectors":["u:1"]}}],"result":"committed"}"#;
+        r#"{"call":18446744073709551615,"place":1,"replies":[{"entry":{"domains":[],"expiry":18446744073709551615,"hint":"a \"hint\"\n","id":"00000000-0000-0000-0000-000000000001","identity":"spiffe://ex.org/b","jwt_svid_ttl":1,"parent":"spiffe://ex.org/a","revision":0,"selectors":["u:1"],"x509_svid_ttl":18446744073709551615}}],"result":"committed"}"#;
     assert_eq!(rt; printed(alloc, &line)?.as_str(), want);
     let domain = Shared::of(alloc, domain_of(alloc, "b.org")?)?;
     let reply = Reply {
@@ -209,5 +216,20 @@ fn values_made_without_a_line_are_printed(rt: HostRuntime) -> Result<(), Fail> {
         printed(alloc, &without_memory(12))?.as_str(),
         r#"{"code":"L6","line":12}"#
     );
+    Ok(())
+}
+
+#[test]
+fn a_full_history_is_told(rt: HostRuntime) -> Result<(), Fail> {
+    let reply = Reply {
+        place: 1 << 48,
+        outcome: Outcome::Refused(Refusal::Full(Limit::History)),
+    };
+    let line = CallReply {
+        call: 3,
+        reply: &reply,
+    };
+    let want = r#"{"call":3,"code":"W2","place":281474976710656,"result":"refused"}"#;
+    assert_eq!(rt; printed(rt.alloc(), &line)?.as_str(), want);
     Ok(())
 }

@@ -15,7 +15,7 @@ fn number_text(alloc: Global, number: Option<u64>) -> Result<String, Fail> {
     }
 }
 
-/// The fields of an entry in the order of the format.
+/// The fields of an entry in the order of the format; a lifetime has its name, and is there where it isn't 0.
 fn entry_text(alloc: Global, new: &NewEntry) -> Result<String, Fail> {
     let mut text = printed(alloc, &new.id)?;
     for field in [
@@ -28,6 +28,11 @@ fn entry_text(alloc: Global, new: &NewEntry) -> Result<String, Fail> {
     ] {
         text.push_str(" ")?;
         text.push_str(field.as_str())?;
+    }
+    for (name, seconds) in [("x509", new.x509_svid_ttl), ("jwt", new.jwt_svid_ttl)] {
+        if seconds != 0 {
+            text.push_str(format!(in alloc; " {name} {seconds}")?.as_str())?;
+        }
     }
     Ok(text)
 }
@@ -46,7 +51,10 @@ fn page_text(alloc: Global, query: &PageQuery) -> Result<String, Fail> {
         text.push_str(field.as_str())?;
     }
     match &filter.selectors {
-        Some(SelectorMatch { selectors, mode }) => Ok(format!(in alloc; "{text} {} {mode:?}", printed(alloc, selectors)?)?),
+        Some(SelectorMatch { selectors, mode }) => Ok(format!(in alloc;
+            "{text} {} {mode:?}",
+            printed(alloc, selectors)?
+        )?),
         None => Ok(format!(in alloc; "{text} -")?),
     }
 }

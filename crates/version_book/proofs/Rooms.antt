@@ -284,6 +284,7 @@ op_modest own (Show k) b f h = modest_none
 op_modest own (ShowAgent k) b f h = modest_none
 op_modest own (ShowBundle k) b f h = modest_none
 op_modest own (Children k) b f h = modest_none
+op_modest own (Page q) b f h = modest_none
 op_modest own (Authorised k) b f h = read_modest (agent_at k b) _ (λ a. modest_none)
 op_modest own (Trust k) b f h = read_modest (agent_at k b) _ (λ a. modest_none)
 op_modest own (Prune moment) b f h = modest_more _ (modest_removed (expired_before moment b))

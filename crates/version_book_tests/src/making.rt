@@ -80,6 +80,8 @@ fn entry(alloc: Global, words: &[&str]) -> Result<Shared<NewEntry>, Fail> {
         hint,
         domains,
         expiry: number(words, 4)?,
+        x509_svid_ttl: 0,
+        jwt_svid_ttl: 0,
     };
     Ok(Shared::of(alloc, new)?)
 }

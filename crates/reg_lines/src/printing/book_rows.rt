@@ -1,13 +1,14 @@
 //! How are the rows of a book printed?
 
-ghost use Rattle.reg_lines.specs.Replies.{agent_json, bundle_json, entry_json};
+ghost use Rattle.reg_lines.specs.Replies.{agent_json, bundle_json, entry_json, given_lifetime, lifetime_member};
+ghost use Rattle.reg_lines.specs.Stream.{Puts};
 
 use crate::devices::output::Output;
 use crate::devices::sink::Sink;
 use crate::printing::json::{PrintJson, print_number};
 use entry_book::{Agent, Bundle, Entry};
 
-/// The eight fields, in the order of their keys' bytes.
+/// The fields, in the order of their keys' bytes; a lifetime of 0 is left out.
 impl PrintJson for Entry {
     ghost text = { entry_json };
 
@@ -22,13 +23,25 @@ impl PrintJson for Entry {
         self.id().print_to(output);
         output.put(b",\"identity\":");
         self.identity().print_to(output);
+        put_lifetime(b",\"jwt_svid_ttl\":", self.jwt_svid_ttl(), output);
         output.put(b",\"parent\":");
         self.parent().print_to(output);
         output.put(b",\"revision\":");
         print_number(self.revision(), output);
         output.put(b",\"selectors\":");
         self.selectors().print_to(output);
+        put_lifetime(b",\"x509_svid_ttl\":", self.x509_svid_ttl(), output);
         output.put(b"}");
+    }
+}
+
+/// Puts a lifetime of documents with what stands before it, where it isn't 0.
+fn put_lifetime<S: Sink>(before: &[u8], seconds: u64, output: &mut Output<S>)
+    ensures { Puts output.old output.new (lifetime_member before.now (given_lifetime seconds)) }
+{
+    if seconds > 0 {
+        output.put(before);
+        print_number(seconds, output);
     }
 }
 

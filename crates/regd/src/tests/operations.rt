@@ -69,6 +69,29 @@ fn dissociated_entry_shown_in_the_same_batch(rt: HostRuntime) -> Result<(), Fail
     are_answered(&rt, rt.alloc(), DISSOCIATED)
 }
 
+/// An entry keeps its lifetimes when it loses a domain, and none that an update leaves out.
+const LIFETIMES: &str = r#"
+{"ops":[{"op":"set_bundle","domain":"b.org","text":"{}"}]}
+{"call":1,"place":1,"replies":[{"bundle":{"domain":"b.org","sequence":0,"text":"{}"}}],"result":"committed"}
+{"ops":[{"op":"create","id":"00000000-0000-0000-0000-000000000001","parent":"spiffe://ex.org/spire/agent/n1","identity":"spiffe://ex.org/web","selectors":["u:1"],"domains":["b.org"],"jwt_svid_ttl":300,"x509_svid_ttl":3600}]}
+{"call":2,"place":2,"replies":[{"entry":{"domains":["b.org"],"expiry":0,"hint":"","id":"00000000-0000-0000-0000-000000000001","identity":"spiffe://ex.org/web","jwt_svid_ttl":300,"parent":"spiffe://ex.org/spire/agent/n1","revision":0,"selectors":["u:1"],"x509_svid_ttl":3600}}],"result":"committed"}
+{"ops":[{"op":"drop_bundle","domain":"b.org","mode":"dissociate"}]}
+{"call":3,"place":3,"replies":[{"deleted":[],"dissociated":["00000000-0000-0000-0000-000000000001"]}],"result":"committed"}
+{"ops":[{"op":"show","id":"00000000-0000-0000-0000-000000000001"}]}
+{"call":4,"place":3,"replies":[{"entry":{"domains":[],"expiry":0,"hint":"","id":"00000000-0000-0000-0000-000000000001","identity":"spiffe://ex.org/web","jwt_svid_ttl":300,"parent":"spiffe://ex.org/spire/agent/n1","revision":1,"selectors":["u:1"],"x509_svid_ttl":3600}}],"result":"answered"}
+{"ops":[{"op":"update","id":"00000000-0000-0000-0000-000000000001","parent":"spiffe://ex.org/spire/agent/n1","identity":"spiffe://ex.org/web","selectors":["u:1"],"jwt_svid_ttl":60}]}
+{"call":5,"place":4,"replies":[{"entry":{"domains":[],"expiry":0,"hint":"","id":"00000000-0000-0000-0000-000000000001","identity":"spiffe://ex.org/web","jwt_svid_ttl":60,"parent":"spiffe://ex.org/spire/agent/n1","revision":2,"selectors":["u:1"]}}],"result":"committed"}
+{"ops":[{"op":"update","id":"00000000-0000-0000-0000-000000000001","parent":"spiffe://ex.org/spire/agent/n1","identity":"spiffe://ex.org/web","selectors":["u:1"]}]}
+{"call":6,"place":5,"replies":[{"entry":{"domains":[],"expiry":0,"hint":"","id":"00000000-0000-0000-0000-000000000001","identity":"spiffe://ex.org/web","parent":"spiffe://ex.org/spire/agent/n1","revision":3,"selectors":["u:1"]}}],"result":"committed"}
+{"ops":[{"op":"show","id":"00000000-0000-0000-0000-000000000001"}]}
+{"call":7,"place":5,"replies":[{"entry":{"domains":[],"expiry":0,"hint":"","id":"00000000-0000-0000-0000-000000000001","identity":"spiffe://ex.org/web","parent":"spiffe://ex.org/spire/agent/n1","revision":3,"selectors":["u:1"]}}],"result":"answered"}
+"#;
+
+#[test]
+fn lifetimes_left_out_are_none(rt: HostRuntime) -> Result<(), Fail> {
+    are_answered(&rt, rt.alloc(), LIFETIMES)
+}
+
 /// The last operation is refused, and nothing of its batch is kept.
 const STALE: &str = r#"
 {"ops":[{"id":"00000000-0000-0000-0000-000000000001","identity":"spiffe://ex.org/web","op":"create","parent":"spiffe://ex.org/spire/agent/n1","selectors":["u:1"]}]}

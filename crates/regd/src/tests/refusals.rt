@@ -16,8 +16,8 @@ operations and keys that aren't there (yet)
 {"code":"L5","field":"after","line":3}
 {"ops":[{"op":"show","id":"00000000-0000-0000-0000-000000000001"}],"token":"00000000-0000-0000-0000-000000000009"}
 {"code":"L5","field":"token","line":4}
-{"ops":[{"op":"create","id":"00000000-0000-0000-0000-000000000001","parent":"spiffe://ex.org/spire/agent/n1","identity":"spiffe://ex.org/web","selectors":["u:1"],"x509_svid_ttl":1}]}
-{"code":"L5","field":"x509_svid_ttl","line":5,"op":0}
+{"ops":[{"op":"create","id":"00000000-0000-0000-0000-000000000001","parent":"spiffe://ex.org/spire/agent/n1","identity":"spiffe://ex.org/web","selectors":["u:1"],"downstream":true}]}
+{"code":"L5","field":"downstream","line":5,"op":0}
 tries is a whole number from 1 to 16
 {"ops":[{"op":"show","id":"00000000-0000-0000-0000-000000000001"}],"tries":0}
 {"code":"L5","field":"tries","line":6}

@@ -16,7 +16,8 @@ use spiffe_name::Failure;
 use std::alloc::Global;
 use uuid::Uuid;
 
-/// What is given of the entry of this id: without them, its hint is empty, it has no domains, and its expiry is 0.
+/// What is given of the entry of this id: without them, its hint is empty, it has no domains, and its expiry and both its
+/// lifetimes are 0.
 #[tactic(auto, unfolding(crate::specs::Operations::entry_in))]
 fn entry_in(alloc: Global, id: Uuid, object: &Value) -> Result<NewEntry, Failure<Fault>>
     ensures { Gives (λ entry. entry) result (entry_in id (view object.now)) }
@@ -27,6 +28,8 @@ fn entry_in(alloc: Global, id: Uuid, object: &Value) -> Result<NewEntry, Failure
     let hint = optional_text_at(alloc, object, Key::Hint)?;
     let domains = optional_domains_at(alloc, object, Key::Domains)?;
     let expiry = optional_number_at(object, Key::Expiry)?;
+    let x509_svid_ttl = optional_number_at(object, Key::X509SvidTtl)?;
+    let jwt_svid_ttl = optional_number_at(object, Key::JwtSvidTtl)?;
     Ok(NewEntry {
         id,
         parent: Shared::of(alloc, parent)?,
@@ -35,6 +38,8 @@ fn entry_in(alloc: Global, id: Uuid, object: &Value) -> Result<NewEntry, Failure
         hint: Shared::of(alloc, hint.unwrap_or(Text::of(String::new(alloc))))?,
         domains: domains.unwrap_or(DomainSet::empty(alloc)),
         expiry: expiry.unwrap_or(0),
+        x509_svid_ttl: x509_svid_ttl.unwrap_or(0),
+        jwt_svid_ttl: jwt_svid_ttl.unwrap_or(0),
     })
 }
 
@@ -62,6 +67,8 @@ pub(super) fn create_in(
             Key::Hint,
             Key::Domains,
             Key::Expiry,
+            Key::X509SvidTtl,
+            Key::JwtSvidTtl,
         ],
     )?;
     Ok(Op::Create(Shared::of(alloc, entry)?))
@@ -90,6 +97,8 @@ pub(super) fn update_in(
             Key::Hint,
             Key::Domains,
             Key::Expiry,
+            Key::X509SvidTtl,
+            Key::JwtSvidTtl,
             Key::Revision,
         ],
     )?;
