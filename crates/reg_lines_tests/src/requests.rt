@@ -189,11 +189,12 @@ const MANY: &str = r#"
 {"ops":[{"op":"show","id":"00000000-0000-0000-0000-000000000001"}*,7]} => {"code":"L5","field":"ops","line":1,"op":64}
 "#;
 
+/// One more question, and what it spells.
+const SHOW: &str = r#",{"op":"show","id":"00000000-0000-0000-0000-000000000001"}"#;
+
+const SHOWN: &str = r#"; show "00000000-0000-0000-0000-000000000001""#;
+
 #[test]
 fn one_operation_too_many_is_told_after_a_refused_one(rt: HostRuntime) -> Result<(), Fail> {
-    let more = [
-        r#",{"op":"show","id":"00000000-0000-0000-0000-000000000001"}"#,
-        r#"; show "00000000-0000-0000-0000-000000000001""#,
-    ];
-    spells_with(&rt, rt.alloc(), MANY, 63, more)
+    spells_with(&rt, rt.alloc(), MANY, 63, (SHOW, SHOWN))
 }
