@@ -31,10 +31,10 @@ const MODES: [MatchMode; 4] = [
     MatchMode::Subset,
 ];
 
-/// An entry: the last byte of its id, and its parts, by index or by bits.
+/// An entry: the number that its id is, and its parts, by index or by bits.
 #[derive(Clone, Copy, Drop)]
 struct Row {
-    number: u8,
+    number: u16,
     parent: usize,
     identity: usize,
     selectors: usize,
@@ -118,7 +118,7 @@ fn set_bundle(alloc: Global, text: &str) -> Result<Op, Fail> {
 }
 
 /// A random entry.
-fn row(state: &mut u64, number: u8) -> Row {
+fn row(state: &mut u64, number: u16) -> Row {
     Row {
         number,
         parent: below(state, 2),
@@ -219,7 +219,7 @@ fn is_found(row: &Row, asked: &Asked) -> bool {
 }
 
 /// The numbers of the entries that the search finds.
-fn found(alloc: Global, rows: &[Row], asked: &Asked) -> Result<Vec<u8>, Fail> {
+fn found(alloc: Global, rows: &[Row], asked: &Asked) -> Result<Vec<u16>, Fail> {
     let mut numbers = Vec::new(alloc);
     for row in rows {
         if is_found(row, asked) {
@@ -234,7 +234,7 @@ fn page(
     alloc: Global,
     book: &mut PlainBook,
     query: PageQuery,
-) -> Result<(Vec<u8>, Option<Uuid>), Fail> {
+) -> Result<(Vec<u16>, Option<Uuid>), Fail> {
     let reply = answered(alloc, book, Op::Page(Shared::of(alloc, query)?))?;
     let Outcome::Answered(replies) = &reply.outcome else {
         return Err(Fail::from("a page isn't answered"));

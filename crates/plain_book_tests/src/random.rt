@@ -7,7 +7,7 @@ use crate::making::{API, Draft, N1, N2, SERVER, Said, WEB};
 use crate::rows::{BookRows, are_children_listed, bits, is_lawful, rows_of};
 use crate::search::{bit, ends, has_cycle, is_alias};
 use crate::told::{answers, replies, reply_to, small_book};
-use entry_book::{Agent, Bundle, DropMode, OpRefusal, OpReply, Outcome, Refusal, Reply};
+use entry_book::{Agent, Bundle, DropMode, Entry, OpRefusal, OpReply, Outcome, Refusal, Reply};
 use plain_book::PlainBook;
 use std::alloc::Global;
 use std::process::Abort;

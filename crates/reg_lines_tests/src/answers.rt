@@ -39,9 +39,14 @@ pub(crate) fn new_ids() -> Ids {
     Ids::of_seed([0; 32])
 }
 
+/// The trust domain of a name. Nothing is said of it, so that no caller's proof computes what the grammar says of a literal.
+pub(crate) fn trust_domain(alloc: Global, name: &str) -> Result<TrustDomain, Fail> {
+    Ok(TrustDomain::parse(alloc, name)?)
+}
+
 /// A book of `ex.org` with nothing in it.
 pub(crate) fn new_book(alloc: Global) -> Result<PlainBook, Fail> {
-    let domain = TrustDomain::parse(alloc, "ex.org")?;
+    let domain = trust_domain(alloc, "ex.org")?;
     Ok(PlainBook::new(alloc, domain)?)
 }
 
@@ -79,6 +84,31 @@ pub(crate) fn answer(alloc: Global, line: &[u8], number: u64) -> Result<String, 
     answer_on(alloc, &mut book, &mut new_ids(), line, number, 1)
 }
 
+/// The line is answered so on a book with nothing in it.
+pub(crate) fn is_answered(
+    rt: &impl Abort,
+    alloc: Global,
+    line: &[u8],
+    number: u64,
+    want: &str,
+) -> Result<(), Fail> {
+    let got = answer(alloc, line, number)?;
+    assert_eq!(rt; got.as_str(), want, "a line of {} bytes", line.len());
+    Ok(())
+}
+
+/// The value is printed so.
+pub(crate) fn prints<T: PrintJson>(
+    rt: &impl Abort,
+    alloc: Global,
+    value: &T,
+    want: &str,
+) -> Result<(), Fail> {
+    let got = printed(alloc, value)?;
+    assert_eq!(rt; got.as_str(), want);
+    Ok(())
+}
+
 /// A text with an LF at its end.
 pub(crate) fn line_of(alloc: Global, text: &str) -> Result<Vec<u8>, Fail> {
     let mut line = Vec::from_slice(alloc, text.as_bytes())?;
@@ -86,14 +116,36 @@ pub(crate) fn line_of(alloc: Global, text: &str) -> Result<Vec<u8>, Fail> {
     Ok(line)
 }
 
+/// A line of a table is a request line and what it is answered on a book with nothing in it.
+fn answers_case(rt: &impl Abort, alloc: Global, case: &str) -> Result<(), Fail> {
+    if let Some((text, want)) = case.split_once(" => ") {
+        let line = line_of(alloc, text)?;
+        let got = answer(alloc, &line, 1)?;
+        assert_eq!(rt; got.as_str(), want, "{text}");
+    }
+    Ok(())
+}
+
 /// Each line of the table is a request line and what it is answered on a book with nothing in it.
 pub(crate) fn answers(rt: &impl Abort, alloc: Global, table: &str) -> Result<(), Fail> {
     for case in table.lines() {
-        if let Some((text, want)) = case.split_once(" => ") {
-            let line = line_of(alloc, text)?;
-            assert_eq!(rt; answer(alloc, &line, 1)?.as_str(), want, "{text}");
-        }
+        answers_case(rt, alloc, case)?;
     }
+    Ok(())
+}
+
+/// The line of this number is answered so on the book, as the call of this number.
+fn is_answered_on(
+    rt: &impl Abort,
+    alloc: Global,
+    book: &mut PlainBook,
+    ids: &mut Ids,
+    number: u64,
+    (text, want): (&str, &str),
+) -> Result<(), Fail> {
+    let line = line_of(alloc, text)?;
+    let got = answer_on(alloc, book, ids, &line, number, number)?;
+    assert_eq!(rt; got.as_str(), want, "{text}");
     Ok(())
 }
 
@@ -103,11 +155,9 @@ pub(crate) fn answers_in_a_row(rt: &impl Abort, alloc: Global, table: &str) -> R
     let mut ids = new_ids();
     let mut count = 0u64;
     for case in table.lines() {
-        if let Some((text, want)) = case.split_once(" => ") {
+        if let Some(case) = case.split_once(" => ") {
             count = count.saturating_add(1);
-            let line = line_of(alloc, text)?;
-            let got = answer_on(alloc, &mut book, &mut ids, &line, count, count)?;
-            assert_eq!(rt; got.as_str(), want, "{text}");
+            is_answered_on(rt, alloc, &mut book, &mut ids, count, case)?;
         }
     }
     Ok(())

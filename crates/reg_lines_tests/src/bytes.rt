@@ -5,6 +5,7 @@ ghost use Rattle.std.specs.Prelude.{◌<◌, ◌^◌};
 use crate::engine::{Ended, number_lines, number_text};
 use reg_lines::{CountedDevice, Input, KEPT_BYTES, Line, Output};
 use std::alloc::{AllocError, Global};
+use std::process::Abort;
 use std::test::Fail;
 use test_devices::{Giver, Pace, Taker, Trouble};
 
@@ -45,13 +46,19 @@ fn lines_after_the_last_one_are_left(rt: HostRuntime) -> Result<(), Fail> {
     Ok(())
 }
 
+/// The lines are numbered though the call of this number is interrupted.
+fn is_numbered(rt: &impl Abort, alloc: Global, call: u64) -> Result<(), Fail> {
+    let mut giver = Giver::new(TEXT, Pace::Byte, Trouble::interrupted_at(call));
+    let mut taker = Taker::new(alloc, Pace::Byte, Trouble::interrupted_at(call));
+    assert_eq!(rt; run(alloc, &mut giver, &mut taker, 100)?, Ok(()));
+    assert_eq!(rt; taker.bytes.as_slice(), NUMBERED, "call {call}");
+    Ok(())
+}
+
 #[test]
 fn an_interrupted_call_is_made_again(rt: HostRuntime) -> Result<(), Fail> {
     for call in 1..60u64 {
-        let mut giver = Giver::new(TEXT, Pace::Byte, Trouble::interrupted_at(call));
-        let mut taker = Taker::new(rt.alloc(), Pace::Byte, Trouble::interrupted_at(call));
-        assert_eq!(rt; run(rt.alloc(), &mut giver, &mut taker, 100)?, Ok(()));
-        assert_eq!(rt; taker.bytes.as_slice(), NUMBERED, "call {call}");
+        is_numbered(&rt, rt.alloc(), call)?;
     }
     Ok(())
 }
@@ -84,35 +91,52 @@ fn long_line(alloc: Global, len: usize) -> Result<(usize, bool), Fail>
     Ok((kept, line.as_bytes() == b"next".as_slice()))
 }
 
+/// How many letters a line has, and how many of its bytes are kept.
+const KEPT: [(usize, usize); 4] = [
+    (1_048_575, 1_048_576),
+    (1_048_576, KEPT_BYTES),
+    (1_048_577, KEPT_BYTES),
+    (1_100_000, KEPT_BYTES),
+];
+
 #[test]
 fn of_a_long_line_the_front_is_kept_and_the_rest_passed_over(rt: HostRuntime) -> Result<(), Fail> {
-    for (len, kept) in [
-        (1_048_575, 1_048_576),
-        (1_048_576, KEPT_BYTES),
-        (1_048_577, KEPT_BYTES),
-        (1_100_000, KEPT_BYTES),
-    ] {
+    for (len, kept) in KEPT {
         assert_eq!(rt; long_line(rt.alloc(), len)?, (kept, true), "{len} bytes");
     }
     Ok(())
 }
 
-#[test]
-fn bytes_come_out_in_order_past_the_edge_of_the_buffer(rt: HostRuntime) -> Result<(), Fail> {
-    let mut bytes = Vec::new(rt.alloc());
+/// Many bytes that don't repeat at the edges of a buffer.
+fn many_bytes(alloc: Global) -> Result<Vec<u8>, Fail> {
+    let mut bytes = Vec::new(alloc);
     for index in 0..20_000u32 {
         bytes.push((index % 251) as u8)?;
     }
+    Ok(bytes)
+}
+
+/// The bytes come out whole where they are put in pieces of this length.
+fn comes_out(rt: &impl Abort, alloc: Global, bytes: &[u8], len: usize) -> Result<(), Fail>
+    requires { 0 < len }
+{
+    let mut taker = Taker::new(alloc, Pace::All, Trouble::NONE);
+    let mut output = Output::new(CountedDevice::new(&mut taker));
+    for piece in bytes.chunks(len) {
+        output.put(piece);
+    }
+    output.flush();
+    assert!(rt; !output.has_failed());
+    drop(output);
+    assert_eq!(rt; taker.bytes.as_slice(), bytes, "pieces of {len}");
+    Ok(())
+}
+
+#[test]
+fn bytes_come_out_in_order_past_the_edge_of_the_buffer(rt: HostRuntime) -> Result<(), Fail> {
+    let bytes = many_bytes(rt.alloc())?;
     for len in [1, 7, 4_000, 8_191, 8_192, 8_193, 20_000] {
-        let mut taker = Taker::new(rt.alloc(), Pace::All, Trouble::NONE);
-        let mut output = Output::new(CountedDevice::new(&mut taker));
-        for piece in bytes.chunks(len) {
-            output.put(piece);
-        }
-        output.flush();
-        assert!(rt; !output.has_failed());
-        drop(output);
-        assert_eq!(rt; taker.bytes.as_slice(), bytes.as_slice(), "pieces of {len}");
+        comes_out(&rt, rt.alloc(), bytes.as_slice(), len)?;
     }
     Ok(())
 }

@@ -1,7 +1,8 @@
 //! Which bytes are a line, and which lines are a JSON text?
 
-use crate::answers::{answer, line_of};
+use crate::answers::{is_answered, line_of};
 use std::alloc::Global;
+use std::process::Abort;
 use std::test::Fail;
 
 const FIRST: &str =
@@ -29,72 +30,115 @@ fn nested(alloc: Global, start: &str, count: usize, end: &str) -> Result<Vec<u8>
     Ok(line)
 }
 
-#[test]
-fn the_limit_counts_the_bytes_before_the_lf(rt: HostRuntime) -> Result<(), Fail> {
-    for (len, end, want) in [
-        (1_048_576, "\n", r#"{"code":"B1","line":2}"#),
-        (1_048_577, "\n", r#"{"code":"L1","line":2}"#),
-        (1_048_575, "\r\n", r#"{"code":"B1","line":2}"#),
-        (1_048_576, "\r\n", r#"{"code":"L1","line":2}"#),
-        (1_048_576, "", r#"{"code":"L3","line":2}"#),
-        (1_048_577, "", r#"{"code":"L1","line":2}"#),
-    ] {
-        let line = padded(rt.alloc(), r#"{"ops":[]}"#, len, end)?;
-        assert_eq!(rt;
-            answer(rt.alloc(), &line, 2)?.as_str(),
-            want,
-            "{len} {end:?}"
-        );
+/// A batch without operations: its bytes before the end, its end, and what it is answered.
+const LENGTHS: [(usize, &str, &str); 6] = [
+    (1_048_576, "\n", r#"{"code":"B1","line":2}"#),
+    (1_048_577, "\n", r#"{"code":"L1","line":2}"#),
+    (1_048_575, "\r\n", r#"{"code":"B1","line":2}"#),
+    (1_048_576, "\r\n", r#"{"code":"L1","line":2}"#),
+    (1_048_576, "", r#"{"code":"L3","line":2}"#),
+    (1_048_577, "", r#"{"code":"L1","line":2}"#),
+];
+
+fn are_limited(rt: &impl Abort, alloc: Global, cases: &[(usize, &str, &str)]) -> Result<(), Fail> {
+    for (len, end, want) in cases {
+        let line = padded(alloc, r#"{"ops":[]}"#, *len, end)?;
+        is_answered(rt, alloc, &line, 2, want)?;
     }
     Ok(())
 }
 
 #[test]
-fn each_beginning_of_a_line_is_truncated(rt: HostRuntime) -> Result<(), Fail> {
-    let bytes = FIRST.as_bytes();
-    let want = r#"{"code":"L3","line":18446744073709551615}"#;
+fn the_limit_counts_the_bytes_before_the_lf(rt: HostRuntime) -> Result<(), Fail> {
+    are_limited(&rt, rt.alloc(), &LENGTHS)
+}
+
+/// Each front of the text is answered so as the last line.
+fn fronts_are_answered(rt: &impl Abort, alloc: Global, text: &str, want: &str) -> Result<(), Fail> {
+    let bytes = text.as_bytes();
     for len in 1..bytes.len() + 1 {
         let front = bytes.split_at(len).0;
-        assert_eq!(rt;
-            answer(rt.alloc(), front, u64::MAX)?.as_str(),
-            want,
-            "{len}"
-        );
+        is_answered(rt, alloc, front, u64::MAX, want)?;
     }
+    Ok(())
+}
+
+const TRUNCATED: &str = r#"{"code":"L3","line":18446744073709551615}"#;
+
+const ANSWERED: &str =
+    r#"{"call":1,"place":1,"replies":[{"agent":{"id":"spiffe://ex.org/spire/agent/n1","selectors":["x:1"]}}],"result":"committed"}"#;
+
+#[test]
+fn each_beginning_of_a_line_is_truncated(rt: HostRuntime) -> Result<(), Fail> {
+    fronts_are_answered(&rt, rt.alloc(), FIRST, TRUNCATED)?;
     let whole = line_of(rt.alloc(), FIRST)?;
-    let want =
-        r#"{"call":1,"place":1,"replies":[{"agent":{"id":"spiffe://ex.org/spire/agent/n1","selectors":["x:1"]}}],"result":"committed"}"#;
-    assert_eq!(rt; answer(rt.alloc(), &whole, 1)?.as_str(), want);
+    is_answered(&rt, rt.alloc(), &whole, 1, ANSWERED)
+}
+
+const NOT_JSON: &str = r#"{"code":"L2","line":1}"#;
+
+/// Lines that are no text.
+const NO_TEXTS: [&[u8]; 7] = [
+    b"\xff\n",
+    b"{\"\xc3\":1}\n",
+    b"{\"ops\":\"\xed\xa0\x80\"}\n",
+    b"\"\xc0\x80\"\n",
+    b"\xef\xbb\xbf{}\n",
+    b"\0\n",
+    b" \t\r\n",
+];
+
+/// What stands before so many lists in each other, what behind, and what the line is answered.
+const NESTED: [(&str, usize, &str, &str); 4] = [
+    ("", 127, "", r#"{"code":"L4","line":1}"#),
+    ("", 128, "", NOT_JSON),
+    (
+        "{\"ops\":[",
+        125,
+        "]}",
+        r#"{"code":"L5","field":"ops","line":1,"op":0}"#,
+    ),
+    ("{\"ops\":[", 126, "]}", NOT_JSON),
+];
+
+fn are_answered(rt: &impl Abort, alloc: Global, lines: &[&[u8]], want: &str) -> Result<(), Fail> {
+    for line in lines {
+        is_answered(rt, alloc, line, 1, want)?;
+    }
+    Ok(())
+}
+
+fn are_nested(
+    rt: &impl Abort,
+    alloc: Global,
+    cases: &[(&str, usize, &str, &str)],
+) -> Result<(), Fail> {
+    for (start, count, end, want) in cases {
+        let line = nested(alloc, start, *count, end)?;
+        is_answered(rt, alloc, &line, 1, want)?;
+    }
     Ok(())
 }
 
 #[test]
 fn lines_are_utf8_and_not_too_deep(rt: HostRuntime) -> Result<(), Fail> {
-    let not_json = r#"{"code":"L2","line":1}"#;
-    for line in [
-        b"\xff\n".as_slice(),
-        b"{\"\xc3\":1}\n",
-        b"{\"ops\":\"\xed\xa0\x80\"}\n",
-        b"\"\xc0\x80\"\n",
-        b"\xef\xbb\xbf{}\n",
-        b"\0\n",
-        b" \t\r\n",
-    ] {
-        assert_eq!(rt; answer(rt.alloc(), line, 1)?.as_str(), not_json, "{line:?}");
-    }
-    for (start, count, end, want) in [
-        ("", 127, "", r#"{"code":"L4","line":1}"#),
-        ("", 128, "", not_json),
-        (
-            "{\"ops\":[",
-            125,
-            "]}",
-            r#"{"code":"L5","field":"ops","line":1,"op":0}"#,
-        ),
-        ("{\"ops\":[", 126, "]}", not_json),
-    ] {
-        let line = nested(rt.alloc(), start, count, end)?;
-        assert_eq!(rt; answer(rt.alloc(), &line, 1)?.as_str(), want, "{count}");
+    are_answered(&rt, rt.alloc(), &NO_TEXTS, NOT_JSON)?;
+    are_nested(&rt, rt.alloc(), &NESTED)
+}
+
+/// Parts that are no text.
+const PARTS: [&[u8]; 3] = [b"\xff", b"{\"ops\":\"\xc3", b"{\"ops\":[]}\xf0\x9f"];
+
+fn are_answered_with_lf(
+    rt: &impl Abort,
+    alloc: Global,
+    parts: &[&[u8]],
+    want: &str,
+) -> Result<(), Fail> {
+    for part in parts {
+        let mut line = Vec::from_slice(alloc, part)?;
+        line.push(b'\n')?;
+        is_answered(rt, alloc, &line, 1, want)?;
     }
     Ok(())
 }
@@ -102,17 +146,6 @@ fn lines_are_utf8_and_not_too_deep(rt: HostRuntime) -> Result<(), Fail> {
 /// A last part without LF is truncated, whatever it holds; a line of the same bytes is no JSON text.
 #[test]
 fn a_last_part_that_is_no_text_is_truncated(rt: HostRuntime) -> Result<(), Fail> {
-    for part in [
-        b"\xff".as_slice(),
-        b"{\"ops\":\"\xc3",
-        b"{\"ops\":[]}\xf0\x9f",
-    ] {
-        let got = answer(rt.alloc(), part, 1)?;
-        assert_eq!(rt; got.as_str(), r#"{"code":"L3","line":1}"#, "{part:?}");
-        let mut line = Vec::from_slice(rt.alloc(), part)?;
-        line.push(b'\n')?;
-        let got = answer(rt.alloc(), &line, 1)?;
-        assert_eq!(rt; got.as_str(), r#"{"code":"L2","line":1}"#, "{part:?}");
-    }
-    Ok(())
+    are_answered(&rt, rt.alloc(), &PARTS, r#"{"code":"L3","line":1}"#)?;
+    are_answered_with_lf(&rt, rt.alloc(), &PARTS, NOT_JSON)
 }

@@ -3,6 +3,7 @@
 use crate::answers::new_ids;
 use crate::spelled::{spelled, spells, spells_with};
 use std::alloc::Global;
+use std::process::Abort;
 use std::test::Fail;
 
 /// Lines of operations on entries, and what each spells.
@@ -241,22 +242,47 @@ fn with_text(alloc: Global, before: &str, count: usize) -> Result<String, Fail> 
     spelled(alloc, &mut new_ids(), line.as_bytes(), 1)
 }
 
+const HINT: &str =
+    r#"{"ops":[{"op":"create","parent":"spiffe://ex.org/a","identity":"spiffe://ex.org/b","selectors":["u:1"],"hint":""#;
+
+const TEXT: &str = r#"{"ops":[{"op":"set_bundle","domain":"b.org","text":""#;
+
+/// What a line spells whose text is so long begins so.
+fn begins(
+    rt: &impl Abort,
+    alloc: Global,
+    (before, count): (&str, usize),
+    want: &str,
+) -> Result<(), Fail> {
+    let got = with_text(alloc, before, count)?;
+    assert!(rt; got.starts_with(want), "{count}");
+    Ok(())
+}
+
+/// A line whose text is so long is refused so.
+fn refuses(
+    rt: &impl Abort,
+    alloc: Global,
+    (before, count): (&str, usize),
+    want: &str,
+) -> Result<(), Fail> {
+    let got = with_text(alloc, before, count)?;
+    assert_eq!(rt; got.as_str(), want, "{count}");
+    Ok(())
+}
+
 #[test]
 fn lengths_of_texts_are_of_bytes_after_escapes(rt: HostRuntime) -> Result<(), Fail> {
-    let hint =
-        r#"{"ops":[{"op":"create","parent":"spiffe://ex.org/a","identity":"spiffe://ex.org/b","selectors":["u:1"],"hint":""#;
-    let text = r#"{"ops":[{"op":"set_bundle","domain":"b.org","text":""#;
-    assert!(rt; with_text(rt.alloc(), hint, 512)?.starts_with("1; create "));
-    assert_eq!(rt;
-        with_text(rt.alloc(), hint, 513)?.as_str(),
-        r#"{"code":"B8","line":1,"op":0}"#
-    );
-    assert!(rt; with_text(rt.alloc(), text, 32_768)?.starts_with("1; set_bundle "));
-    assert_eq!(rt;
-        with_text(rt.alloc(), text, 32_769)?.as_str(),
-        r#"{"code":"B12","line":1,"op":0}"#
-    );
-    Ok(())
+    let alloc = rt.alloc();
+    begins(&rt, alloc, (HINT, 512), "1; create ")?;
+    refuses(&rt, alloc, (HINT, 513), r#"{"code":"B8","line":1,"op":0}"#)?;
+    begins(&rt, alloc, (TEXT, 32_768), "1; set_bundle ")?;
+    refuses(
+        &rt,
+        alloc,
+        (TEXT, 32_769),
+        r#"{"code":"B12","line":1,"op":0}"#,
+    )
 }
 
 /// Lines in which each `*` stands for 254 letters written as escapes, and what each spells, with those letters as they
@@ -276,5 +302,5 @@ const LONG_NAMES: &str = r#"
 
 #[test]
 fn lengths_of_names_are_of_bytes_after_escapes(rt: HostRuntime) -> Result<(), Fail> {
-    spells_with(&rt, rt.alloc(), LONG_NAMES, 254, ["\\u0078", "x"])
+    spells_with(&rt, rt.alloc(), LONG_NAMES, 254, ("\\u0078", "x"))
 }

@@ -1,13 +1,16 @@
 //! What is printed for each reply and each refusal?
 
-use crate::answers::{answer, answers, answers_in_a_row, new_book, printed, without_memory};
+use crate::answers::{
+    answer, answers, answers_in_a_row, is_answered, new_book, prints, trust_domain, without_memory,
+};
 use entry_book::{
     Batch, DomainSet, Limit, NewEntry, Op, OpRefusal, Outcome, Refusal, Reply, Sequence, Shared,
     Text,
 };
 use reg_lines::CallReply;
-use spiffe_name::{Selector, SelectorSet, SpiffeId, TrustDomain};
+use spiffe_name::{Selector, SelectorSet, SpiffeId};
 use std::alloc::Global;
+use std::process::Abort;
 use std::test::Fail;
 use uuid::Uuid;
 
@@ -60,29 +63,39 @@ fn created(alloc: Global, id: &str) -> Result<String, Fail> {
     answer(alloc, line.as_bytes(), 1)
 }
 
-#[test]
-fn an_id_is_read_in_each_of_its_forms(rt: HostRuntime) -> Result<(), Fail> {
-    let want =
-        r#"{"call":1,"place":1,"replies":[{"entry":{"domains":[],"expiry":0,"hint":"","id":"0a0b0c0d-0000-4000-8000-0000000000ff","identity":"spiffe://ex.org/b","parent":"spiffe://ex.org/a","revision":0,"selectors":["u:1"]}}],"result":"committed"}"#;
-    for id in [
-        "0a0b0c0d-0000-4000-8000-0000000000ff",
-        "0A0B0C0D-0000-4000-8000-0000000000FF",
-        "0a0b0c0d0000400080000000000000ff",
-        "{0a0b0c0d-0000-4000-8000-0000000000fF}",
-        "urn:uuid:0a0b0c0d-0000-4000-8000-0000000000ff",
-        "URN:uuid:0a0b0c0d-0000-4000-8000-0000000000ff",
-    ] {
-        assert_eq!(rt; created(rt.alloc(), id)?.as_str(), want, "{id}");
-    }
-    for id in [
-        "",
-        "0a0b0c0d-0000-4000-8000-0000000000f",
-        "0a0b0c0d-0000-4000-8000-0000000000fg",
-    ] {
-        let want = r#"{"code":"U1","field":"id","line":1,"op":0}"#;
-        assert_eq!(rt; created(rt.alloc(), id)?.as_str(), want, "{id}");
+/// The forms of one id.
+const FORMS: [&str; 6] = [
+    "0a0b0c0d-0000-4000-8000-0000000000ff",
+    "0A0B0C0D-0000-4000-8000-0000000000FF",
+    "0a0b0c0d0000400080000000000000ff",
+    "{0a0b0c0d-0000-4000-8000-0000000000fF}",
+    "urn:uuid:0a0b0c0d-0000-4000-8000-0000000000ff",
+    "URN:uuid:0a0b0c0d-0000-4000-8000-0000000000ff",
+];
+
+const CREATED: &str =
+    r#"{"call":1,"place":1,"replies":[{"entry":{"domains":[],"expiry":0,"hint":"","id":"0a0b0c0d-0000-4000-8000-0000000000ff","identity":"spiffe://ex.org/b","jwt_svid_ttl":1,"parent":"spiffe://ex.org/a","revision":0,"selectors":["u:1"],"x509_svid_ttl":18446744073709551615}}],"result":"committed"}"#;
+
+const NO_FORMS: [&str; 3] = [
+    "",
+    "0a0b0c0d-0000-4000-8000-0000000000f",
+    "0a0b0c0d-0000-4000-8000-0000000000fg",
+];
+
+/// A create with each of these ids is answered so.
+fn are_created(rt: &impl Abort, alloc: Global, ids: &[&str], want: &str) -> Result<(), Fail> {
+    for id in ids {
+        let got = created(alloc, id)?;
+        assert_eq!(rt; got.as_str(), want, "{id}");
     }
     Ok(())
+}
+
+#[test]
+fn an_id_is_read_in_each_of_its_forms(rt: HostRuntime) -> Result<(), Fail> {
+    are_created(&rt, rt.alloc(), &FORMS, CREATED)?;
+    let want = r#"{"code":"U1","field":"id","line":1,"op":0}"#;
+    are_created(&rt, rt.alloc(), &NO_FORMS, want)
 }
 
 /// A line of so many questions, the last of which is of this agent.
@@ -96,31 +109,39 @@ fn questions(alloc: Global, count: usize, last: &str) -> Result<String, Fail> {
     Ok(line)
 }
 
-#[test]
-fn a_batch_has_at_most_64_operations(rt: HostRuntime) -> Result<(), Fail> {
-    let good = r#"{"op":"authorised","agent":"spiffe://ex.org/spire/agent/n1"}"#;
-    for (count, last, want) in [
-        (
-            64,
-            good,
-            r#"{"call":1,"code":"O7","op":0,"place":0,"result":"refused"}"#,
-        ),
-        (65, good, r#"{"code":"B2","line":9}"#),
-        (
-            65,
-            r#"{"op":"mint"}"#,
-            r#"{"code":"L5","field":"op","line":9,"op":64}"#,
-        ),
-        (
-            65,
-            r#"{"op":"authorised","agent":"spiffe://ex.org/n1/"}"#,
-            r#"{"code":"I6","field":"agent","line":9,"op":64}"#,
-        ),
-    ] {
-        let line = questions(rt.alloc(), count, last)?;
-        assert_eq!(rt; answer(rt.alloc(), line.as_bytes(), 9)?.as_str(), want);
+const GOOD: &str = r#"{"op":"authorised","agent":"spiffe://ex.org/spire/agent/n1"}"#;
+
+/// How many questions, the last of them, and what they are answered.
+const COUNTS: [(usize, &str, &str); 4] = [
+    (
+        64,
+        GOOD,
+        r#"{"call":1,"code":"O7","op":0,"place":0,"result":"refused"}"#,
+    ),
+    (65, GOOD, r#"{"code":"B2","line":9}"#),
+    (
+        65,
+        r#"{"op":"mint"}"#,
+        r#"{"code":"L5","field":"op","line":9,"op":64}"#,
+    ),
+    (
+        65,
+        r#"{"op":"authorised","agent":"spiffe://ex.org/n1/"}"#,
+        r#"{"code":"I6","field":"agent","line":9,"op":64}"#,
+    ),
+];
+
+fn are_counted(rt: &impl Abort, alloc: Global, cases: &[(usize, &str, &str)]) -> Result<(), Fail> {
+    for (count, last, want) in cases {
+        let line = questions(alloc, *count, last)?;
+        is_answered(rt, alloc, line.as_bytes(), 9, want)?;
     }
     Ok(())
+}
+
+#[test]
+fn a_batch_has_at_most_64_operations(rt: HostRuntime) -> Result<(), Fail> {
+    are_counted(&rt, rt.alloc(), &COUNTS)
 }
 
 /// The answer to a line with a selector `x:` and so many times the escape of a letter of two bytes.
@@ -136,30 +157,40 @@ fn with_escapes(alloc: Global, count: usize) -> Result<String, Fail> {
     answer(alloc, line.as_bytes(), 1)
 }
 
-#[test]
-fn the_length_of_a_text_is_that_of_its_bytes_after_escapes(rt: HostRuntime) -> Result<(), Fail> {
-    let got = with_escapes(rt.alloc(), 255)?;
-    assert!(rt;
-        got.as_str()
-            .starts_with(r#"{"call":1,"place":1,"replies":[{"agent":"#),
-        "{got}"
-    );
-    let want = r#"{"code":"S1","field":"selectors","line":1,"op":0}"#;
-    assert_eq!(rt; with_escapes(rt.alloc(), 256)?.as_str(), want);
+/// The answer to so many escapes begins so.
+fn begins(rt: &impl Abort, alloc: Global, count: usize, want: &str) -> Result<(), Fail> {
+    let got = with_escapes(alloc, count)?;
+    assert!(rt; got.starts_with(want), "{got}");
     Ok(())
 }
 
-fn domain_of(alloc: Global, text: &str) -> Result<TrustDomain, Fail> {
-    Ok(TrustDomain::parse(alloc, text)?)
+/// The answer to so many escapes is this.
+fn refuses(rt: &impl Abort, alloc: Global, count: usize, want: &str) -> Result<(), Fail> {
+    let got = with_escapes(alloc, count)?;
+    assert_eq!(rt; got.as_str(), want);
+    Ok(())
+}
+
+#[test]
+fn the_length_of_a_text_is_that_of_its_bytes_after_escapes(rt: HostRuntime) -> Result<(), Fail> {
+    let want = r#"{"call":1,"place":1,"replies":[{"agent":"#;
+    begins(&rt, rt.alloc(), 255, want)?;
+    let want = r#"{"code":"S1","field":"selectors","line":1,"op":0}"#;
+    refuses(&rt, rt.alloc(), 256, want)
 }
 
 fn id_of(alloc: Global, text: &str) -> Result<Shared<SpiffeId>, Fail> {
     Ok(Shared::of(alloc, SpiffeId::parse(alloc, text)?)?)
 }
 
-/// The reply to a create with a hint that has to be escaped, the latest expiry, and the longest and the shortest lifetime.
-fn reply_with_hint(alloc: Global) -> Result<Reply, Fail> {
-    let selectors = Vec::from_array(alloc, [Selector::parse(alloc, "u:1")?])?;
+/// The selector of a text, alone.
+fn selectors_of(alloc: Global, text: &str) -> Result<Vec<Selector>, Fail> {
+    Ok(Vec::from_array(alloc, [Selector::parse(alloc, text)?])?)
+}
+
+/// An entry with a hint that has to be escaped, the latest expiry, and the longest and the shortest lifetime.
+fn entry_with_hint(alloc: Global) -> Result<NewEntry, Fail> {
+    let selectors = selectors_of(alloc, "u:1")?;
     let new = NewEntry {
         id: Uuid::from_u128(1),
         parent: id_of(alloc, "spiffe://ex.org/a")?,
@@ -171,6 +202,12 @@ fn reply_with_hint(alloc: Global) -> Result<Reply, Fail> {
         x509_svid_ttl: u64::MAX,
         jwt_svid_ttl: 1,
     };
+    Ok(new)
+}
+
+/// The reply to a create of the entry.
+fn reply_with_hint(alloc: Global) -> Result<Reply, Fail> {
+    let new = entry_with_hint(alloc)?;
     let mut book = new_book(alloc)?;
     let mut ops = Sequence::empty(alloc);
     ops.push(Op::Create(Shared::of(alloc, new)?))?;
@@ -178,45 +215,57 @@ fn reply_with_hint(alloc: Global) -> Result<Reply, Fail> {
     Ok(book.run(&batch)?)
 }
 
+const WITH_HINT: &str =
+    r#"{"call":18446744073709551615,"place":1,"replies":[{"entry":{"domains":[],"expiry":18446744073709551615,"hint":"a \"hint\"\n","id":"00000000-0000-0000-0000-000000000001","identity":"spiffe://ex.org/b","parent":"spiffe://ex.org/a","revision":0,"selectors":["u:1"]}}],"result":"committed"}"#;
+
 #[test]
-fn values_made_without_a_line_are_printed(rt: HostRuntime) -> Result<(), Fail> {
-    let alloc = rt.alloc();
-    let reply = reply_with_hint(alloc)?;
+fn a_reply_made_without_a_line_is_printed(rt: HostRuntime) -> Result<(), Fail> {
+    let reply = reply_with_hint(rt.alloc())?;
     let line = CallReply {
         call: u64::MAX,
         reply: &reply,
     };
-    let want =
-        r#"{"call":18446744073709551615,"place":1,"replies":[{"entry":{"domains":[],"expiry":18446744073709551615,"hint":"a \"hint\"\n","id":"00000000-0000-0000-0000-000000000001","identity":"spiffe://ex.org/b","jwt_svid_ttl":1,"parent":"spiffe://ex.org/a","revision":0,"selectors":["u:1"],"x509_svid_ttl":18446744073709551615}}],"result":"committed"}"#;
-    assert_eq!(rt; printed(alloc, &line)?.as_str(), want);
-    let domain = Shared::of(alloc, domain_of(alloc, "b.org")?)?;
-    let reply = Reply {
+    prints(&rt, rt.alloc(), &line, WITH_HINT)
+}
+
+/// A refusal for want of this domain's bundle.
+fn reply_without_bundle(alloc: Global, domain: &str) -> Result<Reply, Fail> {
+    let domain = Shared::of(alloc, trust_domain(alloc, domain)?)?;
+    Ok(Reply {
         place: 3,
         outcome: Outcome::Refused(Refusal::OfOp(2, OpRefusal::NoBundle(domain))),
-    };
+    })
+}
+
+#[test]
+fn a_refusal_made_without_a_line_is_printed(rt: HostRuntime) -> Result<(), Fail> {
+    let reply = reply_without_bundle(rt.alloc(), "b.org")?;
     let line = CallReply {
         call: 7,
         reply: &reply,
     };
     let want = r#"{"call":7,"code":"O5","detail":"b.org","op":2,"place":3,"result":"refused"}"#;
-    assert_eq!(rt; printed(alloc, &line)?.as_str(), want);
-    let domains = Vec::from_array(
-        alloc,
-        [
-            domain_of(alloc, "b.org")?,
-            domain_of(alloc, "a.org")?,
-            domain_of(alloc, "b.org")?,
-        ],
-    )?;
-    assert_eq!(rt;
-        printed(alloc, &DomainSet::of(alloc, domains)?)?.as_str(),
-        r#"["a.org","b.org"]"#
-    );
-    assert_eq!(rt;
-        printed(alloc, &without_memory(12))?.as_str(),
-        r#"{"code":"L6","line":12}"#
-    );
-    Ok(())
+    prints(&rt, rt.alloc(), &line, want)
+}
+
+fn domains_of(alloc: Global, names: &[&str]) -> Result<DomainSet, Fail> {
+    let mut domains = Vec::new(alloc);
+    for name in names {
+        domains.push(trust_domain(alloc, name)?)?;
+    }
+    Ok(DomainSet::of(alloc, domains)?)
+}
+
+#[test]
+fn domains_and_want_of_memory_are_printed(rt: HostRuntime) -> Result<(), Fail> {
+    let domains = domains_of(rt.alloc(), &["b.org", "a.org", "b.org"])?;
+    prints(&rt, rt.alloc(), &domains, r#"["a.org","b.org"]"#)?;
+    prints(
+        &rt,
+        rt.alloc(),
+        &without_memory(12),
+        r#"{"code":"L6","line":12}"#,
+    )
 }
 
 #[test]
@@ -230,6 +279,5 @@ fn a_full_history_is_told(rt: HostRuntime) -> Result<(), Fail> {
         reply: &reply,
     };
     let want = r#"{"call":3,"code":"W2","place":281474976710656,"result":"refused"}"#;
-    assert_eq!(rt; printed(rt.alloc(), &line)?.as_str(), want);
-    Ok(())
+    prints(&rt, rt.alloc(), &line, want)
 }

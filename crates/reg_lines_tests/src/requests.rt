@@ -90,8 +90,8 @@ true => {"code":"L4","line":1}
 {"ops":[{"op":"mint"}]} => {"code":"L5","field":"op","line":1,"op":0}
 {"ops":[{"op":"Create"}]} => {"code":"L5","field":"op","line":1,"op":0}
 {"ops":[{"zz":1}]} => {"code":"L5","field":"op","line":1,"op":0}
-{"ops":[{"op":"authorised","agent":"spiffe://ex.org/spire/agent/n1"},{"op":"authorised","agent":"spiffe://ex.org/spire/agent/n1"},{"op":"page","size":1}]} => {"code":"L5","field":"op","line":1,"op":2}
-{"ops":[{"op":"page"}]} => {"code":"L5","field":"op","line":1,"op":0}
+{"ops":[{"op":"authorised","agent":"spiffe://ex.org/spire/agent/n1"},{"op":"authorised","agent":"spiffe://ex.org/spire/agent/n1"},{"op":"pages","size":1}]} => {"code":"L5","field":"op","line":1,"op":2}
+{"ops":[{"op":"pages"}]} => {"code":"L5","field":"op","line":1,"op":0}
 
 # keys of an operation that aren't known: after the known ones, in the order of their bytes
 {"ops":[{"op":"show","id":"00000000-0000-0000-0000-000000000001","zz":1,"aa":1,"Zz":1}]} => {"code":"L5","field":"Zz","line":1,"op":0}
@@ -189,11 +189,12 @@ const MANY: &str = r#"
 {"ops":[{"op":"show","id":"00000000-0000-0000-0000-000000000001"}*,7]} => {"code":"L5","field":"ops","line":1,"op":64}
 "#;
 
+/// One more question, and what it spells.
+const SHOW: &str = r#",{"op":"show","id":"00000000-0000-0000-0000-000000000001"}"#;
+
+const SHOWN: &str = r#"; show "00000000-0000-0000-0000-000000000001""#;
+
 #[test]
 fn one_operation_too_many_is_told_after_a_refused_one(rt: HostRuntime) -> Result<(), Fail> {
-    let more = [
-        r#",{"op":"show","id":"00000000-0000-0000-0000-000000000001"}"#,
-        r#"; show "00000000-0000-0000-0000-000000000001""#,
-    ];
-    spells_with(&rt, rt.alloc(), MANY, 63, more)
+    spells_with(&rt, rt.alloc(), MANY, 63, (SHOW, SHOWN))
 }

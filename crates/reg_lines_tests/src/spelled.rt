@@ -1,9 +1,9 @@
 //! Which operations does a line spell, in a text that tables tell?
 
-use crate::answers::{line_of, new_ids, printed};
+use crate::answers::{line_of, new_ids, printed, trust_domain};
 use entry_book::{NewEntry, Op, PageQuery, SelectorMatch};
-use reg_lines::{Ids, PrintJson, read_request};
-use spiffe_name::{Failure, TrustDomain};
+use reg_lines::{Ids, PrintJson, Request, read_request};
+use spiffe_name::Failure;
 use std::alloc::Global;
 use std::process::Abort;
 use std::test::Fail;
@@ -115,24 +115,8 @@ fn op_text(alloc: Global, op: &Op) -> Result<String, Fail> {
     Ok(format!(in alloc; "{name} {fields}")?)
 }
 
-/// What a line spells in the trust domain `ex.org`: how often it may be tried, and its operations; or the printed
-/// refusal. Want of memory is an error, so that no table has to know of it.
-pub(crate) fn spelled(
-    alloc: Global,
-    ids: &mut Ids,
-    line: &[u8],
-    number: u64,
-) -> Result<String, Fail> {
-    let domain = TrustDomain::parse(alloc, "ex.org")?;
-    let request = match read_request(alloc, &domain, ids, line, number) {
-        Ok(request) => request,
-        Err(refusal) => {
-            if let Failure::NoMemory = &refusal.failure {
-                return Err(Fail::from("no memory"));
-            }
-            return printed(alloc, &refusal);
-        }
-    };
+/// How often a request may be tried, and its operations.
+fn request_text(alloc: Global, request: &Request) -> Result<String, Fail> {
     let mut text = number_text(alloc, Some(request.tries.count()))?;
     for op in request.batch.ops() {
         text.push_str("; ")?;
@@ -141,13 +125,45 @@ pub(crate) fn spelled(
     Ok(text)
 }
 
+/// What a line spells in the trust domain `ex.org`: how often it may be tried, and its operations; or the printed
+/// refusal. Want of memory is an error, so that no table has to know of it.
+pub(crate) fn spelled(
+    alloc: Global,
+    ids: &mut Ids,
+    line: &[u8],
+    number: u64,
+) -> Result<String, Fail> {
+    let domain = trust_domain(alloc, "ex.org")?;
+    match read_request(alloc, &domain, ids, line, number) {
+        Ok(request) => request_text(alloc, &request),
+        Err(refusal) => {
+            if let Failure::NoMemory = &refusal.failure {
+                return Err(Fail::from("no memory"));
+            }
+            printed(alloc, &refusal)
+        }
+    }
+}
+
+/// The line spells this with these ids.
+fn is_spelled(
+    rt: &impl Abort,
+    alloc: Global,
+    ids: &mut Ids,
+    (text, number): (&str, u64),
+    want: &str,
+) -> Result<(), Fail> {
+    let line = line_of(alloc, text)?;
+    let got = spelled(alloc, ids, &line, number)?;
+    assert_eq!(rt; got.as_str(), want, "{text}");
+    Ok(())
+}
+
 /// Each line of the table is a request line and what it spells. Each is read with the first ids of the seed of zeros.
 pub(crate) fn spells(rt: &impl Abort, alloc: Global, table: &str) -> Result<(), Fail> {
     for case in table.lines() {
         if let Some((text, want)) = case.split_once(" => ") {
-            let line = line_of(alloc, text)?;
-            let got = spelled(alloc, &mut new_ids(), &line, 1)?;
-            assert_eq!(rt; got.as_str(), want, "{text}");
+            is_spelled(rt, alloc, &mut new_ids(), (text, 1), want)?;
         }
     }
     Ok(())
@@ -160,9 +176,7 @@ pub(crate) fn spells_in_a_row(rt: &impl Abort, alloc: Global, table: &str) -> Re
     for case in table.lines() {
         if let Some((text, want)) = case.split_once(" => ") {
             count = count.saturating_add(1);
-            let line = line_of(alloc, text)?;
-            let got = spelled(alloc, &mut ids, &line, count)?;
-            assert_eq!(rt; got.as_str(), want, "{text}");
+            is_spelled(rt, alloc, &mut ids, (text, count), want)?;
         }
     }
     Ok(())
@@ -174,6 +188,19 @@ fn with_pieces(alloc: Global, text: &str, count: usize, piece: &str) -> Result<S
     Ok(text.replace(alloc, "*", pieces.as_str())?)
 }
 
+/// The same of one line.
+fn is_spelled_with(
+    rt: &impl Abort,
+    alloc: Global,
+    (text, want): (&str, &str),
+    count: usize,
+    (piece, spelled_piece): (&str, &str),
+) -> Result<(), Fail> {
+    let text = with_pieces(alloc, text, count, piece)?;
+    let want = with_pieces(alloc, want, count, spelled_piece)?;
+    is_spelled(rt, alloc, &mut new_ids(), (text.as_str(), 1), want.as_str())
+}
+
 /// The same where each `*` of a line stands for the first piece, so many times, and each `*` of what it spells for the
 /// second.
 pub(crate) fn spells_with(
@@ -181,14 +208,11 @@ pub(crate) fn spells_with(
     alloc: Global,
     table: &str,
     count: usize,
-    [piece, spelled_piece]: [&str; 2],
+    pieces: (&str, &str),
 ) -> Result<(), Fail> {
     for case in table.lines() {
-        if let Some((text, want)) = case.split_once(" => ") {
-            let line = line_of(alloc, with_pieces(alloc, text, count, piece)?.as_str())?;
-            let want = with_pieces(alloc, want, count, spelled_piece)?;
-            let got = spelled(alloc, &mut new_ids(), &line, 1)?;
-            assert_eq!(rt; got.as_str(), want.as_str(), "{text}");
+        if let Some(case) = case.split_once(" => ") {
+            is_spelled_with(rt, alloc, case, count, pieces)?;
         }
     }
     Ok(())

@@ -10,7 +10,7 @@ const REFUSED: &str = r#"
 operations and keys that aren't there (yet)
 {"ops":[{"op":"mint"}]}
 {"code":"L5","field":"op","line":1,"op":0}
-{"ops":[{"op":"page","size":1}]}
+{"ops":[{"op":"pages","size":1}]}
 {"code":"L5","field":"op","line":2,"op":0}
 {"after":0,"ops":[{"op":"show","id":"00000000-0000-0000-0000-000000000001"}]}
 {"code":"L5","field":"after","line":3}
