@@ -118,7 +118,7 @@ fn set_bundle(alloc: Global, text: &str) -> Result<Op, Fail> {
 }
 
 /// A random entry.
-fn row(state: &mut u64, number: u16) -> Row {
+fn random_row(state: &mut u64, number: u16) -> Row {
     Row {
         number,
         parent: below(state, 2),
@@ -135,7 +135,7 @@ fn filled(alloc: Global, book: &mut PlainBook, state: &mut u64) -> Result<Vec<Ro
     }
     let mut rows = Vec::new(alloc);
     for number in 1..14 {
-        let row = row(state, number);
+        let row = random_row(state, number);
         if let Outcome::Committed(_) = answered(alloc, book, create(alloc, &row)?)?.outcome {
             rows.push(row)?;
         }
@@ -144,7 +144,7 @@ fn filled(alloc: Global, book: &mut PlainBook, state: &mut u64) -> Result<Vec<Ro
 }
 
 /// A random filter: each part is given in half of the cases.
-fn asked(state: &mut u64) -> Asked {
+fn random_filter(state: &mut u64) -> Asked {
     let parent = [None, Some(below(state, 2))][below(state, 2) & 1];
     let identity = [None, Some(below(state, 2))][below(state, 2) & 1];
     let domain = [None, Some(below(state, 2))][below(state, 2) & 1];
@@ -291,7 +291,7 @@ fn pages_are_what_a_search_finds(rt: HostRuntime) -> Result<(), Fail> {
     let rows = filled(alloc, &mut book, &mut state)?;
     assert!(rt; rows.len() > 8);
     for _ in 0..40 {
-        let asked = asked(&mut state);
+        let asked = random_filter(&mut state);
         let size = below(&mut state, 4).wrapping_add(1) as u64;
         are_pages_found(&rt, alloc, &mut book, &rows, (&asked, size))?;
     }

@@ -74,7 +74,7 @@ const FORMS: [&str; 6] = [
 ];
 
 const CREATED: &str =
-    r#"{"call":1,"place":1,"replies":[{"entry":{"domains":[],"expiry":0,"hint":"","id":"0a0b0c0d-0000-4000-8000-0000000000ff","identity":"spiffe://ex.org/b","jwt_svid_ttl":1,"parent":"spiffe://ex.org/a","revision":0,"selectors":["u:1"],"x509_svid_ttl":18446744073709551615}}],"result":"committed"}"#;
+    r#"{"call":1,"place":1,"replies":[{"entry":{"domains":[],"expiry":0,"hint":"","id":"0a0b0c0d-0000-4000-8000-0000000000ff","identity":"spiffe://ex.org/b","parent":"spiffe://ex.org/a","revision":0,"selectors":["u:1"]}}],"result":"committed"}"#;
 
 const NO_FORMS: [&str; 3] = [
     "",
@@ -216,7 +216,7 @@ fn reply_with_hint(alloc: Global) -> Result<Reply, Fail> {
 }
 
 const WITH_HINT: &str =
-    r#"{"call":18446744073709551615,"place":1,"replies":[{"entry":{"domains":[],"expiry":18446744073709551615,"hint":"a \"hint\"\n","id":"00000000-0000-0000-0000-000000000001","identity":"spiffe://ex.org/b","parent":"spiffe://ex.org/a","revision":0,"selectors":["u:1"]}}],"result":"committed"}"#;
+    r#"{"call":18446744073709551615,"place":1,"replies":[{"entry":{"domains":[],"expiry":18446744073709551615,"hint":"a \"hint\"\n","id":"00000000-0000-0000-0000-000000000001","identity":"spiffe://ex.org/b","jwt_svid_ttl":1,"parent":"spiffe://ex.org/a","revision":0,"selectors":["u:1"],"x509_svid_ttl":18446744073709551615}}],"result":"committed"}"#;
 
 #[test]
 fn a_reply_made_without_a_line_is_printed(rt: HostRuntime) -> Result<(), Fail> {
