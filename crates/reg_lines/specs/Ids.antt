@@ -51,9 +51,9 @@ abbrev pub AreOfTheirWords : Type 0
 AreOfTheirWords = (seed : List ℕ) (stream n : ℕ) → 4 * n + 3 < 2 ^ 68
     → next_id (after_ids n (stream_ids seed stream)) ≡ with_version (with_variant (stream_bytes seed stream (4 * n) ++ stream_bytes seed stream (4 * n + 1) ++ stream_bytes seed stream (4 * n + 2) ++ stream_bytes seed stream (4 * n + 3)) RFC4122) Random
 
--- the ids of a seed are those of its stream 0
+-- the ids of a seed, which is the key of the stream cipher, are those of its first stream
 abbrev pub ZeroIsTheSeeds : Type 0
-ZeroIsTheSeeds = (seed : List ℕ) → stream_ids seed 0 ≡ first_ids seed
+ZeroIsTheSeeds = (key : List ℕ) → stream_ids key 0 ≡ first_ids key
 
 -- the first id of the seed of zeros
 abbrev pub IsKnownFirst : Type 0
