@@ -4,7 +4,7 @@ use Rattle.std.specs.Prelude.{MatchResult, filter, bytes_eq}
 use Rattle.spiffe_name.specs.Id.{server_text}
 use Rattle.entry_book.specs.declared.agent.Agent.{Agent}
 use Rattle.entry_book.specs.declared.bundle.Bundle.{Bundle}
-use Rattle.entry_book.specs.declared.op.Op.TheVariants.{Show, ShowAgent, ShowBundle, Children, Page, Authorised, Trust}
+use Rattle.entry_book.specs.declared.op.Op.TheVariants.{Show, ShowAgent, ShowBundle, Children, Authorised, Trust}
 use Rattle.entry_book.specs.declared.reply.OpReply.{OpReply}
 use Rattle.entry_book.specs.declared.reply.OpReply.TheVariants as replied
 use Rattle.entry_book.specs.Rows.{Bytes, Entry, entry_key, agent_key, bundle_key}

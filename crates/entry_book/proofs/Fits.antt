@@ -3,9 +3,10 @@ use Rattle.std.proofs.Common.{Bool, List, [], ◌∷◌, IfOk}
 use Rattle.std.specs.Prelude.{filter}
 use Rattle.entry_book.specs.declared.op.Op.{Op}
 use Rattle.entry_book.specs.Rows.{Bytes, Entry, entry_key, agent_key, bundle_key}
+use Rattle.entry_book.specs.Tokens.{token_key}
 use Rattle.entry_book.specs.Order.{Within}
 use Rattle.entry_book.specs.Book.{Book, AscendingBook}
-use Rattle.entry_book.specs.Writes.{RowWrite, wrote_entry, wrote_agent, wrote_bundle, FitsBook, FitAll, after, after_write}
+use Rattle.entry_book.specs.Writes.{RowWrite, wrote_entry, wrote_agent, wrote_bundle, wrote_token, FitsBook, FitAll, after, after_write}
 use Rattle.entry_book.specs.Ops.{OpEffect, op_of}
 use Rattle.entry_book.proofs.Changed.{rewritten_fits, rewritten_then_fits}
 use Rattle.entry_book.proofs.InOrder.{ascending-with_row}
@@ -14,10 +15,11 @@ use Rattle.entry_book.proofs.Shapes.{Shape, nothing, one_row, entries, entries_t
 
 -- ---- writes that fit keep the rows in order
 
-write_in_order : (w : RowWrite) (b : Book) → AscendingBook b → FitsBook w b → AscendingBook (after_write w b)
-write_in_order (wrote_entry c) b a f = record { entries = ascending-with_row entry_key c.key c.new b.entries a.entries f.keyed; agents = a.agents; bundles = a.bundles }
-write_in_order (wrote_agent c) b a f = record { entries = a.entries; agents = ascending-with_row agent_key c.key c.new b.agents a.agents f.keyed; bundles = a.bundles }
-write_in_order (wrote_bundle c) b a f = record { entries = a.entries; agents = a.agents; bundles = ascending-with_row bundle_key c.key c.new b.bundles a.bundles f.keyed }
+pub write_in_order : (w : RowWrite) (b : Book) → AscendingBook b → FitsBook w b → AscendingBook (after_write w b)
+write_in_order (wrote_entry c) b a f = record { entries = ascending-with_row entry_key c.key c.new b.entries a.entries f.keyed; agents = a.agents; bundles = a.bundles; tokens = a.tokens }
+write_in_order (wrote_agent c) b a f = record { entries = a.entries; agents = ascending-with_row agent_key c.key c.new b.agents a.agents f.keyed; bundles = a.bundles; tokens = a.tokens }
+write_in_order (wrote_bundle c) b a f = record { entries = a.entries; agents = a.agents; bundles = ascending-with_row bundle_key c.key c.new b.bundles a.bundles f.keyed; tokens = a.tokens }
+write_in_order (wrote_token c) b a f = record { entries = a.entries; agents = a.agents; bundles = a.bundles; tokens = ascending-with_row token_key c.key c.new b.tokens a.tokens f.keyed }
 
 pub in_order : (ws : List RowWrite) (b : Book) → AscendingBook b → FitAll ws b → AscendingBook (after ws b)
 in_order [] b a f = a

@@ -10,12 +10,16 @@ use Rattle.entry_book.specs.Book.{Book, empty_book}
 use Rattle.entry_book.specs.Writes.{after}
 use Rattle.entry_book.specs.Runs.{RunEffect, RunResult, run}
 use Rattle.entry_book.specs.Limits.{limit_passed}
-use Rattle.entry_book.specs.Batches.{Batch, IsMadeFor, is_query, op_fault}
-use Rattle.entry_book.specs.History.{last_book, last_or, place_of, Verdict, refuses, answers, adds, adds_within, verdict_when, verdict, reply_with, books_with, reply_to, books_after, books_from, books_of, first_books, is_committed, commits, CommitAll, Leads, IsHistory, PlainState, Stands}
+use Rattle.entry_book.specs.Batches.{Batch, IsMadeFor, is_query, op_fault, past_place}
+use Rattle.entry_book.specs.History.{last_book, last_or, place_of, batch_writes, book_for, is_repeated, Verdict, refuses, answers, adds, repeats, adds_within, verdict_when, verdict_run, verdict, reply_with, books_with, reply_to, books_after, books_from, books_of, first_books, is_committed, commits, CommitAll, Leads, IsHistory, PlainState, Stands}
 use Rattle.entry_book.specs.Lawful.{Lawful}
 use Rattle.entry_book.proofs.Keeps.{run_keeps}
 use Rattle.entry_book.proofs.LawfulRows.{wider}
-use Rattle.entry_book.proofs.Faults.{few_ops, no_fault}
+use Rattle.entry_book.specs.Laws.{AreFaultless}
+use Rattle.entry_book.proofs.Faults.{no_fault}
+use Rattle.entry_book.proofs.OfVerdict.{of_verdict}
+use Rattle.entry_book.proofs.PastPages.{past_asks}
+use Rattle.entry_book.proofs.TokenRows.{writes_keep}
 use Rattle.entry_book.proofs.Sets.{All-more}
 use Rattle.entry_book.proofs.WithinLimits.{none_is_passed}
 
@@ -29,32 +33,41 @@ adds_with : (books : List Book) (v : Verdict) → 0 < length books → is_commit
 adds_with books (refuses r) l h = cc
 adds_with books (answers replies) l h = cc
 adds_with books (adds replies b) l h = ((b, refl, last-snoc empty_book books b), omega arith)
+adds_with books (repeats n replies) l h = cc
 
 pub commit_adds : (batch : Batch) (books : List Book) → 0 < length books → commits batch books ≡ true → ((b : Book) × (books_after batch books ≡ books ++ b ∷ []) × (last_book (books_after batch books) ≡ b)) × ((reply_to batch books).place ≡ length books)
-commit_adds batch books l h = adds_with books (verdict batch (place_of books) (last_book books)) l h
+commit_adds batch books l h = adds_with books (verdict batch (place_of books) (book_for (past_place batch.ops) books)) l h
 
-leaves_with : (books : List Book) (v : Verdict) → is_committed (reply_with (place_of books) v).outcome ≡ false → (books_with books v ≡ books) × ((reply_with (place_of books) v).place ≡ place_of books)
-leaves_with books (refuses r) h = (refl, refl)
-leaves_with books (answers replies) h = (refl, refl)
+-- a batch that isn't committed leaves the books, and is answered at the last one's place, or at that of the commit that it repeats
+leaves_with : (books : List Book) (v : Verdict) → is_committed (reply_with (place_of books) v).outcome ≡ false → (books_with books v ≡ books) × (is_repeated (reply_with (place_of books) v).outcome ≡ false → (reply_with (place_of books) v).place ≡ place_of books)
+leaves_with books (refuses r) h = (refl, λ e. refl)
+leaves_with books (answers replies) h = (refl, λ e. refl)
 leaves_with books (adds replies b) h = cc
+leaves_with books (repeats n replies) h = (refl, λ e. cc)
 
-pub others_leave : (batch : Batch) (books : List Book) → commits batch books ≡ false → (books_after batch books ≡ books) × ((reply_to batch books).place ≡ place_of books)
-others_leave batch books h = leaves_with books (verdict batch (place_of books) (last_book books)) h
+pub others_leave : (batch : Batch) (books : List Book) → commits batch books ≡ false → (books_after batch books ≡ books) × (is_repeated (reply_to batch books).outcome ≡ false → (reply_to batch books).place ≡ place_of books)
+others_leave batch books h = leaves_with books (verdict batch (place_of books) (book_for (past_place batch.ops) books)) h
 
-only_ask : (n : ℕ) (query : Bool) (b : Book) (r : RunResult) → query ≡ true → is_committed (reply_with n (verdict_when query n b r)).outcome ≡ false
-only_ask n query b (Err s) h = refl
-only_ask n true b (Ok t) h = refl
-only_ask n false b (Ok t) h = cc
+only_ask : (n : ℕ) (query : Bool) (batch : Batch) (b : Book) (r : RunResult) → query ≡ true → is_committed (reply_with n (verdict_when query batch n b r)).outcome ≡ false
+only_ask n query batch b (Err s) h = refl
+only_ask n true batch b (Ok t) h = refl
+only_ask n false batch b (Ok t) h = cc
 
 pub queries_only_ask : (batch : Batch) (books : List Book) → is_query batch.ops ≡ true → commits batch books ≡ false
-queries_only_ask batch books h = only_ask (place_of books) (is_query batch.ops) (last_book books) (run batch.domain batch.ops (last_book books)) h
+queries_only_ask batch books h = of_verdict (λ v. is_committed (reply_with (place_of books) v).outcome ≡ false) batch (place_of books) (λ r. refl) (λ n rs. refl) (book_for (past_place batch.ops) books) (λ b e k. only_ask (place_of books) (is_query batch.ops) batch b (run batch.domain batch.ops b) h)
 
 -- what a batch comes to that no operation refuses
-pub verdict_answers : (query : Bool) (n : ℕ) (b : Book) (r : RunResult) (t : RunEffect) → query ≡ true → r ≡ Ok t → verdict_when query n b r ≡ answers t.replies
-verdict_answers query n b r t q e = ap (λ x. verdict_when x n b r) q ∙ ap (verdict_when true n b) e
+pub verdict_answers : (query : Bool) (batch : Batch) (n : ℕ) (b : Book) (r : RunResult) (t : RunEffect) → query ≡ true → r ≡ Ok t → verdict_when query batch n b r ≡ answers t.replies
+verdict_answers query batch n b r t q e = ap (λ x. verdict_when x batch n b r) q ∙ ap (verdict_when true batch n b) e
 
-pub verdict_changes : (query : Bool) (n : ℕ) (b : Book) (r : RunResult) (t : RunEffect) (o : Option Limit) → query ≡ false → r ≡ Ok t → limit_passed n (after t.writes b) ≡ o → verdict_when query n b r ≡ adds_within o t.replies (after t.writes b)
-verdict_changes query n b r t o q e l = ap (λ x. verdict_when x n b r) q ∙ (ap (verdict_when false n b) e ∙ ap (λ x. adds_within x t.replies (after t.writes b)) l)
+pub verdict_changes : (query : Bool) (batch : Batch) (n : ℕ) (b : Book) (r : RunResult) (t : RunEffect) (o : Option Limit) → query ≡ false → r ≡ Ok t → limit_passed n (after (batch_writes batch (n + 1) t) b) ≡ o → verdict_when query batch n b r ≡ adds_within o t.replies (after (batch_writes batch (n + 1) t) b)
+verdict_changes query batch n b r t o q e l = ap (λ x. verdict_when x batch n b r) q ∙ (ap (verdict_when false batch n b) e ∙ ap (λ x. adds_within x t.replies (after (batch_writes batch (n + 1) t) b)) l)
+
+-- what a query comes to leaves the books
+pub asks_with : (P : List Book → Type 0) (books : List Book) (query : Bool) (batch : Batch) (n : ℕ) (b : Book) (r : RunResult) → query ≡ true → P books → P (books_with books (verdict_when query batch n b r))
+asks_with P books query batch n b (Err s) q h = h
+asks_with P books true batch n b (Ok t) q h = h
+asks_with P books false batch n b (Ok t) q h = cc
 
 -- ---- one batch more
 
@@ -114,14 +127,17 @@ few_with : (books : List Book) (c : Book) (replies : List OpReply) (o : Option L
 few_with books c replies (Some limit) h l = l
 few_with books c replies None h l = let k = place_within (place_of books) c h in let n = length-append books (c ∷ []) in omega arith
 
-few_when : (query : Bool) (books : List Book) (b : Book) (r : RunResult) → length books ≤ 2 ^ 48 + 1 → length (books_with books (verdict_when query (place_of books) b r)) ≤ 2 ^ 48 + 1
-few_when query books b (Err s) l = l
-few_when true books b (Ok t) l = l
-few_when false books b (Ok t) l = few_with books (after t.writes b) t.replies (limit_passed (place_of books) (after t.writes b)) refl l
+few_when : (query : Bool) (batch : Batch) (books : List Book) (b : Book) (r : RunResult) → length books ≤ 2 ^ 48 + 1 → length (books_with books (verdict_when query batch (place_of books) b r)) ≤ 2 ^ 48 + 1
+few_when query batch books b (Err s) l = l
+few_when true batch books b (Ok t) l = l
+few_when false batch books b (Ok t) l = let c = after (batch_writes batch (place_of books + 1) t) b in few_with books c t.replies (limit_passed (place_of books) c) refl l
+
+few_after : (books : List Book) (batch : Batch) → length books ≤ 2 ^ 48 + 1 → length (books_after batch books) ≤ 2 ^ 48 + 1
+few_after books x l = of_verdict (λ v. length (books_with books v) ≤ 2 ^ 48 + 1) x (place_of books) (λ r. l) (λ n rs. l) (book_for (past_place x.ops) books) (λ b e k. few_when (is_query x.ops) x books b (run x.domain x.ops b) l)
 
 few_from : (books : List Book) (batches : List Batch) → length books ≤ 2 ^ 48 + 1 → length (books_from books batches) ≤ 2 ^ 48 + 1
 few_from books [] l = l
-few_from books (x ∷ xs) l = few_from (books_after x books) xs (few_when (is_query x.ops) books (last_book books) (run x.domain x.ops (last_book books)) l)
+few_from books (x ∷ xs) l = few_from (books_after x books) xs (few_after books x l)
 
 pub history_bounded : (own : Bytes) (books : List Book) → IsHistory own books → length books ≤ 2 ^ 48 + 1
 history_bounded own books h =
@@ -152,7 +168,7 @@ lawful_at own n (c ∷ cs) (suc k) b h e = let q : n + 1 + k ≡ n + suc k = ome
 
 pub empty_lawful : (own : Bytes) → Lawful own (64 * 0) empty_book
 empty_lawful own = record {
-  ascending = record { entries = tt; agents = tt; bundles = tt };
+  ascending = record { entries = tt; agents = tt; bundles = tt; tokens = tt };
   apart = λ e f w. absurd w;
   bundled = λ e w. absurd w;
   not_own = λ h. h.1;
@@ -164,6 +180,8 @@ empty_lawful own = record {
   no_bundle_fault = λ d w. absurd w;
   revisions = λ e w. absurd w;
   sequences = λ d w. absurd w;
+  proper_tokens = λ k w. absurd w;
+  places = λ k w. absurd w;
 }
 
 -- a list of lawful books that isn't empty
@@ -171,18 +189,19 @@ record Good (own : Bytes) (books : List Book) : Type 0 where
   some : 0 < length books
   lawful : LawfulFrom own 0 books
 
-widened : (own : Bytes) (m n : ℕ) (b : Book) (r : RunResult) → m ≤ n → IfOk r (λ t. Lawful own m (after t.writes b)) → IfOk r (λ t. Lawful own n (after t.writes b))
-widened own m n b (Ok t) l h = wider n l h
-widened own m n b (Err r) l h = tt
+kept_lawful : (own : Bytes) (m n : ℕ) (batch : Batch) (b : Book) (r : RunResult) → IsMadeFor own batch → 0 < n → m ≤ 64 * n → IfOk r (λ t. Lawful own m (after t.writes b)) → IfOk r (λ t. Lawful own (64 * n) (after (batch_writes batch n t) b))
+kept_lawful own m n batch b (Ok t) d s l h = writes_keep own (64 * n) n batch t b d s (omega arith) (wider (64 * n) l h)
+kept_lawful own m n batch b (Err r) d s l h = tt
 
 -- a batch leads from lawful book n to a book that is lawful as book n + 1
-pub batch_keeps : (own : Bytes) (batch : Batch) (n : ℕ) (b : Book) → IsMadeFor own batch → Lawful own (64 * n) b → IfOk (run batch.domain batch.ops b) (λ t. Lawful own (64 * (n + 1)) (after t.writes b))
+pub batch_keeps : (own : Bytes) (batch : Batch) (n : ℕ) (b : Book) → IsMadeFor own batch → Lawful own (64 * n) b → IfOk (run batch.domain batch.ops b) (λ t. Lawful own (64 * (n + 1)) (after (batch_writes batch (n + 1) t) b))
 batch_keeps own batch n b m l =
-    let few = few_ops batch.domain batch.ops m.no_fault in
+    let fine : AreFaultless batch.domain batch.ops = no_fault batch.domain batch.ops batch.token m.no_fault in
+    let few = fine.few in
     let d : own ≡ batch.domain = sym m.domain_is in
-    let faultless : AllByRecursion (λ op. op_fault own op ≡ None) batch.ops = subst (λ t. AllByRecursion (λ op. op_fault t op ≡ None) batch.ops) m.domain_is (no_fault batch.domain batch.ops m.no_fault).2 in
+    let faultless : AllByRecursion (λ op. op_fault own op ≡ None) batch.ops = subst (λ t. AllByRecursion (λ op. op_fault t op ≡ None) batch.ops) m.domain_is fine.none in
     let k = run_keeps own (64 * n) batch.ops b m.proper faultless l in
-    widened own (64 * n + length batch.ops) (64 * (n + 1)) b (run batch.domain batch.ops b) (omega arith)
+    kept_lawful own (64 * n + length batch.ops) (n + 1) batch b (run batch.domain batch.ops b) m (omega arith) (omega arith)
     (subst (λ t. IfOk (run t batch.ops b) (λ r. Lawful own (64 * n + length batch.ops) (after r.writes b))) d k)
 
 good_with : (own : Bytes) (books : List Book) (c : Book) (replies : List OpReply) (o : Option Limit) → Good own books → Lawful own (64 * length books) c → Good own (books_with books (adds_within o replies c))
@@ -192,21 +211,31 @@ good_with own books c replies None g h = record {
   lawful = lawful_more own 0 (length books) books c (omega arith) g.lawful h;
 }
 
-good_when : (own : Bytes) (query : Bool) (n : ℕ) (books : List Book) (b : Book) (r : RunResult) → Good own books → IfOk r (λ t. Lawful own (64 * length books) (after t.writes b)) → Good own (books_with books (verdict_when query n b r))
-good_when own query n books b (Err r) g h = g
-good_when own true n books b (Ok t) g h = g
-good_when own false n books b (Ok t) g h = good_with own books (after t.writes b) t.replies (limit_passed n (after t.writes b)) g h
+good_when : (own : Bytes) (query : Bool) (batch : Batch) (n : ℕ) (books : List Book) (b : Book) (r : RunResult) → Good own books → IfOk r (λ t. Lawful own (64 * length books) (after (batch_writes batch (n + 1) t) b)) → Good own (books_with books (verdict_when query batch n b r))
+good_when own query batch n books b (Err r) g h = g
+good_when own true batch n books b (Ok t) g h = g
+good_when own false batch n books b (Ok t) g h = let c = after (batch_writes batch (n + 1) t) b in good_with own books c t.replies (limit_passed n c) g h
 
 last_lawful : (own : Bytes) (books : List Book) → Good own books → Lawful own (64 * (length books - 1)) (last_book books)
 last_lawful own [] g = absurd (let k = g.some in omega arith)
 last_lawful own (b ∷ bs) g = lawful_last own 0 (length (b ∷ bs) - 1) b bs (omega arith) g.lawful.0 g.lawful.1
 
-good_after : (own : Bytes) (batch : Batch) (books : List Book) → IsMadeFor own batch → Good own books → Good own (books_after batch books)
-good_after own batch books m g =
+some_is : (b c : Book) → Some b ≡ Some c → b ≡ c
+some_is b c e = cc
+
+good_run : (own : Bytes) (batch : Batch) (books : List Book) (b : Book) → IsMadeFor own batch → Good own books → b ≡ last_book books → Good own (books_with books (verdict_run batch (place_of books) b))
+good_run own batch books b m g e =
     let s = g.some in
     let q : length books - 1 + 1 ≡ length books = omega arith in
-    good_when own (is_query batch.ops) (place_of books) books (last_book books) (run batch.domain batch.ops (last_book books)) g
-    (subst (λ n. IfOk (run batch.domain batch.ops (last_book books)) (λ t. Lawful own (64 * n) (after t.writes (last_book books)))) q (batch_keeps own batch (length books - 1) (last_book books) m (last_lawful own books g)))
+    good_when own (is_query batch.ops) batch (place_of books) books b (run batch.domain batch.ops b) g
+    (subst (λ n. IfOk (run batch.domain batch.ops b) (λ t. Lawful own (64 * n) (after (batch_writes batch (length books - 1 + 1) t) b))) q (batch_keeps own batch (length books - 1) b m (subst (Lawful own (64 * (length books - 1))) (sym e) (last_lawful own books g))))
+
+good_read : (own : Bytes) (batch : Batch) (books : List Book) (b : Book) (o : Option ℕ) → past_place batch.ops ≡ o → IsMadeFor own batch → Good own books → book_for o books ≡ Some b → Good own (books_with books (verdict_run batch (place_of books) b))
+good_read own batch books b None p m g e = good_run own batch books b m g (sym (some_is (last_book books) b e))
+good_read own batch books b (Some n) p m g e = asks_with (Good own) books (is_query batch.ops) batch (place_of books) b (run batch.domain batch.ops b) (past_asks own batch n m p) g
+
+good_after : (own : Bytes) (batch : Batch) (books : List Book) → IsMadeFor own batch → Good own books → Good own (books_after batch books)
+good_after own batch books m g = of_verdict (λ v. Good own (books_with books v)) batch (place_of books) (λ r. g) (λ n rs. g) (book_for (past_place batch.ops) books) (λ b e k. good_read own batch books b (past_place batch.ops) refl m g e)
 
 good_from : (own : Bytes) (books : List Book) (batches : List Batch) → AllByRecursion (IsMadeFor own) batches → Good own books → Good own (books_from books batches)
 good_from own books [] m g = g
@@ -221,3 +250,10 @@ lawful_history own books h n b e =
 
 pub all_lawful : (state : PlainState) (books : List Book) → Stands state books → (n : ℕ) (b : Book) → slice_get books n ≡ Some b → Lawful state.domain (64 * n) b
 all_lawful state books s n b e = lawful_history state.domain books s.history n b e
+
+-- a history has a first book
+pub history_some : (own : Bytes) (books : List Book) → IsHistory own books → 0 < length books
+history_some own books h =
+    let leads : Leads own h.0 books = h.1 in
+    let g : Good own (books_of h.0) = good_from own first_books h.0 leads.made (record { some = omega arith; lawful = (empty_lawful own, tt) }) in
+    subst (λ l. 0 < length l) (sym leads.books_are) g.some

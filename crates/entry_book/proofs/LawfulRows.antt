@@ -1,22 +1,24 @@
 -- Writes that keep a book lawful.
-use Rattle.std.proofs.Common.{◌≡◌, ◌≢◌, ◌⊎◌, ℕ, ◌≤◌, List, [], Option, Some, None, refl, sym, ap, subst, ◌∙◌, inl, inr, ⊎_elim, IfSome, arith}
+use Rattle.std.proofs.Common.{◌≡◌, ◌≢◌, ◌⊎◌, ℕ, ◌*◌, ◌<◌, ◌≤◌, List, [], Option, Some, None, refl, sym, ap, subst, ◌∙◌, inl, inr, ⊎_elim, IfSome, arith}
 use Rattle.std.specs.Prelude.{option_to_list, bytes_eq}
 use Rattle.std.proofs.lemmas.Bool.{both_ways, cases_Bool}
 use Rattle.entry_book.specs.declared.agent.Agent.{Agent}
 use Rattle.entry_book.specs.declared.bundle.Bundle.{Bundle}
 use Rattle.spiffe_name.specs.Domain.{IsDomain}
+use Rattle.entry_book.specs.declared.kept.KeptBatch.{KeptBatch}
 use Rattle.entry_book.specs.Rows.{Bytes, Entry, given_of, entry_key, agent_key, bundle_key, IsProperEntry, IsProperAgent}
+use Rattle.entry_book.specs.Tokens.{token_key}
 use Rattle.entry_book.specs.Order.{Within, Ascending, with_row}
 use Rattle.entry_book.specs.Book.{Book, HasBundle, names, users_of}
-use Rattle.entry_book.specs.Writes.{wrote_entry, wrote_agent, wrote_bundle, after_write}
-use Rattle.entry_book.specs.Batches.{entry_fault, agent_fault, bundle_fault}
+use Rattle.entry_book.specs.Writes.{wrote_entry, wrote_agent, wrote_bundle, wrote_token, after_write}
+use Rattle.entry_book.specs.Batches.{IsMadeFor, entry_fault, agent_fault, bundle_fault}
 use Rattle.entry_book.specs.Lawful.{Lawful}
 use Rattle.entry_book.proofs.InOrder.{ascending-with_row}
 use Rattle.entry_book.proofs.Keys.{from_with_row, within_with_row, new_with_row}
 use Rattle.entry_book.proofs.Sets.{within_filter, within_any, text_is, text_same}
 
 pub wider : {own : Bytes} {m : ℕ} {b : Book} (n : ℕ) → m ≤ n → Lawful own m b → Lawful own n b
-wider n h l = record { ascending = l.ascending; apart = l.apart; bundled = l.bundled; not_own = l.not_own; proper = l.proper; proper_agents = l.proper_agents; proper_bundles = l.proper_bundles; no_fault = l.no_fault; no_agent_fault = l.no_agent_fault; no_bundle_fault = l.no_bundle_fault; revisions = λ e w. let k = l.revisions e w in omega arith; sequences = λ d w. let k = l.sequences d w in omega arith }
+wider n h l = record { ascending = l.ascending; apart = l.apart; bundled = l.bundled; not_own = l.not_own; proper = l.proper; proper_agents = l.proper_agents; proper_bundles = l.proper_bundles; no_fault = l.no_fault; no_agent_fault = l.no_agent_fault; no_bundle_fault = l.no_bundle_fault; revisions = λ e w. let k = l.revisions e w in omega arith; sequences = λ d w. let k = l.sequences d w in omega arith; proper_tokens = l.proper_tokens; places = λ t w. let p = l.places t w in let k = p.1 in (p.0, omega arith) }
 
 one : {X : Type 0} (o : Option X) (x : X) → Within (option_to_list o) x → o ≡ Some x
 one None x w = absurd w
@@ -48,7 +50,7 @@ pub lawful_entry : (own : Bytes) (m : ℕ) (b : Book) → Lawful own m b → (k 
 lawful_entry own m b l k o n h =
     let new : (x : Entry) → Within (option_to_list n) x → MayCome own m b k x = λ x w. if_some (MayCome own m b k) n x h (one n x w) in
     record {
-      ascending = record { entries = ascending-with_row entry_key k n b.entries l.ascending.entries (keyed_new own m b k n h); agents = l.ascending.agents; bundles = l.ascending.bundles };
+      ascending = record { entries = ascending-with_row entry_key k n b.entries l.ascending.entries (keyed_new own m b k n h); agents = l.ascending.agents; bundles = l.ascending.bundles; tokens = l.ascending.tokens };
       apart = λ e f w v p i s. ⊎_elim
           (λ x. ⊎_elim
           (λ y. (new e x).keyed ∙ sym (new f y).keyed)
@@ -69,6 +71,8 @@ lawful_entry own m b l k o n h =
       no_bundle_fault = l.no_bundle_fault;
       revisions = λ e w. ⊎_elim (λ x. (new e x).low) (λ x. l.revisions e x.0) (from_with_row entry_key k n b.entries e w);
       sequences = l.sequences;
+      proper_tokens = l.proper_tokens;
+      places = l.places;
     }
 
 -- ---- entries that are removed, or changed
@@ -93,7 +97,7 @@ AreMilder own m b rows = (x : Entry) → Within rows x → (e : Entry) × Within
 
 pub lawful_milder : (own : Bytes) (m : ℕ) (b : Book) (rows : List Entry) → Lawful own m b → Ascending entry_key rows → AreMilder own m b rows → Lawful own m (record b { entries = rows })
 lawful_milder own m b rows l a from = record {
-  ascending = record { entries = a; agents = l.ascending.agents; bundles = l.ascending.bundles };
+  ascending = record { entries = a; agents = l.ascending.agents; bundles = l.ascending.bundles; tokens = l.ascending.tokens };
   apart = λ x y w v p i s.
       let f = from x w in
       let g = from y v in
@@ -108,6 +112,8 @@ lawful_milder own m b rows l a from = record {
   no_bundle_fault = l.no_bundle_fault;
   revisions = λ x w. (from x w).2.low;
   sequences = l.sequences;
+  proper_tokens = l.proper_tokens;
+  places = l.places;
 }
 
 -- ---- an agent
@@ -126,7 +132,7 @@ pub lawful_agent : (own : Bytes) (m : ℕ) (b : Book) → Lawful own m b → (k 
 lawful_agent own m b l k o n h =
     let new : (x : Agent) → Within (option_to_list n) x → AgentMayCome own k x = λ x w. if_some (AgentMayCome own k) n x h (one n x w) in
     record {
-      ascending = record { entries = l.ascending.entries; agents = ascending-with_row agent_key k n b.agents l.ascending.agents (agent_keyed own k n h); bundles = l.ascending.bundles };
+      ascending = record { entries = l.ascending.entries; agents = ascending-with_row agent_key k n b.agents l.ascending.agents (agent_keyed own k n h); bundles = l.ascending.bundles; tokens = l.ascending.tokens };
       apart = l.apart;
       bundled = l.bundled;
       not_own = l.not_own;
@@ -138,6 +144,8 @@ lawful_agent own m b l k o n h =
       no_bundle_fault = l.no_bundle_fault;
       revisions = l.revisions;
       sequences = l.sequences;
+      proper_tokens = l.proper_tokens;
+      places = l.places;
     }
 
 -- ---- a bundle, which no entry names where it is removed
@@ -158,7 +166,7 @@ lawful_bundle own m b l k o n ne h unused =
     let new : (x : Bundle) → Within (option_to_list n) x → BundleMayCome own m k x = λ x w. if_some (BundleMayCome own m k) n x h (one n x w) in
     let found : (d : Bytes) → HasBundle b d → (d ≢ k) → HasBundle (after_write (wrote_bundle (record { key = k; old = o; new = n })) b) d = λ d r q. (r.0, within_with_row bundle_key k n b.bundles r.0 r.1 (λ t. q (sym r.2 ∙ t)), r.2) in
     record {
-      ascending = record { entries = l.ascending.entries; agents = l.ascending.agents; bundles = ascending-with_row bundle_key k n b.bundles l.ascending.bundles (bundle_keyed own m k n h) };
+      ascending = record { entries = l.ascending.entries; agents = l.ascending.agents; bundles = ascending-with_row bundle_key k n b.bundles l.ascending.bundles (bundle_keyed own m k n h); tokens = l.ascending.tokens };
       apart = l.apart;
       bundled = λ e w d v. ⊎_elim
           (λ t. ⊎_elim
@@ -176,4 +184,38 @@ lawful_bundle own m b l k o n ne h unused =
       no_bundle_fault = λ d w. ⊎_elim (λ x. (new d x).no_fault) (λ x. l.no_bundle_fault d x.0) (from_with_row bundle_key k n b.bundles d w);
       revisions = l.revisions;
       sequences = λ d w. ⊎_elim (λ x. (new d x).low) (λ x. l.sequences d x.0) (from_with_row bundle_key k n b.bundles d w);
+      proper_tokens = l.proper_tokens;
+      places = l.places;
+    }
+
+-- ---- what is kept of a batch
+
+-- a batch that may be kept in a lawful book under this token
+pub record KeptMayCome (own : Bytes) (m : ℕ) (token : Bytes) (k : KeptBatch) : Type 0 where
+  pub keyed : k.token ≡ token
+  pub made : IsMadeFor own (record { domain = own; ops = k.ops; after = 0; token = Some k.token })
+  pub some : 0 < k.place
+  pub low : 64 * k.place ≤ m
+
+some_is : (k t : KeptBatch) → Some k ≡ Some t → k ≡ t
+some_is k t e = cc
+
+pub lawful_kept : (own : Bytes) (m : ℕ) (b : Book) → Lawful own m b → (token : Bytes) (o : Option KeptBatch) (k : KeptBatch) → KeptMayCome own m token k → Lawful own m (after_write (wrote_token (record { key = token; old = o; new = Some k })) b)
+lawful_kept own m b l token o k h =
+    let new : (t : KeptBatch) → Within (option_to_list (Some k)) t → KeptMayCome own m token t = λ t x. subst (KeptMayCome own m token) (some_is k t (one (Some k) t x)) h in
+    record {
+      ascending = record { entries = l.ascending.entries; agents = l.ascending.agents; bundles = l.ascending.bundles; tokens = ascending-with_row token_key token (Some k) b.tokens l.ascending.tokens h.keyed };
+      apart = l.apart;
+      bundled = l.bundled;
+      not_own = l.not_own;
+      proper = l.proper;
+      proper_agents = l.proper_agents;
+      proper_bundles = l.proper_bundles;
+      no_fault = l.no_fault;
+      no_agent_fault = l.no_agent_fault;
+      no_bundle_fault = l.no_bundle_fault;
+      revisions = l.revisions;
+      sequences = l.sequences;
+      proper_tokens = λ t w. ⊎_elim (λ x. (new t x).made) (λ x. l.proper_tokens t x.0) (from_with_row token_key token (Some k) b.tokens t w);
+      places = λ t w. ⊎_elim (λ x. ((new t x).some, (new t x).low)) (λ x. l.places t x.0) (from_with_row token_key token (Some k) b.tokens t w);
     }

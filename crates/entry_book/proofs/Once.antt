@@ -6,9 +6,10 @@ use Rattle.std.proofs.lemmas.Bool.{cases_Bool}
 use Rattle.entry_book.specs.declared.bundle.Bundle.{Bundle}
 use Rattle.entry_book.specs.declared.op.Op.{Op}
 use Rattle.entry_book.specs.Rows.{Bytes, Entry, entry_key, agent_key, bundle_key}
+use Rattle.entry_book.specs.Tokens.{token_key}
 use Rattle.entry_book.specs.Order.{Within, Ascending, with_row}
 use Rattle.entry_book.specs.Book.{Book, AscendingBook}
-use Rattle.entry_book.specs.Writes.{RowChange, RowWrite, wrote_entry, wrote_agent, wrote_bundle, FitsRows, FitsBook, FitAll, after_write}
+use Rattle.entry_book.specs.Writes.{RowChange, RowWrite, wrote_entry, wrote_agent, wrote_bundle, wrote_token, FitsRows, FitsBook, FitAll, after_write}
 use Rattle.entry_book.specs.Ops.{OpEffect, bundle_removed, op_of}
 use Rattle.entry_book.specs.Laws.{SameRow, DifferentRows}
 use Rattle.entry_book.proofs.Changed.{apart, rewritten}
@@ -25,7 +26,7 @@ module _ {X : Type 0} (key : X → Bytes) where
   not_kept k j None n h = refl
   not_kept k j (Some x) n h = ⊎_elim (λ t. absurd (n (sym h ∙ text_is (key x) j t))) (λ t. rw t refl) (cases_Bool (bytes_eq (key x) j))
 
-  rows_beside : (k j : Bytes) (new : Option X) (rows : List X) → k ≢ j → IfSome new (λ x. key x ≡ k) → Ascending key rows → filter (λ x. bytes_eq (key x) j) (with_row key k new rows) ≡ filter (λ x. bytes_eq (key x) j) rows
+  pub rows_beside : (k j : Bytes) (new : Option X) (rows : List X) → k ≢ j → IfSome new (λ x. key x ≡ k) → Ascending key rows → filter (λ x. bytes_eq (key x) j) (with_row key k new rows) ≡ filter (λ x. bytes_eq (key x) j) rows
   rows_beside k j new rows n h a =
       let p : X → Bool = λ x. bytes_eq (key x) j in
       filter-with_row key p k new rows
@@ -37,14 +38,10 @@ module _ {X : Type 0} (key : X → Bytes) where
 
 fits_before : (v w : RowWrite) (b : Book) → AscendingBook b → FitsBook v b → (SameRow v w → ⊥) → FitsBook w (after_write v b) → FitsBook w b
 fits_before (wrote_entry c) (wrote_entry d) b a f n g = fits_beside entry_key c d b.entries a.entries f n g
-fits_before (wrote_entry c) (wrote_agent d) b a f n g = g
-fits_before (wrote_entry c) (wrote_bundle d) b a f n g = g
-fits_before (wrote_agent c) (wrote_entry d) b a f n g = g
 fits_before (wrote_agent c) (wrote_agent d) b a f n g = fits_beside agent_key c d b.agents a.agents f n g
-fits_before (wrote_agent c) (wrote_bundle d) b a f n g = g
-fits_before (wrote_bundle c) (wrote_entry d) b a f n g = g
-fits_before (wrote_bundle c) (wrote_agent d) b a f n g = g
 fits_before (wrote_bundle c) (wrote_bundle d) b a f n g = fits_beside bundle_key c d b.bundles a.bundles f n g
+fits_before (wrote_token c) (wrote_token d) b a f n g = fits_beside token_key c d b.tokens a.tokens f n g
+fits_before v w b a f n g = g
 
 all_before : (v : RowWrite) (ws : List RowWrite) (b : Book) → AscendingBook b → FitsBook v b → AllByRecursion (λ w. SameRow v w → ⊥) ws → AllByRecursion (λ w. FitsBook w (after_write v b)) ws → AllByRecursion (λ w. FitsBook w b) ws
 all_before v [] b a f n g = tt

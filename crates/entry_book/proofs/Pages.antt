@@ -1,8 +1,8 @@
 -- What a page lists, and what page after page does.
-use Rattle.std.proofs.Common.{◌≡◌, ◌↔◌, ℕ, zero, suc, ◌+◌, ◌<◌, ◌≤◌, Bool, true, false, cond, ◌⊎◌, List, [], ◌∷◌, ◌++◌, length, Option, Some, None, IfSome, refl, sym, ap, subst, ◌∙◌, inl, inr, ⊎_elim, arith, length-append, append-nil}
-use Rattle.std.specs.Prelude.{MatchResult, filter, take, drop, nat_lt, bytes_eq, if◌then◌else◌}
+use Rattle.std.proofs.Common.{◌≡◌, ◌↔◌, ℕ, zero, suc, ◌<◌, ◌≤◌, Bool, true, false, cond, ◌⊎◌, List, [], ◌∷◌, ◌++◌, length, Option, Some, None, IfSome, refl, sym, ap, subst, ◌∙◌, inl, inr, ⊎_elim, arith, length-append, append-nil}
+use Rattle.std.specs.Prelude.{MatchResult, filter, take, drop, nat_lt, if◌then◌else◌}
 use Rattle.std.specs.List.{AllByRecursion}
-use Rattle.std.proofs.lemmas.Bool.{and_parts, and_from, both_ways, false≢true, cases_Bool, lt-ltb, ltb-true, le-ltb, ltb-false}
+use Rattle.std.proofs.lemmas.Bool.{and_parts, and_from, both_ways, cases_Bool, lt-ltb, ltb-true, le-ltb, ltb-false}
 use Rattle.std.proofs.lemmas.List.{take-append-drop, length-take-le, length-drop}
 use Rattle.spiffe_name.specs.Selector.{SelectorPair}
 use Rattle.spiffe_name.specs.SelectorSet.{has}
@@ -22,7 +22,7 @@ use Rattle.entry_book.specs.Ops.{op_of}
 use Rattle.entry_book.proofs.Chains.{has_member, member_has, subset_of, of_subset}
 use Rattle.entry_book.proofs.EffectsOfQuestions.{names_is}
 use Rattle.entry_book.proofs.Present.{set_is, set_same}
-use Rattle.entry_book.proofs.Sets.{All-within, before-irrefl, before-trans, within_filter, from_within_filter, within_left, within_right, within_any, from_any, ascending_filter, same_sets, text_is, text_same}
+use Rattle.entry_book.proofs.Sets.{All-within, before-irrefl, before-trans, within_filter, from_within_filter, within_right, within_any, from_any, ascending_filter, same_sets, text_is, text_same}
 
 -- ---- which entries pass
 

@@ -1,5 +1,5 @@
 -- Which lists of operations are a batch, and which batches only ask.
-use Rattle.std.specs.Prelude.{◌≡◌, ⊤, ℕ, ◌+◌, Bool, true, false, not, ◌||◌, ◌==◌, List, [], ◌∷◌, length, codes, nat_lt, nat_eq, Option, Some, None, IfSome, bytes_eq}
+use Rattle.std.specs.Prelude.{◌≡◌, ⊤, ℕ, ◌+◌, Bool, true, false, not, ◌&&◌, ◌||◌, ◌==◌, List, [], ◌∷◌, length, codes, nat_lt, nat_eq, Option, Some, None, IfSome, is_some, bytes_eq, if◌then◌else◌}
 use Rattle.std.specs.List.{AllByRecursion, list_all, starts_with}
 use Rattle.spiffe_name.specs.Failures.{refuse_if}
 use Rattle.spiffe_name.specs.Domain.{IsDomain}
@@ -14,13 +14,15 @@ use Rattle.entry_book.specs.declared.op.Op.TheVariants.{Create, Update, Delete, 
 use Rattle.entry_book.specs.declared.fault.OpFault.{OpFault}
 use Rattle.entry_book.specs.declared.fault.OpFault.TheVariants.{ForeignId, EmptyPath, ServerIdentity, Selectors, TooManyDomains, HintTooLong, PageSize, AgentPath, OwnDomainBundle, BundleTooLong}
 use Rattle.entry_book.specs.declared.fault.BatchRefusal.{BatchRefusal}
-use Rattle.entry_book.specs.declared.fault.BatchRefusal.TheVariants.{NoOps, TooManyOps, OfOp}
+use Rattle.entry_book.specs.declared.fault.BatchRefusal.TheVariants.{NoOps, TooManyOps, OfOp, PastPageNotAlone, TokenOnQuery}
 use Rattle.entry_book.specs.Rows.{Bytes, IsId, IsProperEntry, IsProperAgent}
 
--- A batch: the trust domain that it was made for, and its operations in order.
+-- A batch: the trust domain that it was made for, its operations in order, the least place at which it may run, and the token, a UUID, under which its commit is kept, where it carries one.
 pub record Batch : Type 0 where
   pub domain : Bytes
   pub ops : List Op
+  pub after : ℕ
+  pub token : Option Bytes
 
 -- ---- which batches only ask
 
@@ -43,6 +45,17 @@ is_question (DropBundle d mode) = false
 
 abbrev pub is_query : List Op → Bool
 is_query ops = list_all is_question ops
+
+-- ---- which batches ask for an earlier book: a page that gives the number of a book reads that one
+
+abbrev pub place_asked : Op → Option ℕ
+place_asked (Page q) = q.at
+place_asked op = None
+
+-- the book that a batch asks for, where it doesn't run on the last one; its page stands alone
+abbrev pub past_place : List Op → Option ℕ
+past_place [] = None
+past_place (op ∷ ops) = place_asked op
 
 -- ---- the table of faults: the least code first within an operation, then operation by operation
 
@@ -140,16 +153,29 @@ abbrev pub or_later : Option OpFault → ℕ → Option BatchRefusal → Option 
 or_later (Some fault) n later = Some (OfOp n fault)
 or_later None n later = later
 
--- the first fault of an operation, of operations counted from n
-abbrev pub ops_refusal : Bytes → ℕ → List Op → Option BatchRefusal
-ops_refusal domain n [] = None
-ops_refusal domain n (op ∷ ops) = or_later (op_fault domain op) n (ops_refusal domain (n + 1) ops)
+-- the first fault of an operation, of operations counted from n, or else what comes after all operations
+abbrev pub ops_refusal : Bytes → ℕ → List Op → Option BatchRefusal → Option BatchRefusal
+ops_refusal domain n [] later = later
+ops_refusal domain n (op ∷ ops) later = or_later (op_fault domain op) n (ops_refusal domain (n + 1) ops later)
 
-unfoldable pub batch_refusal : Bytes → List Op → Option BatchRefusal
-batch_refusal domain ops =
+-- the first page that asks for an earlier book, of operations counted from n
+abbrev pub first_past : ℕ → List Op → Option ℕ
+first_past n [] = None
+first_past n (op ∷ ops) = if is_some (place_asked op) then Some n else first_past (n + 1) ops
+
+-- such a page beside another operation
+abbrev pub beside : List Op → Option ℕ
+beside ops = if nat_lt 1 (length ops) then first_past 0 ops else None
+
+abbrev pub or_token : Option ℕ → List Op → Option Bytes → Option BatchRefusal
+or_token (Some n) ops token = Some (PastPageNotAlone n)
+or_token None ops token = refuse_if (is_some token && is_query ops) TokenOnQuery None
+
+unfoldable pub batch_refusal : Bytes → List Op → Option Bytes → Option BatchRefusal
+batch_refusal domain ops token =
     refuse_if (length ops == 0) NoOps (
     refuse_if (nat_lt 64 (length ops)) TooManyOps (
-    ops_refusal domain 0 ops))
+    ops_refusal domain 0 ops (or_token (beside ops) ops token)))
 
 -- ---- what the types of an operation's parts see to
 
@@ -180,5 +206,6 @@ IsProperOp (DropBundle d mode) = IsDomain d
 -- A batch that was made for this trust domain: none of the faults holds of it.
 pub record IsMadeFor (own : Bytes) (batch : Batch) : Type 0 where
   pub domain_is : batch.domain ≡ own
-  pub no_fault : batch_refusal batch.domain batch.ops ≡ None
+  pub no_fault : batch_refusal batch.domain batch.ops batch.token ≡ None
   pub proper : AllByRecursion IsProperOp batch.ops
+  pub token : IfSome batch.token (λ k. length k ≡ 16)

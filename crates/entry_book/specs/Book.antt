@@ -1,24 +1,28 @@
--- The book of a server: three sets of rows.
+-- The book of a server: four sets of rows.
 use Rattle.std.specs.Prelude.{◌≡◌, ℕ, Bool, List, [], filter, Option, bytes_eq, nat_lt, ◌&&◌}
 use Rattle.std.specs.List.{list_any}
 use Rattle.entry_book.specs.declared.agent.Agent.{Agent}
 use Rattle.entry_book.specs.declared.bundle.Bundle.{Bundle}
+use Rattle.entry_book.specs.declared.kept.KeptBatch.{KeptBatch}
 use Rattle.entry_book.specs.Rows.{Bytes, Entry, entry_key, agent_key, bundle_key}
+use Rattle.entry_book.specs.Tokens.{token_key}
 use Rattle.entry_book.specs.Order.{Within, Ascending, first}
 
 pub record Book : Type 0 where
   pub entries : List Entry
   pub agents : List Agent
   pub bundles : List Bundle
+  pub tokens : List KeptBatch
 
 abbrev pub empty_book : Book
-empty_book = record { entries = []; agents = []; bundles = [] }
+empty_book = record { entries = []; agents = []; bundles = []; tokens = [] }
 
--- Each list is a set in order: entry ids, agent ids and bundle domains are each distinct.
+-- Each list is a set in order: entry ids, agent ids, bundle domains and tokens are each distinct.
 pub record AscendingBook (b : Book) : Type 0 where
   pub entries : Ascending entry_key b.entries
   pub agents : Ascending agent_key b.agents
   pub bundles : Ascending bundle_key b.bundles
+  pub tokens : Ascending token_key b.tokens
 
 -- ---- what stands in a book
 
@@ -40,6 +44,9 @@ agent_at k b = first (filter (λ a. bytes_eq a.id k) b.agents)
 
 abbrev pub bundle_at : Bytes → Book → Option Bundle
 bundle_at k b = first (filter (λ d. bytes_eq d.domain k) b.bundles)
+
+abbrev pub token_at : Bytes → Book → Option KeptBatch
+token_at k b = first (filter (λ r. bytes_eq r.token k) b.tokens)
 
 -- the entries of a parent and an identity, in the order of ids
 abbrev pub in_group : Bytes → Bytes → Entry → Bool

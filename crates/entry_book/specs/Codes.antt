@@ -27,6 +27,8 @@ abbrev pub batch_code : BatchRefusal → List ℕ
 batch_code batch.NoOps = codes "B1"
 batch_code batch.TooManyOps = codes "B2"
 batch_code (batch.OfOp n f) = fault_code f
+batch_code (batch.PastPageNotAlone n) = codes "B13"
+batch_code batch.TokenOnQuery = codes "B14"
 
 abbrev pub op_code : OpRefusal → List ℕ
 op_code refused.IdTaken = codes "O1"
@@ -36,14 +38,18 @@ op_code refused.StaleRevision = codes "O4"
 op_code (refused.NoBundle domain) = codes "O5"
 op_code refused.BundleInUse = codes "O6"
 op_code refused.NoAgent = codes "O7"
+op_code refused.VersionGone = codes "O8"
 
 abbrev pub limit_code : Limit → List ℕ
 limit_code limit.History = codes "W2"
 limit_code limit.Entries = codes "W3"
 limit_code limit.Agents = codes "W4"
 limit_code limit.Bundles = codes "W5"
+limit_code limit.Tokens = codes "W6"
 
 abbrev pub refusal_code : Refusal → List ℕ
+refusal_code reply.NotYet = codes "W1"
+refusal_code reply.TokenReused = codes "O9"
 refusal_code (reply.OfOp n r) = op_code r
 refusal_code (reply.Full l) = limit_code l
 
@@ -52,7 +58,11 @@ abbrev pub batch_op : BatchRefusal → Option ℕ
 batch_op batch.NoOps = None
 batch_op batch.TooManyOps = None
 batch_op (batch.OfOp n f) = Some n
+batch_op (batch.PastPageNotAlone n) = Some n
+batch_op batch.TokenOnQuery = None
 
 abbrev pub refusal_op : Refusal → Option ℕ
+refusal_op reply.NotYet = None
+refusal_op reply.TokenReused = None
 refusal_op (reply.OfOp n r) = Some n
 refusal_op (reply.Full l) = None

@@ -33,7 +33,7 @@ pub record IsListOf {X : Type 0} (key : X → Bytes) (Has : X → Type 0) (liste
   pub members : (x : X) → Within listed x ↔ Has x
   pub order : Ascending key listed
 
--- the entries after are these, and the agents and the bundles are as before
+-- the entries after are these, and all other rows are as before
 pub record EntriesBecome (b c : Book) (Has : Entry → Type 0) : Type 0 where
   pub listed : IsListOf entry_key Has c.entries
   pub others : c ≡ record b { entries = c.entries }
@@ -214,7 +214,7 @@ pub record SetsBundle (domain text : Bytes) (b : Book) (d : OpEffect) : Type 0 w
 
 -- ---- drop_bundle
 
--- the bundle was there and is gone, and all other bundles and the agents are as before
+-- the bundle was there and is gone, and all other rows but the entries are as before
 pub record DropsOne (domain : Bytes) (b c : Book) : Type 0 where
   pub there : HasBundle b domain
   pub bundles : IsListOf bundle_key (λ x. Within b.bundles x × (x.domain ≢ domain)) c.bundles

@@ -1,19 +1,23 @@
 -- The plain book: the list of all books so far, and what a batch does to it.
-use Rattle.std.specs.Prelude.{◌≡◌, ℕ, ◌+◌, ◌-◌, Bool, true, false, ⊤, List, [], ◌∷◌, ◌++◌, length, Option, Some, None, Ok, Err}
+use Rattle.std.specs.Prelude.{◌≡◌, ℕ, ◌+◌, ◌-◌, Bool, true, false, ⊤, List, [], ◌∷◌, ◌++◌, drop, length, slice_get, nat_lt, Option, Some, None, Ok, Err, if◌then◌else◌}
 use Rattle.std.specs.List.{AllByRecursion}
+use Rattle.entry_book.specs.declared.kept.KeptBatch.{KeptBatch}
 use Rattle.entry_book.specs.declared.limit.Limit.{Limit}
+use Rattle.entry_book.specs.declared.op.Op.{Op}
 use Rattle.entry_book.specs.declared.reply.OpReply.{OpReply}
 use Rattle.entry_book.specs.declared.reply.Outcome.{Outcome}
-use Rattle.entry_book.specs.declared.reply.Outcome.TheVariants.{Committed, Answered, Refused}
+use Rattle.entry_book.specs.declared.reply.Outcome.TheVariants.{Committed, Answered, Repeated, Refused}
 use Rattle.entry_book.specs.declared.reply.Refusal.{Refusal}
-use Rattle.entry_book.specs.declared.reply.Refusal.TheVariants.{OfOp, Full}
+use Rattle.entry_book.specs.declared.reply.Refusal.TheVariants.{NotYet, TokenReused, OfOp, Full}
+use Rattle.entry_book.specs.declared.reply.OpRefusal.TheVariants.{VersionGone}
 use Rattle.entry_book.specs.declared.reply.Reply.{Reply}
 use Rattle.entry_book.specs.Rows.{Bytes}
-use Rattle.entry_book.specs.Book.{Book, empty_book}
-use Rattle.entry_book.specs.Writes.{after}
-use Rattle.entry_book.specs.Runs.{RunResult, run}
+use Rattle.entry_book.specs.Book.{Book, empty_book, token_at}
+use Rattle.entry_book.specs.SameOps.{ops_eq}
+use Rattle.entry_book.specs.Writes.{RowWrite, wrote_token, after}
+use Rattle.entry_book.specs.Runs.{RunEffect, RunResult, run}
 use Rattle.entry_book.specs.Limits.{limit_passed}
-use Rattle.entry_book.specs.Batches.{Batch, IsMadeFor, is_query}
+use Rattle.entry_book.specs.Batches.{Batch, IsMadeFor, is_query, past_place}
 
 -- ---- the list of all books, the first one empty; numbers count from 0
 
@@ -29,48 +33,102 @@ last_book books = last_or empty_book books
 abbrev pub place_of : List Book → ℕ
 place_of books = length books - 1
 
+-- ---- which book a batch reads
+
+-- book n, where it is one of the last 64; it may be gone, or not there yet
+abbrev pub among_last : ℕ → List Book → Option Book
+among_last n books = if nat_lt (place_of books) (n + 64) then slice_get books n else None
+
+-- the last one, but for the page of an earlier one, which may be gone
+abbrev pub book_for : Option ℕ → List Book → Option Book
+book_for None books = Some (last_book books)
+book_for (Some n) books = among_last n books
+
+-- ---- what a batch writes that commits
+
+-- what is kept under its token, where it carries one: its operations, the number of the book that it adds, and its replies
+abbrev pub token_writes : Option Bytes → List Op → ℕ → List OpReply → List RowWrite
+token_writes None ops n replies = []
+token_writes (Some k) ops n replies = wrote_token (record { key = k; old = None; new = Some (record { token = k; ops = ops; place = n; replies = replies }) }) ∷ []
+
+-- all its writes as book n: those of its operations, and that of its token last
+abbrev pub batch_writes : Batch → ℕ → RunEffect → List RowWrite
+batch_writes batch n t = t.writes ++ token_writes batch.token batch.ops n t.replies
+
 -- ---- one batch
 
--- What a batch comes to on a book: it is refused, it only asked, or it adds a book.
+-- What a batch comes to: it is refused, it only asked, it adds a book, or it was committed before, at this place and with these replies.
 pub data Verdict : Type 0 where
   refuses : Refusal → Verdict
   answers : List OpReply → Verdict
   adds : List OpReply → Book → Verdict
+  repeats : ℕ → List OpReply → Verdict
 
 abbrev pub adds_within : Option Limit → List OpReply → Book → Verdict
 adds_within (Some limit) replies c = refuses (Full limit)
 adds_within None replies c = adds replies c
 
-abbrev pub verdict_when : Bool → ℕ → Book → RunResult → Verdict
-verdict_when query place b (Err s) = refuses (OfOp s.op s.reason)
-verdict_when true place b (Ok t) = answers t.replies
-verdict_when false place b (Ok t) = adds_within (limit_passed place (after t.writes b)) t.replies (after t.writes b)
+abbrev pub verdict_when : Bool → Batch → ℕ → Book → RunResult → Verdict
+verdict_when query batch place b (Err s) = refuses (OfOp s.op s.reason)
+verdict_when true batch place b (Ok t) = answers t.replies
+verdict_when false batch place b (Ok t) = adds_within (limit_passed place (after (batch_writes batch (place + 1) t) b)) t.replies (after (batch_writes batch (place + 1) t) b)
 
--- on the book of this number; a batch that doesn't only ask adds its book, where it passes no limit, also where that book is equal to the one before
-abbrev pub verdict : Batch → ℕ → Book → Verdict
-verdict batch place b = verdict_when (is_query batch.ops) place b (run batch.domain batch.ops b)
+-- the run of its operations; a batch that doesn't only ask adds its book, where it passes no limit, also where that book is equal to the one before
+abbrev pub verdict_run : Batch → ℕ → Book → Verdict
+verdict_run batch place b = verdict_when (is_query batch.ops) batch place b (run batch.domain batch.ops b)
 
--- the place of a reply is the new book's number where a book is added, and else the number of the book found
+-- a batch was committed with this token: this one again, or another one
+abbrev pub verdict_again : Bool → KeptBatch → Verdict
+verdict_again true k = repeats k.place k.replies
+verdict_again false k = refuses TokenReused
+
+abbrev pub kept_under : Option Bytes → Book → Option KeptBatch
+kept_under None b = None
+kept_under (Some token) b = token_at token b
+
+abbrev pub verdict_over : Option KeptBatch → Batch → ℕ → Book → Verdict
+verdict_over (Some k) batch place b = verdict_again (ops_eq k.ops batch.ops) k
+verdict_over None batch place b = verdict_run batch place b
+
+-- on the book that it reads, where this is there
+abbrev pub verdict_on : Batch → ℕ → Option Book → Verdict
+verdict_on batch place None = refuses (OfOp 0 VersionGone)
+verdict_on batch place (Some b) = verdict_over (kept_under batch.token b) batch place b
+
+-- at this place, which it may not run before
+abbrev pub verdict : Batch → ℕ → Option Book → Verdict
+verdict batch place b = if nat_lt place batch.after then refuses NotYet else verdict_on batch place b
+
+-- the place of a reply is the new book's number where a book is added, that of the commit where a batch was committed before, and else the number of the last book
 abbrev pub reply_with : ℕ → Verdict → Reply
 reply_with place (refuses r) = record { place = place; outcome = Refused r }
 reply_with place (answers replies) = record { place = place; outcome = Answered replies }
 reply_with place (adds replies b) = record { place = place + 1; outcome = Committed replies }
+reply_with place (repeats n replies) = record { place = n; outcome = Repeated replies }
 
 abbrev pub books_with : List Book → Verdict → List Book
 books_with books (refuses r) = books
 books_with books (answers replies) = books
 books_with books (adds replies b) = books ++ b ∷ []
+books_with books (repeats n replies) = books
 
 abbrev pub reply_to : Batch → List Book → Reply
-reply_to batch books = reply_with (place_of books) (verdict batch (place_of books) (last_book books))
+reply_to batch books = reply_with (place_of books) (verdict batch (place_of books) (book_for (past_place batch.ops) books))
 
 abbrev pub books_after : Batch → List Book → List Book
-books_after batch books = books_with books (verdict batch (place_of books) (last_book books))
+books_after batch books = books_with books (verdict batch (place_of books) (book_for (past_place batch.ops) books))
 
 abbrev pub is_committed : Outcome → Bool
 is_committed (Committed replies) = true
 is_committed (Answered replies) = false
+is_committed (Repeated replies) = false
 is_committed (Refused refusal) = false
+
+abbrev pub is_repeated : Outcome → Bool
+is_repeated (Committed replies) = false
+is_repeated (Answered replies) = false
+is_repeated (Repeated replies) = true
+is_repeated (Refused refusal) = false
 
 -- the batch is committed on these books
 abbrev pub commits : Batch → List Book → Bool
@@ -107,26 +165,47 @@ IsHistory own books = (batches : List Batch) × Leads own batches books
 
 -- ---- what a plain book keeps of its history
 
+-- The trust domain, the last book, those before it that are still read, in order, and the last one's number.
 pub record PlainState : Type 0 where
   pub domain : Bytes
+  pub older : List Book
   pub newest : Book
   pub place : ℕ
 
+abbrev pub kept_books : PlainState → List Book
+kept_books state = state.older ++ state.newest ∷ []
+
+-- the last n of a list, or all of it where it has fewer
+abbrev pub last_of : ℕ → List Book → List Book
+last_of n books = drop (length books - n) books
+
+-- the kept book of this number
+abbrev pub among_kept : ℕ → PlainState → Option Book
+among_kept n state = if nat_lt (n + length state.older) state.place then None else slice_get (kept_books state) (n + length state.older - state.place)
+
+abbrev pub kept_for : Option ℕ → PlainState → Option Book
+kept_for None state = Some state.newest
+kept_for (Some n) state = among_kept n state
+
 -- what a batch comes to on what is kept
+abbrev pub verdict_of : Batch → PlainState → Verdict
+verdict_of batch state = verdict batch state.place (kept_for (past_place batch.ops) state)
+
 abbrev pub reply_on : Batch → PlainState → Reply
-reply_on batch state = reply_with state.place (verdict batch state.place state.newest)
+reply_on batch state = reply_with state.place (verdict_of batch state)
 
 abbrev pub state_with : PlainState → Verdict → PlainState
 state_with state (refuses r) = state
 state_with state (answers replies) = state
-state_with state (adds replies b) = record state { newest = b; place = state.place + 1 }
+state_with state (adds replies b) = record state { older = last_of 63 (kept_books state); newest = b; place = state.place + 1 }
+state_with state (repeats n replies) = state
 
 -- what is kept after it
 abbrev pub state_after : Batch → PlainState → PlainState
-state_after batch state = state_with state (verdict batch state.place state.newest)
+state_after batch state = state_with state (verdict_of batch state)
 
--- What is kept stands for the list of all books so far.
+-- What is kept stands for the list of all books so far: it is the last 64 of them.
 pub record Stands (state : PlainState) (books : List Book) : Type 0 where
   pub count : length books ≡ state.place + 1
-  pub last : last_book books ≡ state.newest
+  pub kept : last_of 64 books ≡ kept_books state
   pub history : IsHistory state.domain books

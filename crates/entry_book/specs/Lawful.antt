@@ -1,16 +1,17 @@
 -- The lawful books of a trust domain.
-use Rattle.std.specs.Prelude.{◌≡◌, ℕ, ◌≤◌, None}
+use Rattle.std.specs.Prelude.{◌≡◌, ℕ, ◌*◌, ◌<◌, ◌≤◌, Some, None}
 use Rattle.spiffe_name.specs.Domain.{IsDomain}
 use Rattle.entry_book.specs.declared.agent.Agent.{Agent}
 use Rattle.entry_book.specs.declared.bundle.Bundle.{Bundle}
+use Rattle.entry_book.specs.declared.kept.KeptBatch.{KeptBatch}
 use Rattle.entry_book.specs.Rows.{Bytes, Entry, given_of, IsProperEntry, IsProperAgent}
 use Rattle.entry_book.specs.Order.{Within}
 use Rattle.entry_book.specs.Book.{Book, AscendingBook, HasBundle}
-use Rattle.entry_book.specs.Batches.{entry_fault, agent_fault, bundle_fault}
+use Rattle.entry_book.specs.Batches.{IsMadeFor, entry_fault, agent_fault, bundle_fault}
 
--- `own` is the server's trust domain, and `most` bounds revisions and sequences.
+-- `own` is the server's trust domain, and `most` bounds revisions and sequences; in book n it is 64 n.
 pub record Lawful (own : Bytes) (most : ℕ) (b : Book) : Type 0 where
-  -- entry ids, agent ids and bundle domains are each distinct
+  -- entry ids, agent ids, bundle domains and tokens are each distinct
   pub ascending : AscendingBook b
   -- no two entries have the same parent, identity and selectors
   pub apart : (e f : Entry) → Within b.entries e → Within b.entries f → e.parent ≡ f.parent → e.identity ≡ f.identity → e.selectors ≡ f.selectors → e.id ≡ f.id
@@ -28,3 +29,7 @@ pub record Lawful (own : Bytes) (most : ℕ) (b : Book) : Type 0 where
   pub no_bundle_fault : (d : Bundle) → Within b.bundles d → bundle_fault own d.domain d.text ≡ None
   pub revisions : (e : Entry) → Within b.entries e → e.revision ≤ most
   pub sequences : (d : Bundle) → Within b.bundles d → d.sequence ≤ most
+  -- a batch that is kept was made for the trust domain, with its token
+  pub proper_tokens : (k : KeptBatch) → Within b.tokens k → IsMadeFor own (record { domain = own; ops = k.ops; after = 0; token = Some k.token })
+  -- and was committed: its place isn't 0, nor above the book's number
+  pub places : (k : KeptBatch) → Within b.tokens k → (0 < k.place) × (64 * k.place ≤ most)

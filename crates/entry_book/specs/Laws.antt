@@ -1,5 +1,5 @@
 -- The laws of the book. Each is a clause of a function of the module `laws`.
-use Rattle.std.specs.Prelude.{◌≡◌, ◌↔◌, ◌⊎◌, ℕ, ◌+◌, ◌*◌, ◌^◌, ◌<◌, ◌≤◌, true, false, List, [], ◌∷◌, ◌++◌, length, map, Option, Some, None, Ok, Err, IfOk, MatchResult, slice_get, Contains, ⊤}
+use Rattle.std.specs.Prelude.{◌≡◌, ◌↔◌, ◌⊎◌, ℕ, ◌+◌, ◌*◌, ◌^◌, ◌<◌, ◌≤◌, true, false, List, [], ◌∷◌, ◌++◌, length, map, take, Option, Some, None, Ok, Err, IfOk, MatchResult, IfSome, is_some, option_to_list, slice_get, Contains, ⊤}
 use Rattle.std.specs.List.{AllByRecursion}
 use Rattle.spiffe_name.specs.Id.{server_text}
 use Rattle.entry_book.specs.declared.agent.Agent.{Agent}
@@ -10,16 +10,20 @@ use Rattle.entry_book.specs.declared.op.Op.{Op}
 use Rattle.entry_book.specs.declared.mode.DropMode.{DropMode}
 use Rattle.entry_book.specs.declared.op.Op.TheVariants.{Create, Update, Delete, Show, ShowAgent, ShowBundle, Children, Page, Authorised, Trust, Prune, SetAgent, DropAgent, SetBundle, DropBundle}
 use Rattle.entry_book.specs.declared.reply.OpReply.TheVariants as replied
+use Rattle.entry_book.specs.declared.kept.KeptBatch.{KeptBatch}
 use Rattle.entry_book.specs.declared.limit.Limit.{Limit}
+use Rattle.entry_book.specs.declared.limit.Limit.TheVariants as limit
+use Rattle.entry_book.specs.declared.reply.OpReply.{OpReply}
 use Rattle.entry_book.specs.declared.reply.OpRefusal.{OpRefusal}
-use Rattle.entry_book.specs.declared.reply.Outcome.TheVariants.{Committed, Answered, Refused}
-use Rattle.entry_book.specs.declared.reply.Refusal.TheVariants.{OfOp, Full}
+use Rattle.entry_book.specs.declared.reply.OpRefusal.TheVariants.{VersionGone}
+use Rattle.entry_book.specs.declared.reply.Outcome.TheVariants.{Committed, Answered, Repeated, Refused}
+use Rattle.entry_book.specs.declared.reply.Refusal.TheVariants.{NotYet, TokenReused, OfOp, Full}
 use Rattle.entry_book.specs.declared.reply.Reply.{Reply}
 use Rattle.entry_book.specs.Rows.{Bytes, Entry, entry_key, agent_key, bundle_key, IsProperEntry, IsProperAgent}
 use Rattle.entry_book.specs.Order.{Within, Ascending}
 use Rattle.entry_book.specs.Book.{Book, AscendingBook}
-use Rattle.entry_book.specs.Writes.{RowWrite, wrote_entry, wrote_agent, wrote_bundle, after, FitsBook, FitAll}
-use Rattle.entry_book.specs.NamedRows.{row_written, rows_named}
+use Rattle.entry_book.specs.Writes.{RowWrite, wrote_entry, wrote_agent, wrote_bundle, wrote_token, after, FitsBook, FitAll}
+use Rattle.entry_book.specs.NamedRows.{row_written, rows_named, token_of}
 use Rattle.entry_book.specs.Authorised.{authorised, EndsChain, Holds}
 use Rattle.entry_book.specs.Ops.{OpEffect, op_of}
 use Rattle.entry_book.specs.Runs.{RunEffect, RefusedOp, run}
@@ -27,7 +31,8 @@ use Rattle.entry_book.specs.Effects.{Creates, CreateRefused, Updates, UpdateRefu
 use Rattle.entry_book.specs.Limits.{limit_passed}
 use Rattle.entry_book.specs.Batches.{Batch, IsMadeFor, IsProperOp, is_query, entry_fault, agent_fault, bundle_fault, op_fault, batch_refusal}
 use Rattle.entry_book.specs.Faultless.{FaultlessEntry, FaultlessAgent, FaultlessBundle, FaultlessOp}
-use Rattle.entry_book.specs.History.{PlainState, Stands, IsHistory, CommitAll, first_books, last_book, place_of, books_after, books_of, commits, reply_to}
+use Rattle.entry_book.specs.History.{PlainState, Stands, IsHistory, CommitAll, first_books, last_book, place_of, batch_writes, Leads, books_after, books_from, books_of, commits, is_repeated, reply_to}
+use Rattle.entry_book.specs.SameOps.{ops_eq}
 use Rattle.entry_book.specs.Lawful.{Lawful}
 use Rattle.entry_book.specs.Pages.{listed, matches_by, next_of, passes, passing}
 use Rattle.entry_book.specs.Listings.{IsPage, ListsPage, Matches, PageAfterPage, Passes}
@@ -165,14 +170,10 @@ RefusedAsSaid = (own : Bytes) (most : ℕ) (op : Op) (b : Book) (r : OpRefusal) 
 -- two writes of one row
 abbrev pub SameRow : RowWrite → RowWrite → Type 0
 SameRow (wrote_entry c) (wrote_entry d) = c.key ≡ d.key
-SameRow (wrote_entry c) (wrote_agent d) = ⊥
-SameRow (wrote_entry c) (wrote_bundle d) = ⊥
-SameRow (wrote_agent c) (wrote_entry d) = ⊥
 SameRow (wrote_agent c) (wrote_agent d) = c.key ≡ d.key
-SameRow (wrote_agent c) (wrote_bundle d) = ⊥
-SameRow (wrote_bundle c) (wrote_entry d) = ⊥
-SameRow (wrote_bundle c) (wrote_agent d) = ⊥
 SameRow (wrote_bundle c) (wrote_bundle d) = c.key ≡ d.key
+SameRow (wrote_token c) (wrote_token d) = c.key ≡ d.key
+SameRow w v = ⊥
 
 -- no two of these writes are of one row
 abbrev pub DifferentRows : List RowWrite → Type 0
@@ -240,18 +241,51 @@ pub record FaultAt (domain : Bytes) (ops : List Op) (n : ℕ) (f : OpFault) : Ty
   pub fault : op_fault domain op ≡ Some f
 
 abbrev pub NoOpsRefused : Type 0
-NoOpsRefused = (domain : Bytes) (ops : List Op) → (batch_refusal domain ops ≡ Some batch.NoOps) ↔ (ops ≡ [])
+NoOpsRefused = (domain : Bytes) (ops : List Op) (token : Option Bytes) → (batch_refusal domain ops token ≡ Some batch.NoOps) ↔ (ops ≡ [])
 
 abbrev pub TooManyRefused : Type 0
-TooManyRefused = (domain : Bytes) (ops : List Op) → (batch_refusal domain ops ≡ Some batch.TooManyOps) ↔ (64 < length ops)
+TooManyRefused = (domain : Bytes) (ops : List Op) (token : Option Bytes) → (batch_refusal domain ops token ≡ Some batch.TooManyOps) ↔ (64 < length ops)
 
 -- a batch is refused for the first operation with a fault, where it has at most 64
 abbrev pub FirstFault : Type 0
-FirstFault = (domain : Bytes) (ops : List Op) (n : ℕ) (f : OpFault) → (batch_refusal domain ops ≡ Some (batch.OfOp n f)) ↔ ((length ops ≤ 64) × FaultAt domain ops n f)
+FirstFault = (domain : Bytes) (ops : List Op) (token : Option Bytes) (n : ℕ) (f : OpFault) → (batch_refusal domain ops token ≡ Some (batch.OfOp n f)) ↔ ((length ops ≤ 64) × FaultAt domain ops n f)
 
--- a list that isn't refused has 1 to 64 operations, none of which has a fault
+-- 1 to 64 operations, none of which has a fault
+pub record AreFaultless (domain : Bytes) (ops : List Op) : Type 0 where
+  pub some : 0 < length ops
+  pub few : length ops ≤ 64
+  pub none : AllByRecursion (λ op. op_fault domain op ≡ None) ops
+
+-- no page of these operations asks for another book than the last
+abbrev pub AskForLast : List Op → Type 0
+AskForLast ops = (q : PageQuery) → Within ops (Page q) → q.at ≡ None
+
+-- The first page that asks for an earlier book stands at n.
+pub record PastPageAt (ops : List Op) (n : ℕ) : Type 0 where
+  pub front : List Op
+  pub query : PageQuery
+  pub rest : List Op
+  pub split : ops ≡ front ++ Page query ∷ rest
+  pub index : n ≡ length front
+  pub none_before : AskForLast front
+  pub place : ℕ
+  pub asked : query.at ≡ Some place
+
+-- no page that asks for an earlier book stands beside another operation
+abbrev pub ArePagesAlone : List Op → Type 0
+ArePagesAlone ops = 1 < length ops → AskForLast ops
+
+-- where no operation has a fault, it is refused for the first page that asks for an earlier book beside another operation
+abbrev pub PastPageRefused : Type 0
+PastPageRefused = (domain : Bytes) (ops : List Op) (token : Option Bytes) (n : ℕ) → (batch_refusal domain ops token ≡ Some (batch.PastPageNotAlone n)) ↔ (AreFaultless domain ops × (1 < length ops) × PastPageAt ops n)
+
+-- and then where it only asks and carries a token
+abbrev pub TokenRefused : Type 0
+TokenRefused = (domain : Bytes) (ops : List Op) (token : Option Bytes) → (batch_refusal domain ops token ≡ Some batch.TokenOnQuery) ↔ (AreFaultless domain ops × ArePagesAlone ops × (is_some token ≡ true) × (is_query ops ≡ true))
+
+-- a list that isn't refused has none of these faults
 abbrev pub NoFault : Type 0
-NoFault = (domain : Bytes) (ops : List Op) → (batch_refusal domain ops ≡ None) ↔ ((0 < length ops) × (length ops ≤ 64) × AllByRecursion (λ op. op_fault domain op ≡ None) ops)
+NoFault = (domain : Bytes) (ops : List Op) (token : Option Bytes) → (batch_refusal domain ops token ≡ None) ↔ (AreFaultless domain ops × ArePagesAlone ops × (is_some token ≡ true → is_query ops ≡ false))
 
 -- a new entry, an agent, a bundle and an operation have no fault where they are what the direct words say
 abbrev pub EntryFaults : Type 0
@@ -272,9 +306,9 @@ OpFaults = (own : Bytes) (op : Op) → IsProperOp op → (op_fault own op ≡ No
 abbrev pub CommitAdds : Type 0
 CommitAdds = (batch : Batch) (books : List Book) → 0 < length books → commits batch books ≡ true → ((b : Book) × (books_after batch books ≡ books ++ b ∷ []) × (last_book (books_after batch books) ≡ b)) × ((reply_to batch books).place ≡ length books)
 
--- any other leaves the list, and its place is the last book's number
+-- any other leaves the list, and its place is the last book's number, unless it repeats a batch that was committed before
 abbrev pub OthersLeave : Type 0
-OthersLeave = (batch : Batch) (books : List Book) → commits batch books ≡ false → (books_after batch books ≡ books) × ((reply_to batch books).place ≡ place_of books)
+OthersLeave = (batch : Batch) (books : List Book) → commits batch books ≡ false → (books_after batch books ≡ books) × (is_repeated (reply_to batch books).outcome ≡ false → (reply_to batch books).place ≡ place_of books)
 
 -- a query is never committed
 abbrev pub QueriesOnlyAsk : Type 0
@@ -284,27 +318,118 @@ QueriesOnlyAsk = (batch : Batch) (books : List Book) → is_query batch.ops ≡ 
 abbrev pub Comes : Batch → List Book → Reply → List Book → Type 0
 Comes batch books reply later = (reply_to batch books ≡ reply) × (books_after batch books ≡ later)
 
+-- no batch was committed with the token, where one is given
+abbrev pub IsTokenFree : Option Bytes → Book → Type 0
+IsTokenFree token b = IfSome token (λ t. (k : KeptBatch) → Within b.tokens k → k.token ≡ t → ⊥)
+
+-- It may run at this place, its pages ask for the last book, and no batch was committed with its token.
+pub record RunsOn (batch : Batch) (books : List Book) : Type 0 where
+  pub reached : batch.after ≤ place_of books
+  pub newest : AskForLast batch.ops
+  pub not_kept : IsTokenFree batch.token (last_book books)
+
+-- a batch that may run only at a later place is refused for this, first of all, and the books stay
+abbrev pub EarlyRefused : Type 0
+EarlyRefused = (batch : Batch) (books : List Book) → place_of books < batch.after → Comes batch books (record { place = place_of books; outcome = Refused NotYet }) books
+
 -- a batch with an operation that is refused is refused for it, and the books stay
 abbrev pub OpRefuses : Type 0
-OpRefuses = (batch : Batch) (books : List Book) (s : RefusedOp) → run batch.domain batch.ops (last_book books) ≡ Err s → Comes batch books (record { place = place_of books; outcome = Refused (OfOp s.op s.reason) }) books
+OpRefuses = (batch : Batch) (books : List Book) (s : RefusedOp) → RunsOn batch books → run batch.domain batch.ops (last_book books) ≡ Err s → Comes batch books (record { place = place_of books; outcome = Refused (OfOp s.op s.reason) }) books
 
 -- any other query is answered, whatever the limits, and the books stay
 abbrev pub QueriesAnswered : Type 0
-QueriesAnswered = (batch : Batch) (books : List Book) (t : RunEffect) → is_query batch.ops ≡ true → run batch.domain batch.ops (last_book books) ≡ Ok t → Comes batch books (record { place = place_of books; outcome = Answered t.replies }) books
+QueriesAnswered = (batch : Batch) (books : List Book) (t : RunEffect) → RunsOn batch books → is_query batch.ops ≡ true → run batch.domain batch.ops (last_book books) ≡ Ok t → Comes batch books (record { place = place_of books; outcome = Answered t.replies }) books
 
 -- any other batch of changes adds the book after its writes, also where this is equal to the last one, and is answered at the new place
 abbrev pub ChangesCommit : Type 0
-ChangesCommit = (batch : Batch) (books : List Book) (t : RunEffect) → is_query batch.ops ≡ false → run batch.domain batch.ops (last_book books) ≡ Ok t → limit_passed (place_of books) (after t.writes (last_book books)) ≡ None → Comes batch books (record { place = place_of books + 1; outcome = Committed t.replies }) (books ++ after t.writes (last_book books) ∷ [])
+ChangesCommit = (batch : Batch) (books : List Book) (t : RunEffect) → RunsOn batch books → is_query batch.ops ≡ false → run batch.domain batch.ops (last_book books) ≡ Ok t → limit_passed (place_of books) (after (batch_writes batch (place_of books + 1) t) (last_book books)) ≡ None → Comes batch books (record { place = place_of books + 1; outcome = Committed t.replies }) (books ++ after (batch_writes batch (place_of books + 1) t) (last_book books) ∷ [])
 
 -- but where a limit is passed it is refused for the first such one, and the books stay
 abbrev pub FullRefused : Type 0
-FullRefused = (batch : Batch) (books : List Book) (t : RunEffect) (limit : Limit) → is_query batch.ops ≡ false → run batch.domain batch.ops (last_book books) ≡ Ok t → limit_passed (place_of books) (after t.writes (last_book books)) ≡ Some limit → Comes batch books (record { place = place_of books; outcome = Refused (Full limit) }) books
+FullRefused = (batch : Batch) (books : List Book) (t : RunEffect) (limit : Limit) → RunsOn batch books → is_query batch.ops ≡ false → run batch.domain batch.ops (last_book books) ≡ Ok t → limit_passed (place_of books) (after (batch_writes batch (place_of books + 1) t) (last_book books)) ≡ Some limit → Comes batch books (record { place = place_of books; outcome = Refused (Full limit) }) books
+
+-- ---- earlier books
+
+-- the same page, asked of the last book at any place
+abbrev pub asked_now : Op → Op
+asked_now (Page q) = Page (record q { at = None })
+asked_now op = op
+
+abbrev pub batch_now : Batch → Batch
+batch_now batch = record batch { ops = map asked_now batch.ops; after = 0 }
+
+-- a page of book n, one of the last 64, is answered what it was answered when book n was the last, and the books stay
+abbrev pub PastAnswered : Type 0
+PastAnswered = (own : Bytes) (batch : Batch) (books : List Book) (q : PageQuery) (n : ℕ) → IsMadeFor own batch → 0 < length books → batch.after ≤ place_of books → batch.ops ≡ Page q ∷ [] → q.at ≡ Some n → n ≤ place_of books → place_of books < n + 64 → Comes batch books (record { place = place_of books; outcome = (reply_to (batch_now batch) (take (n + 1) books)).outcome }) books
+
+-- that of another book is refused, and the books stay
+abbrev pub GoneRefused : Type 0
+GoneRefused = (batch : Batch) (books : List Book) (q : PageQuery) (n : ℕ) → batch.after ≤ place_of books → batch.ops ≡ Page q ∷ [] → q.at ≡ Some n → (place_of books < n) ⊎ (n + 64 ≤ place_of books) → Comes batch books (record { place = place_of books; outcome = Refused (OfOp 0 VersionGone) }) books
+
+-- ---- tokens
+
+-- the comparison of operations tells equal lists
+abbrev pub OpsCompared : Type 0
+OpsCompared = (ops others : List Op) → (ops_eq ops others ≡ true) ↔ (ops ≡ others)
+
+-- a commit with a token adds what is kept of it to the tokens, and leaves the other rows as its operations left them; its write is the last
+pub record TokenWritten (batch : Batch) (n : ℕ) (b : Book) (t : RunEffect) : Type 0 where
+  pub rows : (k : KeptBatch) → Within (after (batch_writes batch n t) b).tokens k ↔ (Within b.tokens k ⊎ ((batch.token ≡ Some k.token) × (k.ops ≡ batch.ops) × (k.place ≡ n) × (k.replies ≡ t.replies)))
+  pub others : after (batch_writes batch n t) b ≡ record (after t.writes b) { tokens = (after (batch_writes batch n t) b).tokens }
+  pub last : map row_written (batch_writes batch n t) ≡ map row_written t.writes ++ map token_of (option_to_list batch.token)
+
+abbrev pub TokensWritten : Type 0
+TokensWritten = (batch : Batch) (n : ℕ) (b : Book) → IsTokenFree batch.token b → IfOk (run batch.domain batch.ops b) (TokenWritten batch n b)
+
+-- A batch that is kept in a book of a history was committed, with its token and its operations, at its place, and was answered its replies.
+pub record WasCommitted (batches : List Batch) (k : KeptBatch) : Type 0 where
+  pub before : List Batch
+  pub batch : Batch
+  pub later : List Batch
+  pub split : batches ≡ before ++ batch ∷ later
+  pub token : batch.token ≡ Some k.token
+  pub ops : batch.ops ≡ k.ops
+  pub place : k.place ≡ length before + 1
+  pub replied : reply_to batch (books_of before) ≡ record { place = k.place; outcome = Committed k.replies }
+
+abbrev pub KeptCommitted : Type 0
+KeptCommitted = (own : Bytes) (batches : List Batch) (books : List Book) (k : KeptBatch) → Leads own batches books → Within (last_book books).tokens k → WasCommitted batches k
+
+-- a batch of changes with a token that is kept is answered what is kept, where it has the same operations, and else refused; the books stay
+abbrev pub RepeatAnswered : Type 0
+RepeatAnswered = (batch : Batch) (books : List Book) (k : KeptBatch) → AscendingBook (last_book books) → batch.after ≤ place_of books → AskForLast batch.ops → Within (last_book books).tokens k → batch.token ≡ Some k.token → k.ops ≡ batch.ops → Comes batch books (record { place = k.place; outcome = Repeated k.replies }) books
+
+abbrev pub ReuseRefused : Type 0
+ReuseRefused = (batch : Batch) (books : List Book) (k : KeptBatch) → AscendingBook (last_book books) → batch.after ≤ place_of books → AskForLast batch.ops → Within (last_book books).tokens k → batch.token ≡ Some k.token → (k.ops ≡ batch.ops → ⊥) → Comes batch books (record { place = place_of books; outcome = Refused TokenReused }) books
+
+-- Once a batch is committed with a token, no batch with it ever is again. After whatever batches, one with the same operations gets the same replies and the same place, and one with others is refused; the books stay.
+pub record CommittedOnce (first : Reply) (replies : List OpReply) (batch other : Batch) (later : List Book) : Type 0 where
+  pub no_more : commits other later ≡ false
+  pub books_stay : books_after other later ≡ later
+  pub repeated : other.after ≤ place_of later → other.ops ≡ batch.ops → reply_to other later ≡ record { place = first.place; outcome = Repeated replies }
+  pub reused : other.after ≤ place_of later → (other.ops ≡ batch.ops → ⊥) → reply_to other later ≡ record { place = place_of later; outcome = Refused TokenReused }
+
+abbrev pub ExactlyOnce : Type 0
+ExactlyOnce = (own token : Bytes) (batch other : Batch) (between : List Batch) (books : List Book) (replies : List OpReply) → IsHistory own books → IsMadeFor own batch → IsMadeFor own other → AllByRecursion (IsMadeFor own) between → batch.token ≡ Some token → other.token ≡ Some token → (reply_to batch books).outcome ≡ Committed replies → CommittedOnce (reply_to batch books) replies batch other (books_from (books_after batch books) between)
 
 -- the limits in words
 pub record IsWithinLimits (b : Book) : Type 0 where
   pub entries : length b.entries ≤ 16384
   pub agents : length b.agents ≤ 4096
   pub bundles : length b.bundles ≤ 1024
+  pub tokens : length b.tokens ≤ 65536
+
+-- it is passed, and none before it is
+abbrev pub IsFirstPassed : Limit → ℕ → Book → Type 0
+IsFirstPassed limit.History place b = 2 ^ 48 ≤ place
+IsFirstPassed limit.Entries place b = (place < 2 ^ 48) × (16384 < length b.entries)
+IsFirstPassed limit.Agents place b = (place < 2 ^ 48) × (length b.entries ≤ 16384) × (4096 < length b.agents)
+IsFirstPassed limit.Bundles place b = (place < 2 ^ 48) × (length b.entries ≤ 16384) × (length b.agents ≤ 4096) × (1024 < length b.bundles)
+IsFirstPassed limit.Tokens place b = (place < 2 ^ 48) × (length b.entries ≤ 16384) × (length b.agents ≤ 4096) × (length b.bundles ≤ 1024) × (65536 < length b.tokens)
+
+-- the first limit that is passed is told, in this order
+abbrev pub FirstLimit : Type 0
+FirstLimit = (place : ℕ) (b : Book) (limit : Limit) → (limit_passed place b ≡ Some limit) ↔ IsFirstPassed limit place b
 
 abbrev pub NoneIsPassed : Type 0
 NoneIsPassed = (place : ℕ) (b : Book) → (limit_passed place b ≡ None) ↔ ((place < 2 ^ 48) × IsWithinLimits b)
@@ -344,7 +469,11 @@ AllLawful = (state : PlainState) (books : List Book) → Stands state books → 
 
 -- a batch that is accepted on a book lawful as book n leaves a book lawful as book n + 1
 abbrev pub BatchKeeps : Type 0
-BatchKeeps = (own : Bytes) (batch : Batch) (n : ℕ) (b : Book) → IsMadeFor own batch → Lawful own (64 * n) b → IfOk (run batch.domain batch.ops b) (λ t. Lawful own (64 * (n + 1)) (after t.writes b))
+BatchKeeps = (own : Bytes) (batch : Batch) (n : ℕ) (b : Book) → IsMadeFor own batch → Lawful own (64 * n) b → IfOk (run batch.domain batch.ops b) (λ t. Lawful own (64 * (n + 1)) (after (batch_writes batch (n + 1) t) b))
+
+-- and each of its writes finds the row that it names, where its token isn't kept
+abbrev pub BatchFits : Type 0
+BatchFits = (batch : Batch) (n : ℕ) (b : Book) → AscendingBook b → IsTokenFree batch.token b → IfOk (run batch.domain batch.ops b) (λ t. FitAll (batch_writes batch n t) b)
 
 -- ---- pages
 

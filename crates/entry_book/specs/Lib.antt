@@ -15,5 +15,7 @@ pub mod Order
 pub mod Pages
 pub mod Rows
 pub mod Runs
+pub mod SameOps
+pub mod Tokens
 pub mod Worked
 pub mod Writes

@@ -2,18 +2,19 @@
 use Rattle.std.specs.Prelude.{ℕ, ◌^◌, length, nat_lt, not, Option, None}
 use Rattle.spiffe_name.specs.Failures.{refuse_if}
 use Rattle.entry_book.specs.declared.limit.Limit.{Limit}
-use Rattle.entry_book.specs.declared.limit.Limit.TheVariants.{History, Entries, Agents, Bundles}
+use Rattle.entry_book.specs.declared.limit.Limit.TheVariants.{History, Entries, Agents, Bundles, Tokens}
 use Rattle.entry_book.specs.Book.{Book}
 
--- the first limit that is passed by a book of so many entries, agents and bundles that is to follow the one at this place; the place is the count of batches committed so far
-abbrev pub limit_over : ℕ → ℕ → ℕ → ℕ → Option Limit
-limit_over place entries agents bundles =
+-- the first limit that is passed by a book of so many entries, agents, bundles and tokens that is to follow the one at this place; the place is the count of batches committed so far
+abbrev pub limit_over : ℕ → ℕ → ℕ → ℕ → ℕ → Option Limit
+limit_over place entries agents bundles tokens =
     refuse_if (not (nat_lt place (2 ^ 48))) History (
     refuse_if (nat_lt 16384 entries) Entries (
     refuse_if (nat_lt 4096 agents) Agents (
-    refuse_if (nat_lt 1024 bundles) Bundles
-    None)))
+    refuse_if (nat_lt 1024 bundles) Bundles (
+    refuse_if (nat_lt 65536 tokens) Tokens
+    None))))
 
 -- the first limit that this book passes
 abbrev pub limit_passed : ℕ → Book → Option Limit
-limit_passed place b = limit_over place (length b.entries) (length b.agents) (length b.bundles)
+limit_passed place b = limit_over place (length b.entries) (length b.agents) (length b.bundles) (length b.tokens)

@@ -4,18 +4,20 @@ use Rattle.entry_book.specs.declared.op.Op.{Op}
 use Rattle.entry_book.specs.declared.op.Op.TheVariants.{Create, Update, Delete, Show, ShowAgent, ShowBundle, Children, Page, Authorised, Trust, Prune, SetAgent, DropAgent, SetBundle, DropBundle}
 use Rattle.entry_book.specs.Rows.{Bytes, Entry}
 use Rattle.entry_book.specs.Book.{Book, users_of, expired_before}
-use Rattle.entry_book.specs.Writes.{RowWrite, wrote_entry, wrote_agent, wrote_bundle}
+use Rattle.entry_book.specs.Writes.{RowWrite, wrote_entry, wrote_agent, wrote_bundle, wrote_token}
 
--- A row by its name: the entry of an id, the agent of an ID, or the bundle of a trust domain.
+-- A row by its name: the entry of an id, the agent of an ID, the bundle of a trust domain, or what is kept under a token.
 pub data RowName : Type 0 where
   entry_of : Bytes → RowName
   agent_of : Bytes → RowName
   bundle_of : Bytes → RowName
+  token_of : Bytes → RowName
 
 abbrev pub row_written : RowWrite → RowName
 row_written (wrote_entry c) = entry_of c.key
 row_written (wrote_agent c) = agent_of c.key
 row_written (wrote_bundle c) = bundle_of c.key
+row_written (wrote_token c) = token_of c.key
 
 abbrev pub entry_name : Entry → RowName
 entry_name e = entry_of e.id

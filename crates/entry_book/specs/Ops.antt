@@ -144,7 +144,7 @@ abbrev pub drop_over : Option Bundle → Bytes → DropMode → Book → OpResul
 drop_over None domain mode b = Err (NoBundle domain)
 drop_over (Some d) domain mode b = drop_in mode (users_of d.domain b) d
 
--- ---- the plain op, in the book of a trust domain
+-- ---- the plain op, in the book of a trust domain; a page that asks for an earlier book is run on that one
 
 abbrev pub op_of : Bytes → Op → Book → OpResult
 op_of own (Create e) b = create_over (entry_at e.id b) (at_revision 0 e) b

@@ -1,18 +1,19 @@
 -- Worked books, computed: a cycle of parents, and an alias; and worked batches. The domain is `ex.org`.
-use Rattle.std.specs.Prelude.{◌≡◌, ℕ, List, [], ◌∷◌, ◌++◌, Some, None, codes}
+use Rattle.std.specs.Prelude.{◌≡◌, ℕ, List, [], ◌∷◌, ◌++◌, Option, Some, None, codes}
 use Rattle.spiffe_name.specs.Id.{server_text}
 use Rattle.spiffe_name.specs.Selector.{SelectorPair}
 use Rattle.entry_book.specs.declared.agent.Agent.{Agent}
 use Rattle.entry_book.specs.declared.bundle.Bundle.{Bundle}
+use Rattle.entry_book.specs.declared.entry.NewEntry.{NewEntry}
 use Rattle.entry_book.specs.declared.mode.DropMode.TheVariants as mode
 use Rattle.entry_book.specs.declared.op.Op.{Op}
-use Rattle.entry_book.specs.declared.op.Op.TheVariants.{Create, Update, Delete, Show, Children, Page, Authorised, Prune, SetAgent, SetBundle, DropBundle}
+use Rattle.entry_book.specs.declared.op.Op.TheVariants.{Create, Update, Delete, Show, ShowAgent, ShowBundle, Children, Page, Authorised, Trust, Prune, SetAgent, DropAgent, SetBundle, DropBundle}
 use Rattle.entry_book.specs.declared.reply.OpReply.{OpReply}
 use Rattle.entry_book.specs.declared.reply.OpReply.TheVariants as replied
 use Rattle.entry_book.specs.declared.reply.OpRefusal.{OpRefusal}
-use Rattle.entry_book.specs.declared.reply.OpRefusal.TheVariants.{IdTaken, Similar, StaleRevision, NoBundle, NoAgent}
-use Rattle.entry_book.specs.declared.reply.Outcome.TheVariants.{Committed, Answered, Refused}
-use Rattle.entry_book.specs.declared.reply.Refusal.TheVariants.{OfOp}
+use Rattle.entry_book.specs.declared.reply.OpRefusal.TheVariants.{IdTaken, Similar, StaleRevision, NoBundle, NoAgent, VersionGone}
+use Rattle.entry_book.specs.declared.reply.Outcome.TheVariants.{Committed, Answered, Repeated, Refused}
+use Rattle.entry_book.specs.declared.reply.Refusal.TheVariants.{NotYet, TokenReused, OfOp}
 use Rattle.entry_book.specs.declared.reply.Reply.{Reply}
 use Rattle.entry_book.specs.Rows.{Bytes, Entry, given_of}
 use Rattle.entry_book.specs.Book.{Book}
@@ -43,7 +44,7 @@ abbrev pub agent : List SelectorPair → Agent
 agent selectors = record { id = agent_id; selectors = selectors }
 
 abbrev pub book : List Entry → Agent → Book
-book entries a = record { entries = entries; agents = a ∷ []; bundles = [] }
+book entries a = record { entries = entries; agents = a ∷ []; bundles = []; tokens = [] }
 
 -- ---- a cycle: the agent's entry A, B under A, and A again under B; and one entry that no chain reaches
 
@@ -94,7 +95,7 @@ abbrev pub other_agent : Agent
 other_agent = record { id = id_of (codes "/spire/agent/n2"); selectors = x1 ∷ x2 ∷ [] }
 
 abbrev pub AliasOfAnother : Type 0
-AliasOfAnother = authorised server (agent (x1 ∷ [])) (record { entries = aliased; agents = agent (x1 ∷ []) ∷ other_agent ∷ []; bundles = [] }) ≡ []
+AliasOfAnother = authorised server (agent (x1 ∷ [])) (record { entries = aliased; agents = agent (x1 ∷ []) ∷ other_agent ∷ []; bundles = []; tokens = [] }) ≡ []
 
 -- ---- batches, run one after another
 
@@ -103,7 +104,7 @@ replies_from books [] = []
 replies_from books (batch ∷ batches) = reply_to batch books ∷ replies_from (books_after batch books) batches
 
 abbrev pub batch_of : List Op → Batch
-batch_of ops = record { domain = codes "ex.org"; ops = ops }
+batch_of ops = record { domain = codes "ex.org"; ops = ops; after = 0; token = None }
 
 abbrev pub committed : ℕ → OpReply → Reply
 committed n r = record { place = n; outcome = Committed (r ∷ []) }
@@ -173,3 +174,47 @@ PrunesBefore = replies_from first_books (batch_of (create (expiring 1 (codes "/a
 -- an entry that is created and updated is at revision 1: the delete that expects 0 is refused, and nothing is kept
 abbrev pub StaleDelete : Type 0
 StaleDelete = replies_from first_books (batch_of (create (web 1) ∷ Update (given_of (api 1)) (Some 0) ∷ Delete (uuid_of 1) (Some 0) ∷ []) ∷ batch_of (Show (uuid_of 1) ∷ []) ∷ []) ≡ refused 0 2 StaleRevision ∷ answered 0 (replied.EntryShown None) ∷ []
+
+-- ---- earlier books, places and tokens
+
+abbrev pub page_of_all : Option ℕ → Op
+page_of_all at = Page (record { size = 2; at = at; from = None; filter = record { parent = None; identity = None; domain = None; selectors = None } })
+
+abbrev pub paged : ℕ → List Entry → Option Bytes → Reply
+paged n es next = answered n (replied.Page es next)
+
+-- book 1 is still answered when an entry of it is gone, book 0 has no entry, and book 3 isn't there yet
+abbrev pub EarlierBooksRead : Type 0
+EarlierBooksRead = replies_from first_books (batch_of (create (web 1) ∷ create (api 2) ∷ create (entry 3 agent_id (id_of (codes "/side")) u1) ∷ []) ∷ batch_of (Delete (uuid_of 2) None ∷ []) ∷ batch_of (page_of_all None ∷ []) ∷ batch_of (page_of_all (Some 1) ∷ []) ∷ batch_of (page_of_all (Some 0) ∷ []) ∷ batch_of (page_of_all (Some 3) ∷ []) ∷ []) ≡ all_committed 1 (replied.Entry (web 1) ∷ replied.Entry (api 2) ∷ replied.Entry (entry 3 agent_id (id_of (codes "/side")) u1) ∷ []) ∷ committed 2 (replied.Entry (api 2)) ∷ paged 2 (web 1 ∷ entry 3 agent_id (id_of (codes "/side")) u1 ∷ []) None ∷ paged 2 (web 1 ∷ api 2 ∷ []) (Some (uuid_of 2)) ∷ paged 2 [] None ∷ refused 2 0 VersionGone ∷ []
+
+-- a batch that may run at place 1 or later is refused at place 0, before its operation is looked at, and runs at place 1
+abbrev pub LaterBatchWaits : Type 0
+LaterBatchWaits = replies_from first_books (record (batch_of (Authorised agent_id ∷ [])) { after = 1 } ∷ batch_of (SetAgent plain_agent ∷ []) ∷ record (batch_of (Authorised agent_id ∷ [])) { after = 1 } ∷ []) ≡ record { place = 0; outcome = Refused NotYet } ∷ committed 1 (replied.Agent plain_agent) ∷ answered 1 (replied.Entries []) ∷ []
+
+abbrev pub with_token : List Op → Batch
+with_token ops = record (batch_of ops) { token = Some (uuid_of 9) }
+
+-- the agent is set with a token, and dropped; set again with this token it is answered what it was then, and stays dropped; another batch with the token is refused
+abbrev pub TokenKeepsReplies : Type 0
+TokenKeepsReplies = replies_from first_books (with_token (SetAgent plain_agent ∷ []) ∷ batch_of (DropAgent agent_id ∷ []) ∷ with_token (SetAgent plain_agent ∷ []) ∷ with_token (SetAgent (agent (x2 ∷ [])) ∷ []) ∷ batch_of (ShowAgent agent_id ∷ []) ∷ []) ≡ committed 1 (replied.Agent plain_agent) ∷ committed 2 (replied.Agent plain_agent) ∷ record { place = 1; outcome = Repeated (replied.Agent plain_agent ∷ []) } ∷ record { place = 2; outcome = Refused TokenReused } ∷ answered 2 (replied.AgentShown None) ∷ []
+
+-- a batch that is refused keeps nothing under its token
+abbrev pub RefusedTokenFree : Type 0
+RefusedTokenFree = replies_from first_books (with_token (DropAgent agent_id ∷ []) ∷ with_token (SetAgent plain_agent ∷ []) ∷ []) ≡ refused 0 0 NoAgent ∷ committed 1 (replied.Agent plain_agent) ∷ []
+
+-- ---- lifetimes, and questions
+
+-- what is given of the first entry, with these lifetimes
+abbrev pub web_for : ℕ → ℕ → NewEntry
+web_for x509 jwt = record { id = uuid_of 1; parent = agent_id; identity = id_of (codes "/web"); selectors = u1; hint = codes "h"; domains = []; expiry = 7; x509_svid_ttl = x509; jwt_svid_ttl = jwt }
+
+abbrev pub web_at : ℕ → ℕ → ℕ → Entry
+web_at x509 jwt n = record { id = uuid_of 1; parent = agent_id; identity = id_of (codes "/web"); selectors = u1; hint = codes "h"; domains = []; expiry = 7; x509_svid_ttl = x509; jwt_svid_ttl = jwt; revision = n }
+
+-- each lifetime is kept as it was given, an update sets both, and a similar entry is one whatever its lifetimes
+abbrev pub LifetimesKept : Type 0
+LifetimesKept = replies_from first_books (batch_of (Create (web_for 3600 60) ∷ []) ∷ batch_of (Create (record (web_for 1 2) { id = uuid_of 2 }) ∷ []) ∷ batch_of (Update (web_for 0 0) None ∷ []) ∷ []) ≡ committed 1 (replied.Entry (web_at 3600 60 0)) ∷ refused 1 0 (Similar (uuid_of 1)) ∷ committed 2 (replied.Entry (web_at 0 0 1)) ∷ []
+
+-- no question adds a book
+abbrev pub QuestionsOnlyAsk : Type 0
+QuestionsOnlyAsk = replies_from first_books (batch_of (SetAgent plain_agent ∷ []) ∷ batch_of (ShowAgent agent_id ∷ []) ∷ batch_of (ShowBundle other_domain ∷ []) ∷ batch_of (Trust agent_id ∷ []) ∷ batch_of (page_of_all None ∷ []) ∷ []) ≡ committed 1 (replied.Agent plain_agent) ∷ answered 1 (replied.AgentShown (Some plain_agent)) ∷ answered 1 (replied.BundleShown None) ∷ answered 1 (replied.Bundles []) ∷ paged 1 [] None ∷ []

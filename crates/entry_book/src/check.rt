@@ -3,7 +3,7 @@
 ghost use Rattle.std.specs.Prelude.{◌≡◌, IfSome, bytes_eq, length};
 ghost use Rattle.std.specs.List.{AllByRecursion};
 ghost use Rattle.entry_book.specs.Rows.{IsId, IsProperAgent, IsProperEntry};
-ghost use Rattle.entry_book.specs.Batches.{IsProperOp, IsProperPage, agent_fault, asked_fault, batch_refusal, bundle_fault, entry_fault, has_no_path, if_given, is_agent_path, is_foreign, is_outside, op_fault, ops_refusal, own_fault, page_fault, parent_fault};
+ghost use Rattle.entry_book.specs.Batches.{IsProperOp, IsProperPage, agent_fault, asked_fault, batch_refusal, beside, bundle_fault, entry_fault, first_past, has_no_path, if_given, is_agent_path, is_foreign, is_outside, is_query, op_fault, ops_refusal, or_token, own_fault, page_fault, parent_fault};
 ghost use Rattle.spiffe_name.specs.Domain.{IsDomain};
 ghost use Rattle.spiffe_name.specs.Id.{path_of, server_text};
 ghost use Rattle.spiffe_name.specs.SelectorSet.{IsSelectorSet};
@@ -18,10 +18,14 @@ use crate::text::Text;
 use spiffe_name::{SelectorSet, SpiffeId, TrustDomain};
 use uuid::Uuid;
 
-/// The first fault of a list of operations.
+/// Why a list of operations, with a token or none, is no batch.
 #[tactic(auto, unfolding(crate::specs::Batches::batch_refusal))]
-pub(crate) fn refusal_of(domain: &TrustDomain, ops: &[Op]) -> Option<BatchRefusal>
-    ensures { result ≡ batch_refusal domain.now ops.now }
+pub(crate) fn refusal_of(
+    domain: &TrustDomain,
+    ops: &[Op],
+    token: &Option<Uuid>,
+) -> Option<BatchRefusal>
+    ensures { result ≡ batch_refusal domain.now ops.now token.now }
 {
     if ops.is_empty() {
         return Some(BatchRefusal::NoOps);
@@ -29,19 +33,61 @@ pub(crate) fn refusal_of(domain: &TrustDomain, ops: &[Op]) -> Option<BatchRefusa
     if ops.len() > 64 {
         return Some(BatchRefusal::TooManyOps);
     }
-    ops_refusal(domain, ops)
+    let later = later_refusal(ops, token);
+    ops_refusal(domain, ops, later)
 }
 
-/// The first operation with a fault, and the fault.
-fn ops_refusal(domain: &TrustDomain, ops: &[Op]) -> Option<BatchRefusal>
-    ensures { result ≡ ops_refusal domain.now 0 ops.now }
+/// Why operations without a fault are no batch.
+fn later_refusal(ops: &[Op], token: &Option<Uuid>) -> Option<BatchRefusal>
+    ensures { result ≡ or_token (beside ops.now) ops.now token.now }
+{
+    if let Some(index) = beside(ops) {
+        return Some(BatchRefusal::PastPageNotAlone(index));
+    }
+    if token.is_some() && is_query(ops) {
+        return Some(BatchRefusal::TokenOnQuery);
+    }
+    None
+}
+
+/// The first page that asks for an earlier book beside another operation.
+fn beside(ops: &[Op]) -> Option<usize>
+    ensures { result ≡ beside ops.now }
+{
+    if ops.len() > 1 { first_past(ops) } else { None }
+}
+
+fn first_past(ops: &[Op]) -> Option<usize>
+    ensures { result ≡ first_past 0 ops.now }
+{
+    for (index, op) in ops.iter().enumerate() {
+        if op.place_asked().is_some() {
+            return Some(index);
+        }
+    }
+    None
+}
+
+fn is_query(ops: &[Op]) -> bool
+    ensures { result ≡ is_query ops.now }
+{
+    ops.iter().all(|op| op.is_question())
+}
+
+/// The first operation with a fault, and the fault; or else what comes after all operations.
+fn ops_refusal(
+    domain: &TrustDomain,
+    ops: &[Op],
+    later: Option<BatchRefusal>,
+) -> Option<BatchRefusal>
+    ensures { result ≡ ops_refusal domain.now 0 ops.now later }
 {
     for (index, op) in ops.iter().enumerate() {
         if let Some(fault) = op_fault(domain, op) {
             return Some(BatchRefusal::OfOp(index, fault));
         }
     }
-    None
+    later
 }
 
 /// The least fault of an operation.
@@ -248,6 +294,13 @@ fn is_outside(selectors: &SelectorSet) -> bool
     ensures { result ≡ is_outside selectors.now }
 {
     selectors.is_empty() || selectors.len() > 16
+}
+
+/// A token is sixteen bytes.
+pub(crate) fn know_token(token: &Option<Uuid>)
+    ensures { IfSome token.now (λ id. length id ≡ 16) }
+{
+    know_given_uuid(token);
 }
 
 /// Each operation is what the types of its parts see to.

@@ -1,6 +1,8 @@
 //! What is a set of trust domains?
 
 ghost use Rattle.std.specs.Prelude.{◌≡◌, bytes_eq, filter, not, IfOk};
+ghost use Rattle.std.specs.Cmp.{partial_equiv_from_equiv};
+ghost use Rattle.std.specs.Cmp.Lexicographic.{lists_equiv, nat_list_eq_equiv, pointwise};
 ghost use Rattle.std.specs.List.{list_any};
 
 use crate::shared::Shared;
@@ -76,7 +78,7 @@ impl DomainSet {
     }
 
     /// Is the domain one of them?
-    pub(crate) fn contains(&self, domain: &TrustDomain) -> bool
+    pub fn contains(&self, domain: &TrustDomain) -> bool
         ensures { result ≡ list_any (λ other. bytes_eq other domain.now) self.now }
     {
         is_among(domain, self.as_slice())
@@ -94,6 +96,21 @@ impl DomainSet {
             domains: others(alloc, self.as_slice(), domain)?,
         })
     }
+}
+
+/// Two sets are equal where they have the same trust domains.
+impl PartialEq for DomainSet {
+    ghost eq = { pointwise bytes_eq };
+
+    ghost laws = { partial_equiv_from_equiv (lists_equiv nat_list_eq_equiv) };
+
+    fn eq(&self, other: &DomainSet) -> bool {
+        self.domains == other.domains
+    }
+}
+
+impl Eq for DomainSet {
+    ghost laws = { lists_equiv nat_list_eq_equiv };
 }
 
 fn is_among(domain: &TrustDomain, domains: &[Shared<TrustDomain>]) -> bool

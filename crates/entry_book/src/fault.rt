@@ -57,6 +57,10 @@ pub enum BatchRefusal {
     TooManyOps,
     /// This operation, counted from 0, is the first that can't stand in a batch.
     OfOp(usize, OpFault),
+    /// This page, counted from 0, is the first that asks for an earlier book, and another operation stands beside it.
+    PastPageNotAlone(usize),
+    /// The batch only asks, and carries a token.
+    TokenOnQuery,
 }
 
 impl BatchRefusal {
@@ -68,6 +72,8 @@ impl BatchRefusal {
             BatchRefusal::NoOps => "B1",
             BatchRefusal::TooManyOps => "B2",
             BatchRefusal::OfOp(_, fault) => fault.code(),
+            BatchRefusal::PastPageNotAlone(_) => "B13",
+            BatchRefusal::TokenOnQuery => "B14",
         }
     }
 
@@ -76,8 +82,8 @@ impl BatchRefusal {
         ensures { result ≡ batch_op self }
     {
         match self {
-            BatchRefusal::NoOps | BatchRefusal::TooManyOps => None,
-            BatchRefusal::OfOp(index, _) => Some(index),
+            BatchRefusal::NoOps | BatchRefusal::TooManyOps | BatchRefusal::TokenOnQuery => None,
+            BatchRefusal::OfOp(index, _) | BatchRefusal::PastPageNotAlone(index) => Some(index),
         }
     }
 }

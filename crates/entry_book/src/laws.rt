@@ -3,9 +3,10 @@
 //! Each function does nothing. What it ensures is a law of the definitions, stated in `specs/Laws.antt`; a caller
 //! that calls it may rest on the law.
 
-ghost use Rattle.entry_book.specs.Laws.{AcceptedAsSaid, AgentFaults, AliasIsHeld, AllLawful, AllWithinLimits, AuthorisedEffect, AuthorisedInOrder, BatchKeeps, BundleFaults, ChangesCommit, ChildIsAuthorised, ChildrenEffect, CommitAdds, CountOfBooks, CreateEffect, DeleteEffect, DropAgentEffect, DropBundleEffect, EndsOfChains, EntryFaults, FirstFault, FullRefused, HeldIsAuthorised, HistoryBounded, HistoryGoesOn, LawfulHistory, MatchesAsSaid, NoFault, NoOpsRefused, NoneIsPassed, OneList, OneMore, OneMoreCommits, OnePage, OpFaults, OpRefuses, OthersDontMatter, OthersLeave, PageAsSaid, PageEffect, PagesListAll, PagesListOnce, PassesAsSaid, PruneEffect, QueriesAnswered, QueriesOnlyAsk, QueryWrites, RefusedAsSaid, RunFits, RunGoesOn, RunKeeps, RunOfNone, RunReplies, RunStops, SetAgentEffect, SetBundleEffect, ShowAgentEffect, ShowBundleEffect, ShowEffect, TooManyRefused, TrustEffect, UpdateEffect, WithinIsContains, WritesNamed, WritesOnce};
+ghost use Rattle.entry_book.specs.Laws.{AcceptedAsSaid, AgentFaults, AliasIsHeld, AllLawful, AllWithinLimits, AuthorisedEffect, AuthorisedInOrder, BatchFits, BatchKeeps, BundleFaults, ChangesCommit, ChildIsAuthorised, ChildrenEffect, CommitAdds, CountOfBooks, CreateEffect, DeleteEffect, DropAgentEffect, DropBundleEffect, EarlyRefused, EndsOfChains, EntryFaults, ExactlyOnce, FirstFault, FirstLimit, FullRefused, GoneRefused, HeldIsAuthorised, HistoryBounded, HistoryGoesOn, KeptCommitted, LawfulHistory, MatchesAsSaid, NoFault, NoOpsRefused, NoneIsPassed, OneList, OneMore, OneMoreCommits, OnePage, OpFaults, OpRefuses, OpsCompared, OthersDontMatter, OthersLeave, PageAsSaid, PageEffect, PagesListAll, PagesListOnce, PassesAsSaid, PastAnswered, PastPageRefused, PruneEffect, QueriesAnswered, QueriesOnlyAsk, QueryWrites, RefusedAsSaid, RepeatAnswered, ReuseRefused, RunFits, RunGoesOn, RunKeeps, RunOfNone, RunReplies, RunStops, SetAgentEffect, SetBundleEffect, ShowAgentEffect, ShowBundleEffect, ShowEffect, TokenRefused, TokensWritten, TooManyRefused, TrustEffect, UpdateEffect, WithinIsContains, WritesNamed, WritesOnce};
 ghost use Rattle.entry_book.specs.Rows.{agent_key, bundle_key, entry_key};
-ghost use Rattle.entry_book.specs.Worked.{AliasHeld, AliasHeldWithMore, AliasNotHeld, AliasNotHeldWithNone, AliasOfAnother, CycleIsAuthorised, EmptyRefuses, FirstBatches, FreedInOneBatch, NothingKept, PrunesBefore, SequencesCount, StaleDelete};
+ghost use Rattle.entry_book.specs.Tokens.{token_key};
+ghost use Rattle.entry_book.specs.Worked.{AliasHeld, AliasHeldWithMore, AliasNotHeld, AliasNotHeldWithNone, AliasOfAnother, CycleIsAuthorised, EarlierBooksRead, EmptyRefuses, FirstBatches, FreedInOneBatch, LaterBatchWaits, LifetimesKept, NothingKept, PrunesBefore, QuestionsOnlyAsk, RefusedTokenFree, SequencesCount, StaleDelete, TokenKeepsReplies};
 
 /// To be within a list is to stand at some place of it, and members and order make a list of rows.
 pub fn membership()
@@ -13,6 +14,7 @@ pub fn membership()
     ensures entries { OneList entry_key }
     ensures agents { OneList agent_key }
     ensures bundles { OneList bundle_key }
+    ensures tokens { OneList token_key }
 {}
 
 /// The authorised entries are the book's entries in which some chain for the agent ends, each once, in the order of
@@ -77,6 +79,8 @@ pub fn faults()
     ensures no_ops { NoOpsRefused }
     ensures too_many { TooManyRefused }
     ensures first { FirstFault }
+    ensures past_page { PastPageRefused }
+    ensures token { TokenRefused }
     ensures none { NoFault }
     ensures entry { EntryFaults }
     ensures agent { AgentFaults }
@@ -89,11 +93,15 @@ pub fn histories()
     ensures adds { CommitAdds }
     ensures leaves { OthersLeave }
     ensures queries { QueriesOnlyAsk }
+    ensures early { EarlyRefused }
     ensures refused { OpRefuses }
     ensures answered { QueriesAnswered }
     ensures changes { ChangesCommit }
     ensures full { FullRefused }
+    ensures past { PastAnswered }
+    ensures gone { GoneRefused }
     ensures limits { NoneIsPassed }
+    ensures first_limit { FirstLimit }
     ensures within { AllWithinLimits }
     ensures bounded { HistoryBounded }
     ensures one_more { OneMore }
@@ -102,12 +110,23 @@ pub fn histories()
     ensures goes_on { HistoryGoesOn }
 {}
 
+/// What becomes of batches that carry a token: of those with one token at most one is ever committed.
+pub fn tokens()
+    ensures same { OpsCompared }
+    ensures written { TokensWritten }
+    ensures committed { KeptCommitted }
+    ensures repeated { RepeatAnswered }
+    ensures reused { ReuseRefused }
+    ensures once { ExactlyOnce }
+{}
+
 /// Every book of a history is lawful, and so is every book that a plain book stands for: an accepted batch keeps a book
 /// lawful.
 pub fn lawful_books()
     ensures history { LawfulHistory }
     ensures stands { AllLawful }
     ensures batch { BatchKeeps }
+    ensures fits { BatchFits }
 {}
 
 /// The worked books of `specs/Worked.antt`: a cycle of parents ends, and an alias is held by an agent that has all of
@@ -130,4 +149,10 @@ pub fn worked_batches()
     ensures freed { FreedInOneBatch }
     ensures prunes { PrunesBefore }
     ensures stale { StaleDelete }
+    ensures earlier { EarlierBooksRead }
+    ensures later { LaterBatchWaits }
+    ensures token { TokenKeepsReplies }
+    ensures token_free { RefusedTokenFree }
+    ensures lifetimes { LifetimesKept }
+    ensures questions { QuestionsOnlyAsk }
 {}

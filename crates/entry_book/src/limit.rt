@@ -16,6 +16,8 @@ pub enum Limit {
     Agents,
     /// The new book would have over 1,024 bundles.
     Bundles,
+    /// The new book would keep over 65,536 tokens.
+    Tokens,
 }
 
 impl Limit {
@@ -28,14 +30,21 @@ impl Limit {
             Limit::Entries => "W3",
             Limit::Agents => "W4",
             Limit::Bundles => "W5",
+            Limit::Tokens => "W6",
         }
     }
 }
 
 /// The first limit that is passed by a book with so many rows of each kind that is to follow the one at this place, which
 /// is the count of batches committed so far.
-pub fn limit_passed(place: u64, entries: usize, agents: usize, bundles: usize) -> Option<Limit>
-    ensures { result ≡ limit_over place entries agents bundles }
+pub fn limit_passed(
+    place: u64,
+    entries: usize,
+    agents: usize,
+    bundles: usize,
+    tokens: usize,
+) -> Option<Limit>
+    ensures { result ≡ limit_over place entries agents bundles tokens }
 {
     if place >= 1 << 48 {
         return Some(Limit::History);
@@ -48,6 +57,9 @@ pub fn limit_passed(place: u64, entries: usize, agents: usize, bundles: usize) -
     }
     if bundles > 1_024 {
         return Some(Limit::Bundles);
+    }
+    if tokens > 65_536 {
+        return Some(Limit::Tokens);
     }
     None
 }

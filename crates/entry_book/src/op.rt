@@ -31,7 +31,7 @@ pub enum Op {
     ShowBundle(Shared<TrustDomain>),
     /// Asks for the entries of a parent. Never refused.
     Children(Shared<SpiffeId>),
-    /// Asks for a page of the entries. Never refused.
+    /// Asks for a page of the entries. Refused `VersionGone` where it gives the number of a book that is none of the last 64.
     Page(Shared<PageQuery>),
     /// Asks for the authorised entries of an agent. Refused `NoAgent`.
     Authorised(Shared<SpiffeId>),
@@ -52,7 +52,7 @@ pub enum Op {
 
 impl Op {
     ghost use Rattle.std.specs.Prelude.{◌≡◌};
-    ghost use Rattle.entry_book.specs.Batches.{is_question};
+    ghost use Rattle.entry_book.specs.Batches.{is_question, place_asked};
 
     /// Does the operation only ask?
     pub fn is_question(&self) -> bool
@@ -74,6 +74,16 @@ impl Op {
             | Op::DropAgent(_)
             | Op::SetBundle(_, _)
             | Op::DropBundle(_, _) => false,
+        }
+    }
+
+    /// The number of a book that the operation gives, where it is a page that gives one.
+    pub fn place_asked(&self) -> Option<u64>
+        ensures { result ≡ place_asked self.now }
+    {
+        match self {
+            Op::Page(query) => query.get().at,
+            _ => None,
         }
     }
 }

@@ -137,6 +137,8 @@ impl Clone for Filter {
 pub struct PageQuery {
     /// How many entries it lists at most, 1 to 500.
     pub size: u64,
+    /// The number of the book that it reads, one of the last 64; none for the last one, whatever its number.
+    pub at: Option<u64>,
     /// The id after which it begins, where it doesn't begin with the first entry.
     pub from: Option<Uuid>,
     /// Which entries it lists.
@@ -149,6 +151,7 @@ impl Clone for PageQuery {
     fn clone(&self) -> Result<PageQuery, AllocError> {
         Ok(PageQuery {
             size: self.size,
+            at: self.at,
             from: self.from,
             filter: self.filter.clone()?,
         })

@@ -80,6 +80,8 @@ pub enum OpRefusal {
     BundleInUse,
     /// The book has no such agent.
     NoAgent,
+    /// The book that a page asks for is none of the last 64.
+    VersionGone,
 }
 
 impl OpRefusal {
@@ -95,6 +97,7 @@ impl OpRefusal {
             OpRefusal::NoBundle(_) => "O5",
             OpRefusal::BundleInUse => "O6",
             OpRefusal::NoAgent => "O7",
+            OpRefusal::VersionGone => "O8",
         }
     }
 }
@@ -111,6 +114,7 @@ impl Clone for OpRefusal {
             OpRefusal::NoBundle(domain) => Ok(OpRefusal::NoBundle(domain.clone()?)),
             OpRefusal::BundleInUse => Ok(OpRefusal::BundleInUse),
             OpRefusal::NoAgent => Ok(OpRefusal::NoAgent),
+            OpRefusal::VersionGone => Ok(OpRefusal::VersionGone),
         }
     }
 }
@@ -118,6 +122,10 @@ impl Clone for OpRefusal {
 /// Why a batch is refused by the books that it finds. A copy of it copies no text.
 #[derive(Drop)]
 pub enum Refusal {
+    /// The batch may run only at a later place.
+    NotYet,
+    /// Another batch was committed with its token.
+    TokenReused,
     /// This operation, counted from 0, is refused.
     OfOp(usize, OpRefusal),
     /// This limit doesn't let the batch's changes in.
@@ -130,6 +138,8 @@ impl Refusal {
         ensures { result.now ≡ refusal_code self.now }
     {
         match self {
+            Refusal::NotYet => "W1",
+            Refusal::TokenReused => "O9",
             Refusal::OfOp(_, reason) => reason.code(),
             Refusal::Full(limit) => limit.code(),
         }
@@ -141,7 +151,7 @@ impl Refusal {
     {
         match self {
             Refusal::OfOp(index, _) => Some(*index),
-            Refusal::Full(_) => None,
+            Refusal::NotYet | Refusal::TokenReused | Refusal::Full(_) => None,
         }
     }
 }
@@ -151,6 +161,8 @@ impl Clone for Refusal {
 
     fn clone(&self) -> Result<Refusal, AllocError> {
         match self {
+            Refusal::NotYet => Ok(Refusal::NotYet),
+            Refusal::TokenReused => Ok(Refusal::TokenReused),
             Refusal::OfOp(index, reason) => Ok(Refusal::OfOp(*index, reason.clone()?)),
             Refusal::Full(limit) => Ok(Refusal::Full(*limit)),
         }
@@ -164,6 +176,8 @@ pub enum Outcome {
     Committed(Shared<Sequence<OpReply>>),
     /// The batch only asked; the answers to the operations, in order.
     Answered(Shared<Sequence<OpReply>>),
+    /// The batch was committed before, with its token; the answers that it was given then.
+    Repeated(Shared<Sequence<OpReply>>),
     /// Nothing was changed.
     Refused(Refusal),
 }
@@ -175,6 +189,7 @@ impl Clone for Outcome {
         match self {
             Outcome::Committed(replies) => Ok(Outcome::Committed(replies.clone()?)),
             Outcome::Answered(replies) => Ok(Outcome::Answered(replies.clone()?)),
+            Outcome::Repeated(replies) => Ok(Outcome::Repeated(replies.clone()?)),
             Outcome::Refused(refusal) => Ok(Outcome::Refused(refusal.clone()?)),
         }
     }
@@ -184,7 +199,8 @@ impl Clone for Outcome {
 /// and no text.
 #[derive(Drop)]
 pub struct Reply {
-    /// The new book's number where the batch was committed, and the number of the book found in every other case.
+    /// The new book's number where the batch is committed, that of the book that it added where it was committed before,
+    /// and the number of the last book in every other case.
     pub place: u64,
     /// What became of the batch.
     pub outcome: Outcome,

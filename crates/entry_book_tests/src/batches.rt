@@ -3,6 +3,7 @@
 use crate::making::{
     BARE, FOREIGN, N1, SERVER, WEB, agent, domain, domains, id, new_entry, selectors, text, uuid,
 };
+use crate::pages::page;
 use entry_book::{Batch, BatchRefusal, DropMode, NewEntry, Op, Sequence, Shared};
 use spiffe_name::{Failure, TrustDomain};
 use std::alloc::Global;
@@ -12,7 +13,7 @@ use std::test::Fail;
 /// The code of a batch's refusal and the index at fault, or the empty text and the count of a copy's operations.
 fn fault(alloc: Global, ops: Sequence<Op>) -> Result<(&'static str, usize), Fail> {
     let domain = TrustDomain::parse(alloc, "ex.org")?;
-    match Batch::new(&domain, ops) {
+    match Batch::new(alloc, &domain, ops, 0, None) {
         Ok(batch) => Ok(("", batch.clone()?.ops().len())),
         Err(Failure::Refused(refusal)) => Ok((refusal.code(), refusal.op().unwrap_or(99))),
         Err(Failure::NoMemory) => Err(Fail::from("no memory")),
@@ -92,6 +93,7 @@ fn only_batches_of_questions_are_queries(rt: HostRuntime) -> Result<(), Fail> {
         (Op::ShowAgent(id(alloc, N1)?), true),
         (Op::ShowBundle(domain(alloc, "ex.org")?), true),
         (Op::Children(id(alloc, N1)?), true),
+        (page(alloc, 500, None)?, true),
         (authorised(alloc, N1)?, true),
         (Op::Trust(id(alloc, N1)?), true),
         (Op::Prune(0), false),
@@ -104,7 +106,7 @@ fn only_batches_of_questions_are_queries(rt: HostRuntime) -> Result<(), Fail> {
         let mut ops = Sequence::empty(alloc);
         ops.push(authorised(alloc, N1)?)?;
         ops.push(op)?;
-        let batch = Batch::new(&own, ops)?.clone()?;
+        let batch = Batch::new(alloc, &own, ops, 0, None)?.clone()?;
         assert_eq!(rt; batch.is_query(), is_question);
         assert_eq!(rt; batch.domain().as_str(), "ex.org");
     }

@@ -11,6 +11,7 @@ fn the_laws_can_be_called() {
     laws::runs();
     laws::faults();
     laws::histories();
+    laws::tokens();
     laws::lawful_books();
     laws::worked_books();
     laws::worked_batches();

@@ -2,13 +2,15 @@
 //!
 //! The crate has tests alone, over the public calls of `entry_book`:
 //!
-//! - `batches`: batches and their refusals; `pages`: those of pages, and which entries a filter passes; `rows`: what rows
-//!   are made of; `limits`: when a limit comes; `laws`: each law is called.
+//! - `batches`: batches and their refusals; `pages`: those of pages; `kept`: what a batch carries beside its operations, and
+//!   when operations are the same; `rows`: what rows are made of; `limits`: when a limit comes; `laws`: each law is called.
 //! - `making`: entries, and the parts of operations.
 #![tactic(auto)]
 
 #[cfg(test)]
 mod batches;
+#[cfg(test)]
+mod kept;
 #[cfg(test)]
 mod laws;
 #[cfg(test)]

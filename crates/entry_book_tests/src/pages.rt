@@ -1,150 +1,122 @@
-//! Which pages can be asked for, at each boundary, and which entries does a filter pass?
+//! Which pages can be asked for, at each boundary?
+//!
+//! Which entries a filter passes is tested with a book, in `plain_book_tests`.
 
 use crate::batches::check;
-use crate::making::{BARE, FOREIGN, N1, SERVER, WEB, domain, domains, id, new_entry, selectors};
-use entry_book::{Batch, Entry, Filter, MatchMode, Op, PageQuery, SelectorMatch, Sequence, Shared};
-use spiffe_name::TrustDomain;
+use crate::making::{BARE, FOREIGN, N1, SERVER, WEB, domain, id, selectors};
+use entry_book::{Filter, MatchMode, Op, PageQuery, SelectorMatch, Shared};
 use std::alloc::Global;
+use std::process::Abort;
 use std::test::Fail;
 
-/// A page of everything.
-fn page(size: u64) -> PageQuery {
-    PageQuery {
-        size,
-        from: None,
-        filter: Filter {
-            parent: None,
-            identity: None,
-            domain: None,
-            selectors: None,
-        },
-    }
+/// A page of everything, of the last book or of book `at`.
+pub fn page(alloc: Global, size: u64, at: Option<u64>) -> Result<Op, Fail> {
+    let filter = Filter {
+        parent: None,
+        identity: None,
+        domain: None,
+        selectors: None,
+    };
+    of_filter(alloc, size, at, filter)
 }
 
-fn op(alloc: Global, query: PageQuery) -> Result<Op, Fail> {
+fn of_filter(alloc: Global, size: u64, at: Option<u64>, filter: Filter) -> Result<Op, Fail> {
+    let query = PageQuery {
+        size,
+        at,
+        from: None,
+        filter,
+    };
     Ok(Op::Page(Shared::of(alloc, query)?))
 }
 
-/// A question to so many selectors.
-fn question(alloc: Global, count: u32, mode: MatchMode) -> Result<Option<SelectorMatch>, Fail> {
-    Ok(Some(SelectorMatch {
-        selectors: selectors(alloc, count)?,
-        mode,
-    }))
+/// A page of the entries of a parent.
+fn page_of_parent(alloc: Global, size: u64, parent: &str) -> Result<Op, Fail> {
+    let parent = id(alloc, parent)?;
+    let filter = Filter {
+        parent: Some(parent),
+        identity: None,
+        domain: None,
+        selectors: None,
+    };
+    of_filter(alloc, size, None, filter)
+}
+
+/// A page of the entries of an identity.
+fn page_of_identity(alloc: Global, size: u64, identity: &str) -> Result<Op, Fail> {
+    let identity = id(alloc, identity)?;
+    let filter = Filter {
+        parent: None,
+        identity: Some(identity),
+        domain: None,
+        selectors: None,
+    };
+    of_filter(alloc, size, None, filter)
+}
+
+/// A page of the entries that name a trust domain, with one of so many selectors.
+fn page_of_selectors(alloc: Global, size: u64, count: u32) -> Result<Op, Fail> {
+    let selectors = selectors(alloc, count)?;
+    let domain = domain(alloc, "d100")?;
+    let question = SelectorMatch {
+        selectors,
+        mode: MatchMode::Any,
+    };
+    let filter = Filter {
+        parent: None,
+        identity: None,
+        domain: Some(domain),
+        selectors: Some(question),
+    };
+    of_filter(alloc, size, None, filter)
+}
+
+fn check_size(rt: &impl Abort, alloc: Global, size: u64, code: &str) -> Result<(), Fail> {
+    check(rt, alloc, page(alloc, size, None)?, code)
+}
+
+fn check_id(rt: &impl Abort, alloc: Global, text: &str, code: &str) -> Result<(), Fail> {
+    check(rt, alloc, page_of_parent(alloc, 1, text)?, code)?;
+    check(rt, alloc, page_of_identity(alloc, 1, text)?, code)
+}
+
+fn check_count(rt: &impl Abort, alloc: Global, count: u32, code: &str) -> Result<(), Fail> {
+    check(rt, alloc, page_of_selectors(alloc, 1, count)?, code)
 }
 
 #[test]
 fn sizes_of_pages_at_their_boundaries(rt: HostRuntime) -> Result<(), Fail> {
-    for (size, code) in [
-        (0, "B9"),
-        (1, ""),
-        (500, ""),
-        (501, "B9"),
-        (18_446_744_073_709_551_615, "B9"),
-    ] {
-        check(&rt, rt.alloc(), op(rt.alloc(), page(size))?, code)?;
-    }
-    Ok(())
+    let alloc = rt.alloc();
+    check_size(&rt, alloc, 0, "B9")?;
+    check_size(&rt, alloc, 1, "")?;
+    check_size(&rt, alloc, 500, "")?;
+    check_size(&rt, alloc, 501, "B9")?;
+    check_size(&rt, alloc, u64::MAX, "B9")
 }
 
 #[test]
 fn ids_of_pages_at_their_boundaries(rt: HostRuntime) -> Result<(), Fail> {
-    for (text, code) in [(WEB, ""), (SERVER, ""), (FOREIGN, "B3"), (BARE, "B4")] {
-        let mut of_parent = page(1);
-        of_parent.filter.parent = Some(id(rt.alloc(), text)?);
-        check(&rt, rt.alloc(), op(rt.alloc(), of_parent)?, code)?;
-        let mut of_identity = page(1);
-        of_identity.filter.identity = Some(id(rt.alloc(), text)?);
-        check(&rt, rt.alloc(), op(rt.alloc(), of_identity)?, code)?;
-    }
-    Ok(())
+    let alloc = rt.alloc();
+    check_id(&rt, alloc, WEB, "")?;
+    check_id(&rt, alloc, SERVER, "")?;
+    check_id(&rt, alloc, N1, "")?;
+    check_id(&rt, alloc, FOREIGN, "B3")?;
+    check_id(&rt, alloc, BARE, "B4")
 }
 
 #[test]
 fn selectors_of_pages_at_their_boundaries(rt: HostRuntime) -> Result<(), Fail> {
-    for (count, code) in [(0, "B6"), (1, ""), (16, ""), (17, "B6")] {
-        let mut query = page(1);
-        query.filter.selectors = question(rt.alloc(), count, MatchMode::Any)?;
-        check(&rt, rt.alloc(), op(rt.alloc(), query)?, code)?;
-    }
-    Ok(())
+    let alloc = rt.alloc();
+    check_count(&rt, alloc, 0, "B6")?;
+    check_count(&rt, alloc, 1, "")?;
+    check_count(&rt, alloc, 16, "")?;
+    check_count(&rt, alloc, 17, "B6")
 }
 
 #[test]
 fn a_pages_least_fault_is_told(rt: HostRuntime) -> Result<(), Fail> {
     let alloc = rt.alloc();
-    let mut query = page(0);
-    check(&rt, alloc, op(alloc, query.clone()?)?, "B9")?;
-    query.filter.selectors = question(alloc, 17, MatchMode::Subset)?;
-    check(&rt, alloc, op(alloc, query.clone()?)?, "B6")?;
-    query.filter.parent = Some(id(alloc, BARE)?);
-    check(&rt, alloc, op(alloc, query.clone()?)?, "B4")?;
-    query.filter.identity = Some(id(alloc, FOREIGN)?);
-    check(&rt, alloc, op(alloc, query)?, "B3")
-}
-
-#[test]
-fn a_page_only_asks(rt: HostRuntime) -> Result<(), Fail> {
-    let mut ops = Sequence::empty(rt.alloc());
-    ops.push(op(rt.alloc(), page(500))?)?;
-    let own = TrustDomain::parse(rt.alloc(), "ex.org")?;
-    assert!(rt; Batch::new(&own, ops)?.clone()?.is_query());
-    Ok(())
-}
-
-/// An entry of N1 that is WEB, with these many selectors, and the trust domains `d100` and `d101`.
-fn entry(alloc: Global, count: u32) -> Result<Entry, Fail> {
-    let mut new = new_entry(alloc, N1, WEB)?;
-    new.selectors = selectors(alloc, count)?;
-    new.domains = domains(alloc, 2)?;
-    Ok(Entry::at_revision(&Shared::of(alloc, new)?, 0)?)
-}
-
-/// The selectors of an entry are those of the filter, more, or fewer; with none in common there is `any` alone to ask.
-#[test]
-fn each_match_compares_sets(rt: HostRuntime) -> Result<(), Fail> {
-    let alloc = rt.alloc();
-    for (mode, passed) in [
-        (MatchMode::Exact, [false, true, false]),
-        (MatchMode::Any, [true, true, true]),
-        (MatchMode::Superset, [false, true, true]),
-        (MatchMode::Subset, [true, true, false]),
-    ] {
-        let mut filter = page(1).filter;
-        filter.selectors = question(alloc, 2, mode)?;
-        for (count, passes) in [1, 2, 3].into_iter().zip(passed) {
-            assert_eq!(rt;
-                filter.passes(&entry(alloc, count)?),
-                passes,
-                "{mode:?} {count}"
-            );
-        }
-        assert_eq!(rt; filter.passes(&entry(alloc, 0)?), mode == MatchMode::Subset);
-    }
-    Ok(())
-}
-
-#[test]
-fn a_filters_parts_are_joined_by_and(rt: HostRuntime) -> Result<(), Fail> {
-    let alloc = rt.alloc();
-    let entry = entry(alloc, 1)?;
-    let mut filter = page(1).filter;
-    assert!(rt; filter.passes(&entry));
-    filter.parent = Some(id(alloc, N1)?);
-    filter.identity = Some(id(alloc, WEB)?);
-    filter.domain = Some(domain(alloc, "d101")?);
-    filter.selectors = question(alloc, 1, MatchMode::Exact)?;
-    assert!(rt; filter.passes(&entry));
-    let mut other = filter.clone()?;
-    other.parent = Some(id(alloc, WEB)?);
-    assert!(rt; !other.passes(&entry));
-    other = filter.clone()?;
-    other.identity = Some(id(alloc, N1)?);
-    assert!(rt; !other.passes(&entry));
-    other = filter.clone()?;
-    other.domain = Some(domain(alloc, "d102")?);
-    assert!(rt; !other.passes(&entry));
-    filter.selectors = question(alloc, 2, MatchMode::Exact)?;
-    assert!(rt; !filter.passes(&entry));
-    Ok(())
+    check(&rt, alloc, page_of_selectors(alloc, 0, 17)?, "B6")?;
+    check(&rt, alloc, page_of_parent(alloc, 0, BARE)?, "B4")?;
+    check(&rt, alloc, page_of_identity(alloc, 0, FOREIGN)?, "B3")
 }

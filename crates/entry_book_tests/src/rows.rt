@@ -22,6 +22,7 @@ fn the_parts_of_an_entry_are_those_that_were_given(rt: HostRuntime) -> Result<()
     assert_eq!(rt; domains.len(), 2);
     assert_eq!(rt; domains[0].get().as_str(), "d100");
     assert_eq!(rt; domains[1].get().as_str(), "d101");
+    assert!(rt; entry.domains().contains(domains[0].get()));
     assert_eq!(rt;
         (entry.domains().len(), entry.domains().is_empty()),
         (2, false)

@@ -1,4 +1,4 @@
-use Rattle.entry_book.proofs.Faults.{first_fault, no_ops_refused, not_refused, too_many_refused}
+use Rattle.entry_book.proofs.Faults.{first_fault, no_ops_refused, not_refused, past_page_refused, token_refused, too_many_refused}
 use Rattle.entry_book.proofs.Unfaulted.{agent_faults, bundle_faults, entry_faults, op_faults}
 use Rattle.entry_book.proofs.laws.faults.Goals as goal
 
@@ -10,6 +10,12 @@ returns-clause-too_many c = too_many_refused
 
 pub returns-clause-first : goal.returns-clause-first
 returns-clause-first c = first_fault
+
+pub returns-clause-past_page : goal.returns-clause-past_page
+returns-clause-past_page c = past_page_refused
+
+pub returns-clause-token : goal.returns-clause-token
+returns-clause-token c = token_refused
 
 pub returns-clause-none : goal.returns-clause-none
 returns-clause-none c = not_refused

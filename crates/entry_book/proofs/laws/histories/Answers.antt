@@ -1,6 +1,6 @@
 use Rattle.entry_book.proofs.Histories.{commit_adds, count_of_books, history_bounded, history_goes_on, one_more, one_more_commits, others_leave, queries_only_ask}
-use Rattle.entry_book.proofs.Verdicts.{changes_commit, full_refused, op_refuses, queries_answered}
-use Rattle.entry_book.proofs.WithinLimits.{all_within_limits, none_is_passed}
+use Rattle.entry_book.proofs.Verdicts.{changes_commit, early_refused, full_refused, gone_refused, op_refuses, past_answered, queries_answered}
+use Rattle.entry_book.proofs.WithinLimits.{all_within_limits, first_limit, none_is_passed}
 use Rattle.entry_book.proofs.laws.histories.Goals as goal
 
 pub returns-clause-adds : goal.returns-clause-adds
@@ -11,6 +11,9 @@ returns-clause-leaves c = others_leave
 
 pub returns-clause-queries : goal.returns-clause-queries
 returns-clause-queries c = queries_only_ask
+
+pub returns-clause-early : goal.returns-clause-early
+returns-clause-early c = early_refused
 
 pub returns-clause-refused : goal.returns-clause-refused
 returns-clause-refused c = op_refuses
@@ -24,8 +27,17 @@ returns-clause-changes c = changes_commit
 pub returns-clause-full : goal.returns-clause-full
 returns-clause-full c = full_refused
 
+pub returns-clause-past : goal.returns-clause-past
+returns-clause-past c = past_answered
+
+pub returns-clause-gone : goal.returns-clause-gone
+returns-clause-gone c = gone_refused
+
 pub returns-clause-limits : goal.returns-clause-limits
 returns-clause-limits c = none_is_passed
+
+pub returns-clause-first_limit : goal.returns-clause-first_limit
+returns-clause-first_limit c = first_limit
 
 pub returns-clause-within : goal.returns-clause-within
 returns-clause-within c = all_within_limits

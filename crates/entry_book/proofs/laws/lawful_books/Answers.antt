@@ -1,4 +1,6 @@
 use Rattle.entry_book.proofs.Histories.{all_lawful, batch_keeps, lawful_history}
+use Rattle.entry_book.proofs.TokenRows.{batch_fits_book}
+use Rattle.entry_book.proofs.Verdicts.{free_kept}
 use Rattle.entry_book.proofs.laws.lawful_books.Goals as goal
 
 pub returns-clause-history : goal.returns-clause-history
@@ -9,3 +11,6 @@ returns-clause-stands c = all_lawful
 
 pub returns-clause-batch : goal.returns-clause-batch
 returns-clause-batch c = batch_keeps
+
+pub returns-clause-fits : goal.returns-clause-fits
+returns-clause-fits c = λ batch n b a h. batch_fits_book batch n b a (free_kept batch.token b h)

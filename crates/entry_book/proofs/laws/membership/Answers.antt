@@ -3,6 +3,7 @@ use Rattle.std.specs.List.{Contains}
 use Rattle.entry_book.specs.Rows.{Bytes, entry_key, agent_key, bundle_key}
 use Rattle.entry_book.specs.Order.{Within, Ascending}
 use Rattle.entry_book.proofs.Sets.{same_sets}
+use Rattle.entry_book.specs.Tokens.{token_key}
 use Rattle.entry_book.proofs.laws.membership.Goals as goal
 
 contains : (xs : List Bytes) (x : Bytes) → Within xs x → Contains xs x
@@ -28,3 +29,6 @@ returns-clause-agents c = one_list agent_key
 
 pub returns-clause-bundles : goal.returns-clause-bundles
 returns-clause-bundles c = one_list bundle_key
+
+pub returns-clause-tokens : goal.returns-clause-tokens
+returns-clause-tokens c = one_list token_key

@@ -30,3 +30,27 @@ returns-clause-prunes c = refl
 pub returns-clause-stale : goal.returns-clause-stale
 unfolding with_row is_before authorised
 returns-clause-stale c = refl
+
+pub returns-clause-earlier : goal.returns-clause-earlier
+unfolding with_row is_before authorised
+returns-clause-earlier c = refl
+
+pub returns-clause-later : goal.returns-clause-later
+unfolding with_row is_before authorised
+returns-clause-later c = refl
+
+pub returns-clause-token : goal.returns-clause-token
+unfolding with_row is_before authorised
+returns-clause-token c = refl
+
+pub returns-clause-token_free : goal.returns-clause-token_free
+unfolding with_row is_before authorised
+returns-clause-token_free c = refl
+
+pub returns-clause-lifetimes : goal.returns-clause-lifetimes
+unfolding with_row is_before authorised
+returns-clause-lifetimes c = refl
+
+pub returns-clause-questions : goal.returns-clause-questions
+unfolding with_row is_before authorised
+returns-clause-questions c = refl
