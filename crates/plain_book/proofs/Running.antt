@@ -1,5 +1,5 @@
 -- A run that goes on, operation by operation.
-use Rattle.std.proofs.Common.{◌≡◌, ℕ, zero, suc, ◌+◌, ◌<◌, List, [], ◌∷◌, ◌++◌, length, get_or, drop, None, Result, Ok, Err, IfOk, refl, sym, ap, subst, ◌∙◌, append_assoc, arith}
+use Rattle.std.proofs.Common.{◌≡◌, Bool, true, false, ℕ, zero, suc, ◌+◌, ◌<◌, List, [], ◌∷◌, ◌++◌, length, get_or, drop, None, Result, Ok, Err, IfOk, refl, sym, ap, subst, ◌∙◌, append_assoc, arith}
 use Rattle.std.specs.List.{AllByRecursion}
 use Rattle.std.proofs.lemmas.List.{at_drop_more}
 use Rattle.entry_book.specs.declared.op.Op.{Op}
@@ -10,10 +10,13 @@ use Rattle.entry_book.specs.Rows.{Bytes}
 use Rattle.entry_book.specs.Book.{Book}
 use Rattle.entry_book.specs.Writes.{after}
 use Rattle.entry_book.specs.Ops.{OpResult, OpEffect, op_of}
-use Rattle.entry_book.specs.Batches.{IsMadeFor, IsProperOp, op_fault}
+use Rattle.entry_book.specs.Batches.{Batch, IsMadeFor, IsProperOp, op_fault}
+use Rattle.entry_book.specs.Laws.{AreFaultless}
 use Rattle.entry_book.specs.Lawful.{Lawful}
 use Rattle.entry_book.specs.Runs.{RunResult, onto, then_run, run}
-use Rattle.plain_book.specs.Performed.{performed, resumed}
+use Rattle.entry_book.specs.Limits.{limit_passed}
+use Rattle.entry_book.specs.History.{adds_within, answers, token_writes, verdict_when}
+use Rattle.plain_book.specs.Performed.{performed, ran, resumed, verdict_accepted}
 use Rattle.entry_book.proofs.Changed.{after-append}
 use Rattle.entry_book.proofs.Faults.{no_fault}
 use Rattle.entry_book.proofs.Keeps.{op_keeps}
@@ -36,12 +39,13 @@ accepted_is own m (Ok d) reply b c h e = let q = ok_is (reply, c) (d.reply, afte
 accepted_is own m (Err r) reply b c h e = cc
 
 -- an operation that is accepted leaves a lawful book
-pub keeps_at : (own : Bytes) (ops : List Op) (m n : ℕ) (op : Op) (reply : OpReply) (b c : Book) → IsMadeFor own (record { domain = own; ops = ops }) → Lawful own (m + n) b → n < length ops → op ≡ get_or ops n op → Ok (reply, c) ≡ performed (op_of own op b) b → Lawful own (m + (n + 1)) c
-keeps_at own ops m n op reply b c made l k e h =
-    let proper = all_at IsProperOp ops n op made.proper k e in
-    let faultless = all_at (λ op. op_fault own op ≡ None) ops n op (no_fault own ops made.no_fault).2 k e in
+pub keeps_at : (batch : Batch) (m n : ℕ) (op : Op) (reply : OpReply) (b c : Book) → IsMadeFor batch.domain batch → Lawful batch.domain (m + n) b → n < length batch.ops → op ≡ get_or batch.ops n op → Ok (reply, c) ≡ performed (op_of batch.domain op b) b → Lawful batch.domain (m + (n + 1)) c
+keeps_at batch m n op reply b c made l k e h =
+    let proper = all_at IsProperOp batch.ops n op made.proper k e in
+    let none : AreFaultless batch.domain batch.ops = no_fault batch.domain batch.ops batch.token made.no_fault in
+    let faultless = all_at (λ op. op_fault batch.domain op ≡ None) batch.ops n op none.none k e in
     let q : m + n + 1 ≡ m + (n + 1) = omega arith in
-    subst (λ t. Lawful own t c) q (accepted_is own (m + n + 1) (op_of own op b) reply b c (op_keeps own (m + n) op b proper faultless l) h)
+    subst (λ t. Lawful batch.domain t c) q (accepted_is batch.domain (m + n + 1) (op_of batch.domain op b) reply b c (op_keeps batch.domain (m + n) op b proper faultless l) h)
 
 -- ---- what the run comes to
 
@@ -74,3 +78,16 @@ stops domain ops n op replies b r l e h =
     at_drop_more (λ l. resumed n replies b (run domain l b)) ops n op l
     ∙ (ap (λ x. resumed n replies b (run domain (x ∷ drop (n + 1) ops) b)) (sym e)
     ∙ then_stop n replies b (op_of domain op b) (λ d. run domain (drop (n + 1) ops) (after d.writes b)) r h)
+
+-- ---- what an accepted run comes to
+
+pub accepted_when : (query : Bool) (batch : Batch) (n : ℕ) (replies : List OpReply) (b c : Book) (r : RunResult) → Accepted replies c ≡ ran b r → verdict_accepted query batch n replies c ≡ verdict_when query batch n b r
+accepted_when query batch n replies b c (Err s) e = cc
+accepted_when true batch n replies b c (Ok t) e = let q : replies ≡ t.replies = cc in ap answers q
+accepted_when false batch n replies b c (Ok t) e =
+    let q : replies ≡ t.replies = cc in
+    let k : c ≡ after t.writes b = cc in
+    let more = token_writes batch.token batch.ops (n + 1) in
+    ap (λ l. adds_within (limit_passed n (after (more l) c)) l (after (more l) c)) q
+    ∙ (ap (λ x. adds_within (limit_passed n (after (more t.replies) x)) t.replies (after (more t.replies) x)) k
+    ∙ ap (λ x. adds_within (limit_passed n x) t.replies x) (sym (after-append t.writes (more t.replies) b)))

@@ -1,16 +1,21 @@
--- What the code of an operation, and of a batch's run, hands on: the plain op's and the run's answer, with the book after the writes in their place.
-use Rattle.std.specs.Prelude.{ℕ, ◌+◌, ◌≤◌, ◌^◌, List, ◌++◌, Result, Ok, Err}
+-- What the code of an operation, of a batch's run and of its verdict hands on: the plain op's and the run's answer, with the book after the writes in their place, and the plain verdict.
+use Rattle.std.specs.Prelude.{Bool, true, false, ℕ, ◌+◌, ◌≤◌, ◌^◌, List, ◌++◌, Result, Ok, Err}
 use Rattle.entry_book.specs.declared.bundle.Bundle.{Bundle}
 use Rattle.entry_book.specs.declared.reply.OpReply.{OpReply}
 use Rattle.entry_book.specs.declared.reply.OpRefusal.{OpRefusal}
 use Rattle.plain_book.specs.declared.run.BatchRun.{BatchRun}
 use Rattle.plain_book.specs.declared.run.BatchRun.TheVariants.{Accepted, RefusedAt}
+use Rattle.plain_book.specs.declared.verdict.Verdict.{Verdict as CodeVerdict}
+use Rattle.plain_book.specs.declared.verdict.Verdict.TheVariants.{Refuses, Answers, Adds, Repeats}
 use Rattle.entry_book.specs.Rows.{Entry}
 use Rattle.entry_book.specs.Order.{Within}
 use Rattle.entry_book.specs.Book.{Book}
 use Rattle.entry_book.specs.Writes.{after}
 use Rattle.entry_book.specs.Ops.{OpResult}
 use Rattle.entry_book.specs.Runs.{RunResult}
+use Rattle.entry_book.specs.Limits.{limit_passed}
+use Rattle.entry_book.specs.Batches.{Batch}
+use Rattle.entry_book.specs.History.{Verdict, refuses, answers, adds, repeats, adds_within, token_writes}
 
 abbrev pub performed : OpResult → Book → Result (OpReply × Book) OpRefusal
 performed (Ok d) b = Ok (d.reply, after d.writes b)
@@ -24,6 +29,17 @@ resumed n replies b (Err s) = RefusedAt (n + s.op) s.reason
 abbrev pub ran : Book → RunResult → BatchRun
 ran b (Ok t) = Accepted t.replies (after t.writes b)
 ran b (Err s) = RefusedAt s.op s.reason
+
+abbrev pub told : CodeVerdict → Verdict
+told (Refuses r) = refuses r
+told (Answers replies) = answers replies
+told (Adds replies b) = adds replies b
+told (Repeats n replies) = repeats n replies
+
+-- what a batch comes to, a query or not, whose run is accepted with these replies and this book after it
+abbrev pub verdict_accepted : Bool → Batch → ℕ → List OpReply → Book → Verdict
+verdict_accepted true batch place replies b = answers replies
+verdict_accepted false batch place replies b = adds_within (limit_passed place (after (token_writes batch.token batch.ops (place + 1) replies) b)) replies (after (token_writes batch.token batch.ops (place + 1) replies) b)
 
 -- No revision and no sequence is above 2^63, so that the next one of each has room in 64 bits.
 pub record CanGrow (b : Book) : Type 0 where

@@ -5,24 +5,27 @@ ghost use Rattle.std.specs.Prelude.{◌≡◌};
 mod counts;
 
 use crate::expired::{expired_ids, unexpired};
-use crate::find::{agent_of, bundle_of, children_of, entry_of, similar_to};
+use crate::find::{agent_of, bundle_of, children_of, entry_of, kept_of, similar_to};
 use crate::listing::page_of;
 use crate::row::{with_row, without_row};
 use crate::users::{freed, named_bundles, non_users, user_ids, user_of};
 use crate::worklist::authorised_of;
-use entry_book::{Agent, Bundle, DomainSet, Entry, NewEntry, PageQuery, Sequence, Shared};
+use entry_book::{
+    Agent, Bundle, DomainSet, Entry, KeptBatch, NewEntry, PageQuery, Sequence, Shared,
+};
 use spiffe_name::{SpiffeId, TrustDomain};
 use std::alloc::{AllocError, Global};
 use std::marker::Model;
 use uuid::Uuid;
 
-/// A book: its entries, agents and bundles, each a list of rows in the order of their keys. Books share the lists
-/// that they have in common, and the rows. A contract sees it as the record of the three lists.
+/// A book: its entries, agents, bundles and kept batches, each a list of rows in the order of their keys. Books share the
+/// lists that they have in common, and the rows. A contract sees it as the record of the four lists.
 #[derive(Drop)]
 pub(crate) struct Book {
     entries: Shared<Sequence<Entry>>,
     agents: Shared<Sequence<Agent>>,
     bundles: Shared<Sequence<Bundle>>,
+    tokens: Shared<Sequence<KeptBatch>>,
 }
 
 impl Model for Book {
@@ -30,10 +33,19 @@ impl Model for Book {
 
     ghost Value = { Book };
 
-    ghost view = { λ book. record { entries = book.entries; agents = book.agents; bundles = book.bundles } };
+    ghost view = { λ book. record {
+      entries = book.entries;
+      agents = book.agents;
+      bundles = book.bundles;
+      tokens = book.tokens;
+    } };
 
-    ghost invariant = { λ book. AscendingBook
-        (record { entries = book.entries; agents = book.agents; bundles = book.bundles }) };
+    ghost invariant = { λ book. AscendingBook (record {
+      entries = book.entries;
+      agents = book.agents;
+      bundles = book.bundles;
+      tokens = book.tokens;
+    }) };
 }
 
 /// The rows that operations ask for.
@@ -43,7 +55,7 @@ impl Book {
     ghost use Rattle.spiffe_name.specs.Id.{server_text};
     ghost use Rattle.entry_book.specs.Rows.{at_revision, entry_key};
     ghost use Rattle.entry_book.specs.Order.{first};
-    ghost use Rattle.entry_book.specs.Book.{agent_at, bundle_at, children_of, entry_at, expired_before, users_of};
+    ghost use Rattle.entry_book.specs.Book.{agent_at, bundle_at, children_of, entry_at, expired_before, token_at, users_of};
     ghost use Rattle.entry_book.specs.Authorised.{authorised};
     ghost use Rattle.entry_book.specs.Ops.{bundles_of, lacking, similar};
     ghost use Rattle.entry_book.specs.Pages.{listed, next_of};
@@ -67,6 +79,13 @@ impl Book {
         ensures { option_copied result ≡ bundle_at domain.now self.now }
     {
         bundle_of(self.bundles.get().as_slice(), domain)
+    }
+
+    /// The batch that is kept under a token.
+    pub(crate) fn kept(&self, token: &Uuid) -> Option<&KeptBatch>
+        ensures { option_copied result ≡ token_at token.now self.now }
+    {
+        kept_of(self.tokens.get().as_slice(), token)
     }
 
     /// Another entry with the same parent, identity and selectors.
@@ -171,6 +190,7 @@ impl Book {
 impl Book {
     ghost use Rattle.std.specs.Prelude.{◌≡◌, IfOk, None, Some, filter, if◌then◌else◌, map, not};
     ghost use Rattle.entry_book.specs.Rows.{agent_key, bundle_key, entry_key};
+    ghost use Rattle.entry_book.specs.Tokens.{token_key};
     ghost use Rattle.entry_book.specs.Order.{Ascending, with_row};
     ghost use Rattle.entry_book.specs.Book.{AscendingBook, empty_book, expires_before, names};
     ghost use Rattle.entry_book.specs.Ops.{dissociated};
@@ -184,6 +204,7 @@ impl Book {
             entries: Shared::of(alloc, Sequence::empty(alloc))?,
             agents: Shared::of(alloc, Sequence::empty(alloc))?,
             bundles: Shared::of(alloc, Sequence::empty(alloc))?,
+            tokens: Shared::of(alloc, Sequence::empty(alloc))?,
         })
     }
 
@@ -195,6 +216,7 @@ impl Book {
             entries: Shared::of(alloc, Sequence::of(entries))?,
             agents: self.agents.clone()?,
             bundles: self.bundles.clone()?,
+            tokens: self.tokens.clone()?,
         })
     }
 
@@ -206,6 +228,7 @@ impl Book {
             entries: self.entries.clone()?,
             agents: Shared::of(alloc, Sequence::of(agents))?,
             bundles: self.bundles.clone()?,
+            tokens: self.tokens.clone()?,
         })
     }
 
@@ -217,6 +240,19 @@ impl Book {
             entries: self.entries.clone()?,
             agents: self.agents.clone()?,
             bundles: Shared::of(alloc, Sequence::of(bundles))?,
+            tokens: self.tokens.clone()?,
+        })
+    }
+
+    fn with_tokens(&self, alloc: Global, tokens: Vec<KeptBatch>) -> Result<Book, AllocError>
+        requires ascending { Ascending token_key tokens.items }
+        ensures { IfOk result (λ book. book ≡ record self.now { tokens = tokens.items }) }
+    {
+        Ok(Book {
+            entries: self.entries.clone()?,
+            agents: self.agents.clone()?,
+            bundles: self.bundles.clone()?,
+            tokens: Shared::of(alloc, Sequence::of(tokens))?,
         })
     }
 
@@ -321,6 +357,16 @@ impl Book {
         let bundles = without_row(alloc, self.bundles.get().as_slice(), bundle)?;
         self.with_bundles(alloc, bundles)
     }
+
+    /// The book with this kept batch in the place of the one of its token.
+    pub(crate) fn with_token(&self, alloc: Global, kept: KeptBatch) -> Result<Book, AllocError>
+        ensures { IfOk result (λ book. book ≡ record self.now {
+          tokens = with_row token_key kept.token (Some kept) self.now.tokens;
+        }) }
+    {
+        let tokens = with_row(alloc, self.tokens.get().as_slice(), kept)?;
+        self.with_tokens(alloc, tokens)
+    }
 }
 
 impl Clone for Book {
@@ -331,6 +377,7 @@ impl Clone for Book {
             entries: self.entries.clone()?,
             agents: self.agents.clone()?,
             bundles: self.bundles.clone()?,
+            tokens: self.tokens.clone()?,
         })
     }
 }

@@ -3,37 +3,48 @@
 ghost use Rattle.std.specs.Prelude.{◌≡◌};
 
 use crate::book::Book;
-use crate::run::{BatchRun, run_ops};
-use entry_book::{Batch, Outcome, Refusal, Reply, Shared};
+use crate::older::{among_kept, push_older};
+use crate::verdict::{Verdict, verdict_on};
+use entry_book::{Batch, OpRefusal, Outcome, Refusal, Reply};
 use spiffe_name::TrustDomain;
 use std::alloc::{AllocError, Global};
 use std::marker::Model;
 
 /// A registration book for one thread. It stands for the list of all its books so far, the first one empty: a batch
 /// that is committed adds the next one, and every other batch leaves the list. It keeps the last book, whose number is
-/// the place.
+/// the place, and up to 63 before it.
 #[derive(Drop)]
 pub struct PlainBook {
     alloc: Global,
     domain: TrustDomain,
+    older: Vec<Book>,
     newest: Book,
     place: u64,
 }
 
 impl Model for PlainBook {
-    ghost use Rattle.std.specs.Prelude.{◌*◌, ◌^◌, ◌≤◌};
     ghost use Rattle.entry_book.specs.History.{PlainState};
-    ghost use Rattle.entry_book.specs.Lawful.{Lawful};
+    ghost use Rattle.plain_book.specs.Keeps.{IsSound};
 
     ghost Value = { PlainState };
 
-    ghost view = { λ book. record { domain = book.domain; newest = book.newest; place = book.place } };
+    ghost view = { λ book. record {
+      domain = book.domain;
+      older = book.older.items;
+      newest = book.newest;
+      place = book.place;
+    } };
 
-    ghost invariant = { λ book. Lawful book.domain (64 * book.place) book.newest × (book.place ≤ 2 ^ 48) };
+    ghost invariant = { λ book. IsSound (record {
+      domain = book.domain;
+      older = book.older.items;
+      newest = book.newest;
+      place = book.place;
+    }) };
 }
 
 impl PlainBook {
-    ghost use Rattle.std.specs.Prelude.{◌≡◌, ◌≤◌, ◌*◌, ◌^◌, IfOk, OnErr, OnOk, List};
+    ghost use Rattle.std.specs.Prelude.{◌≡◌, ◌≤◌, ◌*◌, ◌^◌, IfOk, OnErr, OnOk, List, length};
     ghost use Rattle.entry_book.specs.Book.{Book as BookRows};
     ghost use Rattle.entry_book.specs.History.{Stands, books_after, first_books, reply_on, reply_to, state_after};
     ghost use Rattle.entry_book.specs.Lawful.{Lawful};
@@ -46,6 +57,7 @@ impl PlainBook {
         Ok(PlainBook {
             alloc,
             domain,
+            older: Vec::new(alloc),
             newest: Book::empty(alloc)?,
             place: 0,
         })
@@ -65,32 +77,26 @@ impl PlainBook {
         ensures domain { self.new.domain ≡ self.old.domain }
         ensures err { OnErr result (self.new ≡ self.old) }
     {
-        match run_ops(self.alloc, &self.domain, batch.ops(), &self.newest)? {
-            BatchRun::RefusedAt(index, reason) => Ok(Reply {
+        match self.verdict(batch)? {
+            Verdict::Refuses(refusal) => Ok(Reply {
                 place: self.place,
-                outcome: Outcome::Refused(Refusal::OfOp(index, reason)),
+                outcome: Outcome::Refused(refusal),
             }),
-            BatchRun::Accepted(replies, after) => {
-                if batch.is_query() {
-                    return Ok(Reply {
-                        place: self.place,
-                        outcome: Outcome::Answered(Shared::of(self.alloc, replies)?),
-                    });
-                }
-                if let Some(limit) = after.limit_passed(self.place) {
-                    return Ok(Reply {
-                        place: self.place,
-                        outcome: Outcome::Refused(Refusal::Full(limit)),
-                    });
-                }
-                let replies = Shared::of(self.alloc, replies)?;
-                self.newest = after;
-                self.place += 1;
+            Verdict::Answers(replies) => Ok(Reply {
+                place: self.place,
+                outcome: Outcome::Answered(replies),
+            }),
+            Verdict::Adds(replies, book) => {
+                self.add(book)?;
                 Ok(Reply {
                     place: self.place,
                     outcome: Outcome::Committed(replies),
                 })
             }
+            Verdict::Repeats(place, replies) => Ok(Reply {
+                place,
+                outcome: Outcome::Repeated(replies),
+            }),
         }
     }
 
@@ -99,6 +105,7 @@ impl PlainBook {
         ensures place { result ≡ self.now.place }
         ensures most { self.now.place ≤ 2 ^ 48 }
         ensures lawful { Lawful self.now.domain (64 * self.now.place) self.now.newest }
+        ensures few { length self.now.older ≤ 63 }
     {
         let PlainBook { place, .. } = self;
         *place
@@ -109,5 +116,58 @@ impl PlainBook {
         ensures { result.now ≡ self.now.domain }
     {
         &self.domain
+    }
+}
+
+impl PlainBook {
+    ghost use Rattle.std.specs.Prelude.{◌≡◌, ◌+◌, ◌*◌, ◌^◌, ◌<◌, IfOk, OnErr, OnOk};
+    ghost use Rattle.std.specs.Option.{option_copied};
+    ghost use Rattle.entry_book.specs.Batches.{IsMadeFor};
+    ghost use Rattle.entry_book.specs.History.{kept_books, kept_for, last_of, verdict_of};
+    ghost use Rattle.entry_book.specs.Lawful.{Lawful};
+    ghost use Rattle.plain_book.specs.Performed.{told};
+
+    /// What a batch comes to.
+    fn verdict(&self, batch: &Batch) -> Result<Verdict, AllocError>
+        requires made_for { batch.now.domain ≡ self.now.domain }
+        ensures comes_to { IfOk result (λ verdict. told verdict ≡ verdict_of batch.now self.now) }
+        ensures made { IsMadeFor batch.now.domain batch.now }
+    {
+        let asked = batch.past_place();
+        if self.place < batch.after() {
+            return Ok(Verdict::Refuses(Refusal::NotYet));
+        }
+        match self.kept_for(asked) {
+            Some(book) => verdict_on(self.alloc, batch, self.place, book),
+            None => Ok(Verdict::Refuses(Refusal::OfOp(0, OpRefusal::VersionGone))),
+        }
+    }
+
+    /// The book that a batch reads: the last one, or the one that it asks for, where it is kept.
+    fn kept_for(&self, asked: Option<u64>) -> Option<&Book>
+        ensures { option_copied result ≡ kept_for asked self.now }
+    {
+        match asked {
+            Some(number) => among_kept(number, self.older.as_slice(), &self.newest, self.place),
+            None => Some(&self.newest),
+        }
+    }
+
+    /// Adds a book. Of those before it the last 63 stay.
+    fn add(&mut self, book: Book) -> Result<(), AllocError>
+        requires lawful { Lawful self.old.domain (64 * (self.old.place + 1)) book }
+        requires room { self.old.place < 2 ^ 48 }
+        ensures ok { OnOk result (self.new ≡ record self.old {
+          older = last_of 63 (kept_books self.old);
+          newest = book;
+          place = self.old.place + 1;
+        }) }
+        ensures err { OnErr result (self.new ≡ self.old) }
+    {
+        let found = self.newest.clone()?;
+        push_older(&mut self.older, found)?;
+        self.newest = book;
+        self.place += 1;
+        Ok(())
     }
 }

@@ -1,18 +1,16 @@
-//! What does a list of operations do to a book?
+//! What do the operations of a batch do to a book?
 
 ghost use Rattle.std.specs.Prelude.{◌≡◌, ◌^◌, IfOk};
-ghost use Rattle.entry_book.specs.Batches.{IsMadeFor};
 ghost use Rattle.entry_book.specs.Lawful.{Lawful};
 ghost use Rattle.entry_book.specs.Runs.{run};
 ghost use Rattle.plain_book.specs.Performed.{ran};
 
 use crate::book::Book;
 use crate::ops::perform;
-use entry_book::{Op, OpRefusal, OpReply, Sequence};
-use spiffe_name::TrustDomain;
+use entry_book::{Batch, OpRefusal, OpReply, Sequence};
 use std::alloc::{AllocError, Global};
 
-/// What became of a list of operations.
+/// What became of the operations of a batch.
 #[derive(Drop)]
 pub(crate) enum BatchRun {
     /// Each was accepted: the replies in order, and the book after them.
@@ -21,22 +19,17 @@ pub(crate) enum BatchRun {
     RefusedAt(usize, OpRefusal),
 }
 
-/// Runs the operations of a batch for a trust domain in order, each on the book that the earlier ones left. Revisions and
-/// sequences have room to grow. The error is want of memory.
-pub(crate) fn run_ops(
-    alloc: Global,
-    own: &TrustDomain,
-    ops: &[Op],
-    book: &Book,
-) -> Result<BatchRun, AllocError>
-    requires made { IsMadeFor own.now (record { domain = own.now; ops = ops.now }) }
-    requires lawful { Lawful own.now (2 ^ 62) book.now }
-    ensures { IfOk result (λ outcome. outcome ≡ ran book.now (run own.now ops.now book.now)) }
+/// Runs the operations of a batch in order, each on the book that the earlier ones left. Revisions and sequences have room
+/// to grow. The error is want of memory.
+pub(crate) fn run_ops(alloc: Global, batch: &Batch, book: &Book) -> Result<BatchRun, AllocError>
+    requires lawful { Lawful batch.now.domain (2 ^ 62) book.now }
+    ensures { IfOk result
+        (λ outcome. outcome ≡ ran book.now (run batch.now.domain batch.now.ops book.now)) }
 {
     let mut replies = Sequence::empty(alloc);
     let mut current = book.clone()?;
-    for (index, op) in ops.iter().enumerate() {
-        match perform(alloc, own, op, &current)? {
+    for (index, op) in batch.ops().iter().enumerate() {
+        match perform(alloc, batch.domain(), op, &current)? {
             Err(refusal) => return Ok(BatchRun::RefusedAt(index, refusal)),
             Ok((reply, after)) => {
                 replies.push(reply)?;

@@ -2,8 +2,10 @@
 //!
 //! The crate has tests alone, over the public calls of `plain_book`:
 //!
-//! - `random`: random batches of a few names. Each book that comes out is lawful, and each agent is told what a search
-//!   finds: `rows` reads all rows of a book and judges them, `search` looks for chains by their length.
+//! - `random`: random requests of a few names, which `draws` draws. Each book that comes out is lawful, and each agent, and
+//!   each page of it or of an earlier book, is told what a search finds: `rows` reads all rows of a book and judges them,
+//!   `search` looks for chains by their length, `requests` says which requests wait, repeat or come too late.
+//! - `past`: pages of earlier books, and batches that wait for a place; `tokens`: batches that carry a token.
 //! - `large`: what a book of over five hundred entries answers.
 //! - `worked`: what a small book answers, batch after batch.
 //! - `pages`: pages of random entries are what a search finds.
@@ -11,17 +13,25 @@
 #![tactic(auto)]
 
 #[cfg(test)]
+mod draws;
+#[cfg(test)]
 mod large;
 #[cfg(test)]
 mod making;
 #[cfg(test)]
 mod pages;
 #[cfg(test)]
+mod past;
+#[cfg(test)]
 mod random;
+#[cfg(test)]
+mod requests;
 #[cfg(test)]
 mod rows;
 #[cfg(test)]
 mod search;
+#[cfg(test)]
+mod tokens;
 #[cfg(test)]
 mod told;
 #[cfg(test)]

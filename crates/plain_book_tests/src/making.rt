@@ -1,6 +1,9 @@
 //! Operations, made of a few words.
 
-use entry_book::{Agent, DomainSet, DropMode, NewEntry, Op, Sequence, Shared, Text};
+use entry_book::{
+    Agent, DomainSet, DropMode, Filter, MatchMode, NewEntry, Op, PageQuery, SelectorMatch,
+    Sequence, Shared, Text,
+};
 use spiffe_name::{Selector, SelectorSet, SpiffeId, TrustDomain};
 use std::alloc::Global;
 use std::test::Fail;
@@ -18,7 +21,7 @@ pub const API: &str = "spiffe://ex.org/api";
 
 /// An entry to be made: the number that the last two bytes of its id are, its IDs, how many selectors and domains it has, its
 /// expiry, and its lifetimes.
-#[derive(Clone, Copy)]
+#[derive(Clone, Copy, PartialEq)]
 pub struct Draft {
     pub number: u16,
     pub parent: &'static str,
@@ -30,8 +33,21 @@ pub struct Draft {
     pub jwt_svid_ttl: u64,
 }
 
+/// A page to be asked for: its size, the number of the book that it reads, the number of the entry after which it begins,
+/// and what its filter gives, the selectors by their count.
+#[derive(Clone, Copy, PartialEq)]
+pub struct Listing {
+    pub size: u64,
+    pub at: Option<u64>,
+    pub from: Option<u16>,
+    pub parent: Option<&'static str>,
+    pub identity: Option<&'static str>,
+    pub domain: Option<&'static str>,
+    pub selectors: Option<(u32, MatchMode)>,
+}
+
 /// An operation to be made. A bundle's text is told by its length, an agent's selectors by their count.
-#[derive(Clone, Copy)]
+#[derive(Clone, Copy, PartialEq)]
 pub enum Said {
     Create(Draft),
     Update(Draft, Option<u64>),
@@ -40,6 +56,7 @@ pub enum Said {
     ShowAgent(&'static str),
     ShowBundle(&'static str),
     Children(&'static str),
+    Page(Listing),
     Authorised(&'static str),
     Trust(&'static str),
     Prune(u64),
@@ -50,7 +67,7 @@ pub enum Said {
 }
 
 /// The UUID whose last two bytes are this number, all others being 0.
-fn uuid_of(number: u16) -> Uuid {
+pub fn uuid_of(number: u16) -> Uuid {
     Uuid::from_u64_pair(0, u64::from(number))
 }
 
@@ -129,6 +146,64 @@ fn domain(alloc: Global, text: &str) -> Result<Shared<TrustDomain>, Fail> {
     Ok(Shared::of(alloc, trust_domain(alloc, text)?)?)
 }
 
+/// The IDs of a filter: the parent and the identity, where they are given.
+type GivenIds = (Option<Shared<SpiffeId>>, Option<Shared<SpiffeId>>);
+
+fn given_id(alloc: Global, text: Option<&str>) -> Result<Option<Shared<SpiffeId>>, Fail> {
+    match text {
+        Some(text) => Ok(Some(id(alloc, text)?)),
+        None => Ok(None),
+    }
+}
+
+fn given_ids(alloc: Global, listing: &Listing) -> Result<GivenIds, Fail> {
+    let parent = given_id(alloc, listing.parent)?;
+    let identity = given_id(alloc, listing.identity)?;
+    Ok((parent, identity))
+}
+
+fn given_domain(alloc: Global, text: Option<&str>) -> Result<Option<Shared<TrustDomain>>, Fail> {
+    match text {
+        Some(text) => Ok(Some(domain(alloc, text)?)),
+        None => Ok(None),
+    }
+}
+
+fn given_match(
+    alloc: Global,
+    question: Option<(u32, MatchMode)>,
+) -> Result<Option<SelectorMatch>, Fail> {
+    match question {
+        Some((count, mode)) => Ok(Some(SelectorMatch {
+            selectors: selectors(alloc, count)?,
+            mode,
+        })),
+        None => Ok(None),
+    }
+}
+
+fn filter(alloc: Global, listing: &Listing) -> Result<Filter, Fail> {
+    let (parent, identity) = given_ids(alloc, listing)?;
+    let domain = given_domain(alloc, listing.domain)?;
+    let selectors = given_match(alloc, listing.selectors)?;
+    Ok(Filter {
+        parent,
+        identity,
+        domain,
+        selectors,
+    })
+}
+
+fn page(alloc: Global, listing: &Listing) -> Result<Op, Fail> {
+    let query = PageQuery {
+        size: listing.size,
+        at: listing.at,
+        from: listing.from.map(uuid_of),
+        filter: filter(alloc, listing)?,
+    };
+    Ok(Op::Page(Shared::of(alloc, query)?))
+}
+
 fn op(alloc: Global, said: Said) -> Result<Op, Fail> {
     match said {
         Said::Create(draft) => Ok(Op::Create(new_entry(alloc, draft)?)),
@@ -138,6 +213,7 @@ fn op(alloc: Global, said: Said) -> Result<Op, Fail> {
         Said::ShowAgent(agent) => Ok(Op::ShowAgent(id(alloc, agent)?)),
         Said::ShowBundle(of) => Ok(Op::ShowBundle(domain(alloc, of)?)),
         Said::Children(parent) => Ok(Op::Children(id(alloc, parent)?)),
+        Said::Page(listing) => page(alloc, &listing),
         Said::Authorised(agent) => Ok(Op::Authorised(id(alloc, agent)?)),
         Said::Trust(agent) => Ok(Op::Trust(id(alloc, agent)?)),
         Said::Prune(moment) => Ok(Op::Prune(moment)),

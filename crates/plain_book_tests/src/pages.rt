@@ -107,7 +107,7 @@ fn create(alloc: Global, row: &Row) -> Result<Op, Fail> {
 fn answered(alloc: Global, book: &mut PlainBook, op: Op) -> Result<Reply, Fail> {
     let mut ops = Sequence::empty(alloc);
     ops.push(op)?;
-    let batch = Batch::new(book.domain(), ops)?;
+    let batch = Batch::new(alloc, book.domain(), ops, 0, None)?;
     run(book, &batch)
 }
 
@@ -263,6 +263,7 @@ fn are_pages_found(
     for _ in 0..20 {
         let query = PageQuery {
             size,
+            at: None,
             from,
             filter: filter(alloc, asked)?,
         };

@@ -3,119 +3,30 @@
 
 ghost use Rattle.std.specs.Prelude.{◌<◌};
 
-use crate::making::{API, Draft, N1, N2, SERVER, Said, WEB};
+use crate::draws::request;
+use crate::making::{Draft, N1, N2, Said};
+use crate::requests::{
+    Past, are_listed, are_repeated, is_told_before, keep, nothing_past, past_page,
+};
 use crate::rows::{BookRows, are_children_listed, bits, is_lawful, rows_of};
 use crate::search::{bit, ends, has_cycle, is_alias};
-use crate::told::{answers, replies, reply_to, small_book};
+use crate::told::{answers, replies, reply_with, small_book};
 use entry_book::{Agent, Bundle, DropMode, Entry, OpRefusal, OpReply, Outcome, Refusal, Reply};
 use plain_book::PlainBook;
 use std::alloc::Global;
 use std::process::Abort;
 use std::test::Fail;
 
-/// The agents of the books, and an ID that is none.
-const AGENTS: [&str; 2] = [N1, N2];
-
-/// The trust domains of the bundles, and the server's own.
-const DOMAINS: [&str; 4] = ["d100", "d101", "d102", "ex.org"];
-
-/// The parents of the entries.
-const PARENTS: [&str; 5] = [N1, N2, SERVER, WEB, API];
-
-const IDENTITIES: [&str; 3] = [WEB, API, N2];
-
-const MODES: [DropMode; 3] = [DropMode::Restrict, DropMode::Delete, DropMode::Dissociate];
-
-const NUMBERS: [u16; 7] = [1, 2, 3, 4, 5, 6, 7];
-
-const COUNTS: [u32; 4] = [0, 0, 1, 2];
-
-const MOMENTS: [u64; 4] = [0, 1, 2, 3];
-
-const LIFETIMES: [u64; 3] = [0, 300, 3600];
-
-const EXPECTED: [Option<u64>; 4] = [None, None, Some(0), Some(1)];
-
-/// A random number below a bound.
-fn below(state: &mut u64, bound: u64) -> usize
-    requires { 0 < bound }
-    ensures { result < bound }
-{
-    *state = state
-        .wrapping_mul(6_364_136_223_846_793_005)
-        .wrapping_add(1_442_695_040_888_963_407);
-    ((*state >> 33) % bound) as usize
-}
-
-fn draft(state: &mut u64) -> Draft {
-    let number = NUMBERS[below(state, 7)];
-    let parent = PARENTS[below(state, 5)];
-    let identity = IDENTITIES[below(state, 3)];
-    let selectors = COUNTS[below(state, 2).wrapping_add(2)];
-    let domains = COUNTS[below(state, 4)];
-    let expiry = MOMENTS[below(state, 4)];
-    let x509_svid_ttl = LIFETIMES[below(state, 3)];
-    let jwt_svid_ttl = LIFETIMES[below(state, 3)];
-    Draft {
-        number,
-        parent,
-        identity,
-        selectors,
-        domains,
-        expiry,
-        x509_svid_ttl,
-        jwt_svid_ttl,
-    }
-}
-
-fn agent(state: &mut u64) -> &'static str {
-    AGENTS[below(state, 2)]
-}
-
-fn change(state: &mut u64) -> Said {
-    match below(state, 16) {
-        0 | 1 => Said::Update(draft(state), EXPECTED[below(state, 4)]),
-        2 => Said::Delete(NUMBERS[below(state, 7)], EXPECTED[below(state, 4)]),
-        3 => Said::Prune(MOMENTS[below(state, 4)]),
-        4 | 5 => Said::SetAgent(agent(state), COUNTS[below(state, 4)]),
-        6 => Said::DropAgent(agent(state)),
-        7 | 8 => Said::SetBundle(DOMAINS[below(state, 3)], 0),
-        9 | 10 => Said::DropBundle(DOMAINS[below(state, 3)], MODES[below(state, 3)]),
-        _ => Said::Create(draft(state)),
-    }
-}
-
-fn question(state: &mut u64) -> Said {
-    match below(state, 6) {
-        0 => Said::Show(NUMBERS[below(state, 7)]),
-        1 => Said::ShowAgent(agent(state)),
-        2 => Said::ShowBundle(DOMAINS[below(state, 4)]),
-        3 => Said::Children(PARENTS[below(state, 5)]),
-        4 => Said::Authorised(agent(state)),
-        _ => Said::Trust(agent(state)),
-    }
-}
-
-/// One to three operations, one batch in four being a query; one in four of the others asks at its end what an agent is
-/// authorised for.
-fn batch(alloc: Global, state: &mut u64) -> Result<Vec<Said>, Fail> {
-    let asks = below(state, 4) == 0;
-    let mut said = Vec::new(alloc);
-    for _ in 0..below(state, 3).wrapping_add(1) {
-        said.push(if asks { question(state) } else { change(state) })?;
-    }
-    if !asks && below(state, 4) == 0 {
-        said.push(Said::Authorised(agent(state)))?;
-    }
-    Ok(said)
-}
-
 /// What came, and how often.
-#[derive(Drop)]
+#[derive(Debug, Drop)]
 struct Counts {
     committed: u64,
     answered: u64,
-    refused: [u64; 7],
+    repeated: u64,
+    early: u64,
+    reused: u64,
+    past_pages: u64,
+    refused: [u64; 8],
     cycles: u64,
     held: u64,
     not_held: u64,
@@ -130,7 +41,11 @@ struct Counts {
 const NOTHING: Counts = Counts {
     committed: 0,
     answered: 0,
-    refused: [0; 7],
+    repeated: 0,
+    early: 0,
+    reused: 0,
+    past_pages: 0,
+    refused: [0; 8],
     cycles: 0,
     held: 0,
     not_held: 0,
@@ -152,7 +67,7 @@ fn add(count: &mut u64, holds: bool) {
 }
 
 fn kind(reason: &OpRefusal) -> usize
-    ensures { result < 7 }
+    ensures { result < 8 }
 {
     match reason {
         OpRefusal::IdTaken => 0,
@@ -162,6 +77,7 @@ fn kind(reason: &OpRefusal) -> usize
         OpRefusal::NoBundle(_) => 4,
         OpRefusal::BundleInUse => 5,
         OpRefusal::NoAgent => 6,
+        OpRefusal::VersionGone => 7,
     }
 }
 
@@ -186,10 +102,16 @@ fn count(said: &[Said], reply: &Reply, counts: &mut Counts) {
             add(&mut counts.committed, true);
             count_changes(said, replies.get().as_slice(), counts);
         }
-        Outcome::Answered(_) => add(&mut counts.answered, true),
+        Outcome::Answered(_) => {
+            add(&mut counts.answered, true);
+            add(&mut counts.past_pages, past_page(said).is_some());
+        }
+        Outcome::Repeated(_) => add(&mut counts.repeated, true),
         Outcome::Refused(Refusal::OfOp(_, reason)) => {
             add(&mut counts.refused[kind(reason)], true);
         }
+        Outcome::Refused(Refusal::NotYet) => add(&mut counts.early, true),
+        Outcome::Refused(Refusal::TokenReused) => add(&mut counts.reused, true),
         Outcome::Refused(Refusal::Full(_)) => {}
     }
 }
@@ -197,6 +119,10 @@ fn count(said: &[Said], reply: &Reply, counts: &mut Counts) {
 fn each_came(counts: &Counts) -> bool {
     counts.committed != 0
         && counts.answered != 0
+        && counts.repeated != 0
+        && counts.early != 0
+        && counts.reused != 0
+        && counts.past_pages != 0
         && counts.refused.iter().all(|count| *count != 0)
         && counts.cycles != 0
         && counts.held != 0
@@ -241,8 +167,11 @@ fn has_lifetimes(draft: &Draft, entry: &Entry) -> bool {
 }
 
 /// Is what the batch was answered of agents what a search finds in these rows, those of the book that came out? And has
-/// each entry that it made the lifetimes that were given?
+/// each entry that it made the lifetimes that were given? A repeat tells of an earlier book.
 fn are_right(said: &[Said], reply: &Reply, rows: &BookRows) -> bool {
+    if let Outcome::Repeated(_) = &reply.outcome {
+        return true;
+    }
     said.iter().zip(replies(reply)).all(|(op, reply)| match (op, reply) {
         (Said::Authorised(text), OpReply::Entries(entries)) => {
             bits(entries.as_slice()) == Some(ends_of(rows, text))
@@ -336,45 +265,61 @@ fn are_told(
     Ok(true)
 }
 
-/// The rows after a random batch, of which what it was answered is right.
-fn rows_after_one(
-    rt: &impl Abort,
-    alloc: Global,
-    book: &mut PlainBook,
-    state: &mut u64,
-    counts: &mut Counts,
-) -> Result<BookRows, Fail> {
-    let said = batch(alloc, state)?;
-    let reply = reply_to(alloc, book, &said)?;
-    count(&said, &reply, counts);
-    let rows = rows_of(alloc, book)?;
-    assert!(rt; are_right(&said, &reply, &rows));
-    Ok(rows)
-}
-
-/// Runs a random batch, and judges the book that comes out.
+/// Runs a random request, and judges what it is answered and the book that comes out.
 fn round(
     rt: &impl Abort,
     alloc: Global,
     book: &mut PlainBook,
     state: &mut u64,
     counts: &mut Counts,
+    past: &mut Past,
 ) -> Result<(), Fail> {
-    let rows = rows_after_one(rt, alloc, book, state, counts)?;
-    assert!(rt; is_lawful(&rows, book.place()));
-    assert!(rt; are_children_listed(alloc, book, &rows)?);
-    assert!(rt; are_told(alloc, book, &rows, counts)?);
+    let place = book.place();
+    let request = request(alloc, state, past, place)?;
+    let reply = reply_with(alloc, book, &request.said, (request.after, request.token))?;
+    count(&request.said, &reply, counts);
+    assert!(rt; is_told_before(&request, &reply, past, place));
+    assert!(rt; are_listed(&request.said, &reply, past));
+    assert!(rt; are_repeated(&request, &reply, past));
+    let rows = rows_of(alloc, book)?;
+    assert!(rt; are_right(&request.said, &reply, &rows));
+    judge(rt, alloc, book, &rows, counts)?;
+    keep(past, request, reply, rows)
+}
+
+/// Is the book that came out lawful, and are its agents told what a search finds?
+fn judge(
+    rt: &impl Abort,
+    alloc: Global,
+    book: &mut PlainBook,
+    rows: &BookRows,
+    counts: &mut Counts,
+) -> Result<(), Fail> {
+    assert!(rt; is_lawful(rows, book.place()));
+    assert!(rt; are_children_listed(alloc, book, rows)?);
+    assert!(rt; are_told(alloc, book, rows, counts)?);
     Ok(())
 }
 
 #[test]
-fn random_batches_keep_the_book_lawful_and_agents_told(rt: HostRuntime) -> Result<(), Fail> {
+fn random_requests_keep_the_book_lawful_and_are_told_what_a_search_finds(
+    rt: HostRuntime,
+) -> Result<(), Fail> {
     let mut book = small_book(rt.alloc())?;
     let mut state = 7;
     let mut counts = nothing();
-    for _ in 0..1000 {
-        round(&rt, rt.alloc(), &mut book, &mut state, &mut counts)?;
+    let mut past = nothing_past(rt.alloc());
+    past.books.push(rows_of(rt.alloc(), &mut book)?)?;
+    for _ in 0..1500 {
+        round(
+            &rt,
+            rt.alloc(),
+            &mut book,
+            &mut state,
+            &mut counts,
+            &mut past,
+        )?;
     }
-    assert!(rt; each_came(&counts));
+    assert!(rt; each_came(&counts), "{counts:?}");
     Ok(())
 }

@@ -2,7 +2,7 @@
 
 ghost use Rattle.std.specs.Prelude.{◌≡◌};
 
-use crate::making::{Said, ops, trust_domain};
+use crate::making::{Said, ops, trust_domain, uuid_of};
 use entry_book::{Batch, OpReply, Outcome, Reply};
 use plain_book::PlainBook;
 use std::alloc::Global;
@@ -36,24 +36,38 @@ pub fn run(book: &mut PlainBook, batch: &Batch) -> Result<Reply, Fail>
 /// A reply's place, what became of the batch, or the code of its refusal, and the index of the operation refused.
 pub type Told = (u64, &'static str, Option<usize>);
 
-fn told(reply: &Reply) -> Told {
+pub fn told(reply: &Reply) -> Told {
     match &reply.outcome {
         Outcome::Committed(_) => (reply.place, "committed", None),
         Outcome::Answered(_) => (reply.place, "answered", None),
+        Outcome::Repeated(_) => (reply.place, "repeated", None),
         Outcome::Refused(refusal) => (reply.place, refusal.code(), refusal.op()),
     }
 }
 
+/// The book's reply to these operations, which may run on the book of a place or a later one, with a token, a number, or
+/// none.
+pub fn reply_with(
+    alloc: Global,
+    book: &mut PlainBook,
+    said: &[Said],
+    (after, token): (u64, Option<u16>),
+) -> Result<Reply, Fail> {
+    let ops = ops(alloc, said)?;
+    let batch = Batch::new(alloc, book.domain(), ops, after, token.map(uuid_of))?;
+    run(book, &batch)
+}
+
 /// The book's reply to these operations.
 pub fn reply_to(alloc: Global, book: &mut PlainBook, said: &[Said]) -> Result<Reply, Fail> {
-    let batch = Batch::new(book.domain(), ops(alloc, said)?)?;
-    run(book, &batch)
+    reply_with(alloc, book, said, (0, None))
 }
 
 /// The replies to a batch; none to one that is refused.
 pub fn replies(reply: &Reply) -> &[OpReply] {
     match &reply.outcome {
-        Outcome::Committed(replies) | Outcome::Answered(replies) => replies.get().as_slice(),
+        Outcome::Committed(replies) | Outcome::Answered(replies) | Outcome::Repeated(replies) =>
+            replies.get().as_slice(),
         Outcome::Refused(_) => &[],
     }
 }
@@ -65,6 +79,20 @@ pub fn answers(alloc: Global, book: &mut PlainBook, said: &[Said]) -> Result<Rep
         return Err(Fail::from("a question isn't answered"));
     }
     Ok(reply)
+}
+
+/// The book answers these operations so, which come with a least place, and a token or none.
+pub fn answers_with(
+    rt: &impl Abort,
+    alloc: Global,
+    book: &mut PlainBook,
+    said: &[Said],
+    given: (u64, Option<u16>),
+    want: Told,
+) -> Result<(), Fail> {
+    let reply = reply_with(alloc, book, said, given)?;
+    assert_eq!(rt; told(&reply), want);
+    Ok(())
 }
 
 /// The book answers these operations so.

@@ -18,6 +18,7 @@ impl Book {
             self.entry_count(),
             self.agent_count(),
             self.bundle_count(),
+            self.token_count(),
         )
     }
 
@@ -40,5 +41,12 @@ impl Book {
         ensures { result ≡ length self.now.bundles }
     {
         self.bundles.get().as_slice().len()
+    }
+
+    /// How many batches are kept under their tokens.
+    fn token_count(&self) -> usize
+        ensures { result ≡ length self.now.tokens }
+    {
+        self.tokens.get().as_slice().len()
     }
 }

@@ -1,19 +1,19 @@
-use Rattle.std.proofs.Common.{◌+◌, ◌^◌, sym, ap, ◌∙◌, drop}
+use Rattle.std.proofs.Common.{◌≡◌, ◌+◌, ◌^◌, ◌<◌, Ok, sym, ap, subst, ◌∙◌, drop, length, get_or}
+use Rattle.entry_book.specs.Ops.{op_of}
 use Rattle.entry_book.specs.Runs.{run}
-use Rattle.plain_book.specs.Performed.{resumed}
-use Rattle.plain_book.proofs.Running.{goes_on, keeps_at, stops}
+use Rattle.plain_book.specs.Performed.{performed, resumed}
+use Rattle.plain_book.proofs.Running.{goes_on, keeps_at}
 use Rattle.plain_book.proofs.run.run_ops.Goals as goal
-
-pub returns-in-Err : goal.returns-in-Err
-returns-in-Err c =
-    let h = rw c.in-Err.is at c.in_ok-refusal.ensures in
-    sym (stops c.args.own.now c.args.ops.now c.loop-index.index c.index-ops-index.result c.loop-index.replies c.loop-index.current c.in-Err.refusal c.loop-index-test.true c.index-ops-index.is h) ∙ c.loop-index.invariant.0
 
 pub loop-index-preserved : goal.loop-index-preserved
 loop-index-preserved c =
+    let batch = c.args.batch.now in
+    let n = c.loop-index.index in
     let h = rw c.in-Ok.is at c.in_ok-refusal.ensures in
-    let own = c.args.own.now in (
-      ap (λ replies. resumed (c.loop-index.index + 1) replies c.in-Ok.after (run own (drop (c.loop-index.index + 1) c.args.ops.now) c.in-Ok.after)) c.in_ok-push-in-Ok.ensures.ok
-          ∙ (sym (goes_on own c.args.ops.now c.loop-index.index c.index-ops-index.result c.loop-index.replies c.in-Ok.reply c.loop-index.current c.in-Ok.after c.loop-index-test.true c.index-ops-index.is h) ∙ c.loop-index.invariant.0),
-      keeps_at own c.args.ops.now (2 ^ 62) c.loop-index.index c.index-ops-index.result c.in-Ok.reply c.loop-index.current c.in-Ok.after c.requires.made c.loop-index.invariant.1 c.loop-index-test.true c.index-ops-index.is h,
+    let accepted : Ok (c.in-Ok.reply, c.in-Ok.after) ≡ performed (op_of batch.domain c.op-item.result c.loop-index.current) c.loop-index.current = h ∙ ap (λ d. performed (op_of d c.op-item.result c.loop-index.current) c.loop-index.current) c.domain.ensures.domain in
+    let below = subst (λ l. n < length l) c.ops-op-items.ensures.ops c.loop-index-test.true in
+    let is = c.op-item.is ∙ ap (λ l. get_or l n c.op-item.result) c.ops-op-items.ensures.ops in (
+      ap (λ replies. resumed (n + 1) replies c.in-Ok.after (run batch.domain (drop (n + 1) batch.ops) c.in-Ok.after)) c.in_ok-push-in-Ok.ensures.ok
+          ∙ (sym (goes_on batch.domain batch.ops n c.op-item.result c.loop-index.replies c.in-Ok.reply c.loop-index.current c.in-Ok.after below is accepted) ∙ c.loop-index.invariant.0),
+      keeps_at batch (2 ^ 62) n c.op-item.result c.in-Ok.reply c.loop-index.current c.in-Ok.after c.ops-op-items.ensures.made c.loop-index.invariant.1 below is accepted,
     )

@@ -1,0 +1,153 @@
+//! What does a batch come to on the book that it reads?
+
+ghost use Rattle.std.specs.Prelude.{◌≡◌, ◌+◌, ◌^◌, ◌≤◌, IfOk, Some};
+ghost use Rattle.std.specs.Option.{option_copied};
+ghost use Rattle.entry_book.specs.Batches.{is_query};
+ghost use Rattle.entry_book.specs.History.{adds_within, kept_under, token_writes, verdict_again, verdict_on, verdict_over, verdict_run};
+ghost use Rattle.entry_book.specs.Lawful.{Lawful};
+ghost use Rattle.entry_book.specs.Limits.{limit_passed};
+ghost use Rattle.entry_book.specs.SameOps.{ops_eq};
+ghost use Rattle.entry_book.specs.Writes.{after};
+ghost use Rattle.plain_book.specs.Performed.{told, verdict_accepted};
+
+use crate::book::Book;
+use crate::run::{BatchRun, run_ops};
+use entry_book::{Batch, KeptBatch, OpReply, Refusal, Sequence, Shared};
+use std::alloc::{AllocError, Global};
+use uuid::Uuid;
+
+/// What a batch comes to, with the answers to its operations, in order.
+#[derive(Drop)]
+pub(crate) enum Verdict {
+    /// It is refused.
+    Refuses(Refusal),
+    /// It only asked.
+    Answers(Shared<Sequence<OpReply>>),
+    /// It adds this book.
+    Adds(Shared<Sequence<OpReply>>, Book),
+    /// It was committed before, at this place.
+    Repeats(u64, Shared<Sequence<OpReply>>),
+}
+
+/// What a batch comes to at this place on the book that it reads. Here and below, the error is want of memory.
+pub(crate) fn verdict_on(
+    alloc: Global,
+    batch: &Batch,
+    place: u64,
+    book: &Book,
+) -> Result<Verdict, AllocError>
+    requires room { place ≤ 2 ^ 48 }
+    requires lawful { Lawful batch.now.domain (2 ^ 62) book.now }
+    ensures { IfOk result (λ verdict. told verdict ≡ verdict_on batch.now place (Some book.now)) }
+{
+    match kept_under(batch.token(), book) {
+        Some(kept) => verdict_again(batch, kept),
+        None => verdict_run(alloc, batch, place, book),
+    }
+}
+
+/// The batch that is kept under a token, where one is given.
+fn kept_under(token: Option<Uuid>, book: &Book) -> Option<&KeptBatch>
+    ensures { option_copied result ≡ kept_under token book.now }
+{
+    match token {
+        Some(token) => book.kept(&token),
+        None => None,
+    }
+}
+
+/// What a batch comes to with whose token this one was committed.
+fn verdict_again(batch: &Batch, kept: &KeptBatch) -> Result<Verdict, AllocError>
+    ensures { IfOk result
+        (λ verdict. told verdict ≡ verdict_again (ops_eq kept.now.ops batch.now.ops) kept.now) }
+{
+    if kept.has_ops(batch.ops()) {
+        Ok(Verdict::Repeats(kept.place, kept.replies.clone()?))
+    } else {
+        Ok(Verdict::Refuses(Refusal::TokenReused))
+    }
+}
+
+/// What a batch comes to when its operations run.
+fn verdict_run(alloc: Global, batch: &Batch, place: u64, book: &Book) -> Result<Verdict, AllocError>
+    requires room { place ≤ 2 ^ 48 }
+    requires lawful { Lawful batch.now.domain (2 ^ 62) book.now }
+    ensures { IfOk result (λ verdict. told verdict ≡ verdict_run batch.now place book.now) }
+{
+    match run_ops(alloc, batch, book)? {
+        BatchRun::RefusedAt(index, reason) => { Ok(Verdict::Refuses(Refusal::OfOp(index, reason))) }
+        BatchRun::Accepted(replies, after) => verdict_accepted(alloc, batch, place, replies, after),
+    }
+}
+
+/// What a batch comes to whose operations are accepted, with these replies and this book after them.
+fn verdict_accepted(
+    alloc: Global,
+    batch: &Batch,
+    place: u64,
+    replies: Sequence<OpReply>,
+    book: Book,
+) -> Result<Verdict, AllocError>
+    requires room { place ≤ 2 ^ 48 }
+    ensures { IfOk result
+        (λ verdict. told verdict ≡ verdict_accepted (is_query batch.now.ops) batch.now place replies book) }
+{
+    let replies = Shared::of(alloc, replies)?;
+    if batch.is_query() {
+        return Ok(Verdict::Answers(replies));
+    }
+    let book = with_batch(alloc, batch, place + 1, &replies, book)?;
+    Ok(adds_within(place, replies, book))
+}
+
+/// The book with the batch kept under its token, where it carries one, as the one that added this book.
+fn with_batch(
+    alloc: Global,
+    batch: &Batch,
+    place: u64,
+    replies: &Shared<Sequence<OpReply>>,
+    book: Book,
+) -> Result<Book, AllocError>
+    ensures { IfOk result
+        (λ kept. kept ≡ after (token_writes batch.now.token batch.now.ops place replies.now) book) }
+{
+    let Some(token) = batch.token() else {
+        return Ok(book);
+    };
+    let kept = kept_batch(batch, token, place, replies)?;
+    book.with_token(alloc, kept)
+}
+
+/// What is kept of a batch under its token.
+fn kept_batch(
+    batch: &Batch,
+    token: Uuid,
+    place: u64,
+    replies: &Shared<Sequence<OpReply>>,
+) -> Result<KeptBatch, AllocError>
+    ensures { IfOk result (λ kept. kept ≡ record {
+      token = token;
+      ops = batch.now.ops;
+      place = place;
+      replies = replies.now;
+    }) }
+{
+    let ops = batch.shared_ops().clone()?;
+    let replies = replies.clone()?;
+    Ok(KeptBatch {
+        token,
+        ops,
+        place,
+        replies,
+    })
+}
+
+/// A batch of changes adds its book, unless this passes a limit.
+fn adds_within(place: u64, replies: Shared<Sequence<OpReply>>, book: Book) -> Verdict
+    ensures { told result ≡ adds_within (limit_passed place book) replies book }
+{
+    match book.limit_passed(place) {
+        Some(limit) => Verdict::Refuses(Refusal::Full(limit)),
+        None => Verdict::Adds(replies, book),
+    }
+}
