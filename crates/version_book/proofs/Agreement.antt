@@ -7,17 +7,19 @@ use Rattle.entry_book.proofs.Fits.{in_order}
 use Rattle.entry_book.proofs.Keys.{without_none}
 use Rattle.entry_book.proofs.Sets.{ascending_filter, from_within_filter, within_filter, text_same}
 use Rattle.entry_book.specs.Rows.{Bytes, entry_key, agent_key, bundle_key}
+use Rattle.entry_book.specs.Tokens.{token_key}
 use Rattle.entry_book.specs.Order.{Within, Ascending, with_row}
 use Rattle.entry_book.specs.Book.{Book, AscendingBook}
-use Rattle.entry_book.specs.Writes.{RowChange, RowWrite, wrote_entry, wrote_agent, wrote_bundle, FitsRows, FitsBook, after, after_write}
+use Rattle.entry_book.specs.Writes.{RowChange, RowWrite, wrote_entry, wrote_agent, wrote_bundle, wrote_token, FitsRows, FitsBook, after, after_write}
 use Rattle.version_book.specs.declared.mark.MarkKind.{MarkKind}
-use Rattle.version_book.specs.Marks.{Agree, reads, hits, passes, seen, names_entry, names_agent, names_bundle}
+use Rattle.version_book.specs.Marks.{Agree, reads, hits, passes, seen, names_entry, names_agent, names_bundle, names_token}
 use Rattle.version_book.specs.Laws.{AgreeAfter, ReadsAfter, Unhit}
 
 reads-after_write : (m : MarkKind) (w : RowWrite) (b : Book) → reads m (after_write w b) ≡ after_write (seen m w) (reads m b)
 reads-after_write m (wrote_entry c) b = ap (λ rows. record (reads m b) { entries = rows }) (filter-with_row entry_key (names_entry m) c.key c.new b.entries)
 reads-after_write m (wrote_agent c) b = ap (λ rows. record (reads m b) { agents = rows }) (filter-with_row agent_key (names_agent m) c.key c.new b.agents)
 reads-after_write m (wrote_bundle c) b = ap (λ rows. record (reads m b) { bundles = rows }) (filter-with_row bundle_key (names_bundle m) c.key c.new b.bundles)
+reads-after_write m (wrote_token c) b = ap (λ rows. record (reads m b) { tokens = rows }) (filter-with_row token_key (names_token m) c.key c.new b.tokens)
 
 pub reads_after : ReadsAfter
 reads_after m [] b = refl
@@ -55,6 +57,7 @@ unhit_write : (w : RowWrite) (b : Book) (m : MarkKind) → AscendingBook b → F
 unhit_write (wrote_entry c) b m a f h = let r = or_parts _ _ (or_parts _ _ h).1 in ap (λ rows. record (reads m b) { entries = rows }) (unhit_change entry_key (names_entry m) c b.entries a.entries f r.0 r.1)
 unhit_write (wrote_agent c) b m a f h = let r = or_parts _ _ h in ap (λ rows. record (reads m b) { agents = rows }) (unhit_change agent_key (names_agent m) c b.agents a.agents f r.0 r.1)
 unhit_write (wrote_bundle c) b m a f h = let r = or_parts _ _ h in ap (λ rows. record (reads m b) { bundles = rows }) (unhit_change bundle_key (names_bundle m) c b.bundles a.bundles f r.0 r.1)
+unhit_write (wrote_token c) b m a f h = let r = or_parts _ _ h in ap (λ rows. record (reads m b) { tokens = rows }) (unhit_change token_key (names_token m) c b.tokens a.tokens f r.0 r.1)
 
 pub unhit : Unhit
 unhit [] b m a f h = refl

@@ -1,21 +1,25 @@
 -- What do lists of batches come to, on versions and on the plain book's list of books?
-use Rattle.std.proofs.Common.{◌≡◌, ℕ, suc, ◌+◌, ◌<◌, Bool, true, false, List, [], ◌∷◌, ◌++◌, length, Option, Some, None, Ok, Err, sym, ap, subst, ◌∙◌, refl, append_assoc, arith, length-append}
+use Rattle.std.proofs.Common.{◌≡◌, ℕ, suc, ◌+◌, ◌<◌, Bool, true, false, List, [], ◌∷◌, ◌++◌, length, Option, Some, None, Ok, Err, sym, ap, subst, ◌∙◌, refl, ⊎_elim, append_assoc, arith, length-append}
 use Rattle.std.specs.Prelude.{slice_get}
+use Rattle.std.proofs.lemmas.Bool.{both_ways, cases_Bool}
 use Rattle.std.proofs.lemmas.List.{append-nil}
-use Rattle.entry_book.proofs.Histories.{last-snoc}
+use Rattle.entry_book.proofs.Histories.{last-snoc, queries_only_ask}
+use Rattle.entry_book.proofs.OfVerdict.{of_verdict}
+use Rattle.entry_book.proofs.PastPages.{changes_newest}
 use Rattle.entry_book.specs.declared.limit.Limit.{Limit}
 use Rattle.entry_book.specs.declared.reply.OpReply.{OpReply}
+use Rattle.entry_book.specs.Rows.{Bytes}
 use Rattle.entry_book.specs.Book.{Book, empty_book}
 use Rattle.entry_book.specs.Writes.{after}
-use Rattle.entry_book.specs.Batches.{Batch, IsMadeFor, is_query}
+use Rattle.entry_book.specs.Batches.{Batch, IsMadeFor, is_query, past_place}
 use Rattle.entry_book.specs.Runs.{RunResult, run}
 use Rattle.entry_book.specs.Limits.{limit_passed}
-use Rattle.entry_book.specs.History.{Verdict, refuses, answers, adds, adds_within, verdict, verdict_when, last_book, last_or, place_of, books_with, books_after, books_from, reply_to, reply_with, is_committed, CommitAll}
+use Rattle.entry_book.specs.History.{Verdict, refuses, answers, adds, repeats, adds_within, batch_writes, book_for, verdict, verdict_run, verdict_when, last_book, last_or, place_of, books_with, books_after, books_from, commits, reply_to, reply_with, is_committed, CommitAll}
 use Rattle.entry_book.specs.Worked.{replies_from}
 use Rattle.version_book.specs.CommittedRows.{State, book_of}
-use Rattle.version_book.specs.History.{Commits, Follows, IsLast, state_with, writes_in, writes_of}
+use Rattle.version_book.specs.History.{Commits, Follows, IsLast, state_with, writes_at, writes_in, writes_of}
 use Rattle.version_book.specs.Laws.{BookAtPlace, BooksJoin, BooksLead, CommitsJoin, FollowsOne, FollowsParts, RepliesCount, RepliesFollow, RepliesJoin}
-use Rattle.version_book.proofs.Histories.{books_follow, follows_on}
+use Rattle.version_book.proofs.Histories.{books_follow, follows_on, newest_read, verdict_last}
 use Rattle.version_book.proofs.NamedRows.{book_after}
 
 -- ---- histories of versions
@@ -33,9 +37,9 @@ follows_parts first second s u = (parted first second s u, λ p. follows_on firs
 
 -- ---- one batch on the list of books
 
--- the verdict of a batch on a version, and on a list of books for whose last one the version stands
-verdict_on : (batch : Batch) (s : State) (books : List Book) → IsLast s books → verdict batch (place_of books) (last_book books) ≡ verdict batch s.number (book_of s.rows)
-verdict_on batch s books l = ap (λ n. verdict batch n (last_book books)) l.place ∙ ap (verdict batch s.number) l.book
+-- the verdict of a batch that commits on a version, on a list of books for whose last one the version stands
+verdict_of : (batch : Batch) (s : State) (books : List Book) → IsLast s books → Commits batch s → verdict batch (place_of books) (book_for (past_place batch.ops) books) ≡ verdict batch s.number (Some (book_of s.rows))
+verdict_of batch s books l c = verdict_last batch s books l.book l.place (newest_read batch s c)
 
 -- a list of books with one book more
 last_of_more : (s : State) (books later : List Book) (n : ℕ) → 0 < length books → place_of books ≡ n → later ≡ books ++ book_of s.rows ∷ [] → s.number ≡ n + 1 → IsLast s later × (0 < length later)
@@ -45,26 +49,44 @@ last_of_more s books later n l p e q =
 
 -- where a batch commits on a version, the version after it stands for the last book then
 pub stands_next : (batch : Batch) (s : State) (books : List Book) → 0 < length books → IsLast s books → Commits batch s → IsLast (state_with batch s) (books_after batch books) × (0 < length (books_after batch books))
-stands_next batch s books l k c = last_of_more (state_with batch s) books (books_after batch books) s.number l k.place (ap (books_with books) (verdict_on batch s books k ∙ c.added)) refl
+stands_next batch s books l k c = last_of_more (state_with batch s) books (books_after batch books) s.number l k.place (ap (books_with books) (verdict_of batch s books k c ∙ c.added)) refl
 
 -- a verdict that commits adds the book after the writes of the run
-added_after : (n m : ℕ) (o : Option Limit) (replies : List OpReply) (b : Book) → is_committed (reply_with m (adds_within o replies b)).outcome ≡ true → (others : List OpReply) × (adds_within o replies b ≡ adds others b)
-added_after n m None replies b h = (replies, refl)
-added_after n m (Some l) replies b h = cc
+added_after : (m : ℕ) (o : Option Limit) (replies : List OpReply) (b : Book) → is_committed (reply_with m (adds_within o replies b)).outcome ≡ true → (others : List OpReply) × (adds_within o replies b ≡ adds others b)
+added_after m None replies b h = (replies, refl)
+added_after m (Some l) replies b h = cc
 
-committed : (query : Bool) (n m : ℕ) (b : Book) (r : RunResult) → is_committed (reply_with m (verdict_when query n b r)).outcome ≡ true → (replies : List OpReply) × (verdict_when query n b r ≡ adds replies (after (writes_in r) b))
-committed query n m b (Err s) h = cc
-committed true n m b (Ok t) h = cc
-committed false n m b (Ok t) h = added_after n m (limit_passed n (after t.writes b)) t.replies (after t.writes b) h
+abbrev AddsAfter : Batch → ℕ → ℕ → Book → Verdict → Type 0
+AddsAfter batch n m b v = is_committed (reply_with m v).outcome ≡ true → (replies : List OpReply) × (v ≡ adds replies (after (writes_of batch (n + 1) b) b))
 
-commits_on : (batch : Batch) (s : State) (books : List Book) → IsLast s books → IsMadeFor s.domain batch → is_committed (reply_to batch books).outcome ≡ true → Commits batch s
+run_adds : (query : Bool) (batch : Batch) (n m : ℕ) (b : Book) (r : RunResult) → is_committed (reply_with m (verdict_when query batch n b r)).outcome ≡ true → (replies : List OpReply) × (verdict_when query batch n b r ≡ adds replies (after (writes_in batch (n + 1) r) b))
+run_adds query batch n m b (Err s) h = cc
+run_adds true batch n m b (Ok t) h = cc
+run_adds false batch n m b (Ok t) h = let c = after (batch_writes batch (n + 1) t) b in added_after m (limit_passed n c) t.replies c h
+
+some_is : (b c : Book) → Some b ≡ Some c → b ≡ c
+some_is b c e = cc
+
+adds_after : (batch : Batch) (n m : ℕ) (b : Book) → AddsAfter batch n m b (verdict batch n (Some b))
+adds_after batch n m b = of_verdict (AddsAfter batch n m b) batch n (λ r h. cc) (λ k rs h. cc) (Some b)
+    (λ d e k. subst (λ x. AddsAfter batch n m b (verdict_run batch n x)) (some_is b d e) (run_adds (is_query batch.ops) batch n m b (run batch.domain batch.ops b)))
+
+-- what commits is no query, so it asks for no earlier book
+asks_none : (own : Bytes) (batch : Batch) (books : List Book) → IsMadeFor own batch → commits batch books ≡ true → past_place batch.ops ≡ None
+asks_none own batch books m h = ⊎_elim
+    (λ q. let no = queries_only_ask batch books q in absurd (both_ways (commits batch books) no h))
+    (λ q. changes_newest own batch m q)
+    (cases_Bool (is_query batch.ops))
+
+commits_on : (batch : Batch) (s : State) (books : List Book) → IsLast s books → IsMadeFor s.domain batch → commits batch books ≡ true → Commits batch s
 commits_on batch s books k m h =
     let b : Book = book_of s.rows in
-    let c = committed (is_query batch.ops) s.number (place_of books) b (run batch.domain batch.ops b) (subst (λ v. is_committed (reply_with (place_of books) v).outcome ≡ true) (verdict_on batch s books k) h) in
+    let same = verdict_last batch s books k.book k.place (asks_none s.domain batch books m h) in
+    let c = adds_after batch s.number (place_of books) b (subst (λ v. is_committed (reply_with (place_of books) v).outcome ≡ true) same h) in
     record {
       made = m;
       replies = c.0;
-      added = c.1 ∙ ap (adds c.0) (sym (book_after (s.number + 1) (writes_of batch b) s.rows));
+      added = c.1 ∙ ap (adds c.0) (sym (book_after (s.number + 1) (writes_at batch s) s.rows));
     }
 
 -- ---- many batches on the list of books
@@ -104,9 +126,10 @@ pub replies_follow : RepliesFollow
 replies_follow [] older newer books l k f = refl
 replies_follow (batch ∷ batches) older newer books l k f =
     let n = stands_next batch older books l k f.0 in
-    let reply : reply_to batch books ≡ reply_with older.number (verdict batch older.number (book_of older.rows)) = ap (λ v. reply_with (place_of books) v) (verdict_on batch older books k) ∙ ap (λ p. reply_with p (verdict batch older.number (book_of older.rows))) k.place in
+    let v : Verdict = verdict batch older.number (Some (book_of older.rows)) in
+    let reply : reply_to batch books ≡ reply_with older.number v = ap (λ v. reply_with (place_of books) v) (verdict_of batch older books k f.0) ∙ ap (λ p. reply_with p v) k.place in
     ap (λ r. r ∷ replies_from (books_after batch books) batches) reply
-    ∙ ap (λ rs. reply_with older.number (verdict batch older.number (book_of older.rows)) ∷ rs) (replies_follow batches (state_with batch older) newer (books_after batch books) n.1 n.0 f.1)
+    ∙ ap (λ rs. reply_with older.number v ∷ rs) (replies_follow batches (state_with batch older) newer (books_after batch books) n.1 n.0 f.1)
 
 -- ---- the book at a place
 
@@ -114,12 +137,13 @@ with_more : (books : List Book) (v : Verdict) → (more : List Book) × (books_w
 with_more books (refuses r) = ([], sym (append-nil books))
 with_more books (answers replies) = ([], sym (append-nil books))
 with_more books (adds replies b) = (b ∷ [], refl)
+with_more books (repeats n replies) = ([], sym (append-nil books))
 
 -- batches only add books
 from_more : (batches : List Batch) (books : List Book) → (more : List Book) × (books_from books batches ≡ books ++ more)
 from_more [] books = ([], sym (append-nil books))
 from_more (batch ∷ batches) books =
-    let one = with_more books (verdict batch (place_of books) (last_book books)) in
+    let one = with_more books (verdict batch (place_of books) (book_for (past_place batch.ops) books)) in
     let all = from_more batches (books_after batch books) in
     (one.0 ++ all.0, all.1 ∙ (ap (λ bs. bs ++ all.0) one.1 ∙ append_assoc books one.0 all.0))
 

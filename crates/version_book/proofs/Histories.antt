@@ -1,29 +1,35 @@
 -- How do versions follow one another, batch by batch?
-use Rattle.std.proofs.Common.{◌≡◌, ℕ, ◌+◌, ◌*◌, Bool, true, false, List, [], ◌∷◌, ◌++◌, length, Option, Some, None, Ok, Err, sym, ap, subst, ◌∙◌, refl, IfOk, inl, inr, option_map, arith, length-append}
-use Rattle.std.specs.Prelude.{map, filter}
+use Rattle.std.proofs.Common.{◌≡◌, ℕ, ◌+◌, ◌*◌, ◌≤◌, Bool, true, false, cond, List, [], ◌∷◌, ◌++◌, length, Option, Some, None, Ok, Err, sym, ap, subst, ◌∙◌, refl, IfOk, inl, inr, option_map, arith, length-append}
+use Rattle.std.specs.Prelude.{map, filter, nat_lt}
 use Rattle.std.specs.List.{list_any}
 use Rattle.std.proofs.lemmas.Bool.{or_parts}
+use Rattle.std.proofs.lemmas.Bool.Decides.{nat_tests}
 use Rattle.entry_book.proofs.Fits.{in_order}
 use Rattle.entry_book.proofs.Histories.{batch_keeps, last-snoc, verdict_changes}
+use Rattle.entry_book.proofs.OfVerdict.{of_verdict}
+use Rattle.entry_book.proofs.PastPages.{changes_newest}
 use Rattle.entry_book.proofs.Runs.{run_fits}
+use Rattle.entry_book.proofs.TokenRows.{batch_fits}
 use Rattle.entry_book.proofs.WithinLimits.{none_is_passed}
 use Rattle.entry_book.specs.declared.limit.Limit.{Limit}
 use Rattle.entry_book.specs.declared.reply.OpReply.{OpReply}
+use Rattle.entry_book.specs.declared.reply.Refusal.TheVariants.{NotYet}
 use Rattle.entry_book.specs.Rows.{Bytes, entry_key, agent_key, bundle_key}
+use Rattle.entry_book.specs.Tokens.{token_key}
 use Rattle.entry_book.specs.Order.{Within, Ascending, with_row}
 use Rattle.entry_book.specs.Book.{Book, AscendingBook, empty_book}
-use Rattle.entry_book.specs.Writes.{RowChange, RowWrite, wrote_entry, wrote_agent, wrote_bundle, FitsRows, FitsBook, FitAll, after, after_write}
-use Rattle.entry_book.specs.Batches.{Batch, is_query}
+use Rattle.entry_book.specs.Writes.{RowChange, RowWrite, wrote_entry, wrote_agent, wrote_bundle, wrote_token, FitsRows, FitsBook, FitAll, after, after_write}
+use Rattle.entry_book.specs.Batches.{Batch, is_query, past_place}
 use Rattle.entry_book.specs.Runs.{RunResult, run}
 use Rattle.entry_book.specs.Lawful.{Lawful}
 use Rattle.entry_book.specs.Laws.{IsWithinLimits}
 use Rattle.entry_book.specs.Limits.{limit_passed}
-use Rattle.entry_book.specs.History.{Verdict, adds, adds_within, verdict, verdict_when, last_book, place_of, books_with, books_after, reply_with, is_committed}
+use Rattle.entry_book.specs.History.{Verdict, refuses, adds, adds_within, batch_writes, book_for, kept_under, verdict, verdict_on, verdict_over, verdict_run, verdict_when, last_book, place_of, books_with, books_after, reply_with, is_committed}
 use Rattle.version_book.specs.declared.mark.MarkKind.{MarkKind}
 use Rattle.version_book.specs.declared.committed_row.CommittedRow.{CommittedRow}
-use Rattle.version_book.specs.Marks.{hits, passes, names_entry, names_agent, names_bundle}
+use Rattle.version_book.specs.Marks.{hits, passes, names_entry, names_agent, names_bundle, names_token}
 use Rattle.version_book.specs.CommittedRows.{CommittedRows, State, AllUpTo, row_of, numbered, of_row, book_of, marked, next_state, rows_after, rows_after_write}
-use Rattle.version_book.specs.History.{Commits, Follows, any_hits, state_with, writes_in, writes_of}
+use Rattle.version_book.specs.History.{Commits, Follows, any_hits, state_with, writes_at, writes_in}
 use Rattle.version_book.specs.Laws.{BatchCommits, FollowsJoined, BooksFollow, DomainStays, LawfulFollows, LimitsFollow, UnhitHistory}
 use Rattle.version_book.proofs.Agreement.{old_fails, unhit_rows}
 use Rattle.version_book.proofs.NamedRows.{book_after, book_after_write}
@@ -31,34 +37,79 @@ use Rattle.version_book.proofs.Numbers.{all_up_to_next, ascending_rows}
 
 -- ---- one batch
 
+-- a batch that may run at this place, and whose token isn't kept, comes to what its run comes to
+runs : (batch : Batch) (n : ℕ) (b : Book) → batch.after ≤ n → kept_under batch.token b ≡ None → verdict batch n (Some b) ≡ verdict_run batch n b
+runs batch n b l k =
+    let q : nat_lt n batch.after ≡ false = grind (arith, nat_tests, l) in
+    ap (λ t. cond t (refuses NotYet) (verdict_on batch n (Some b))) q ∙ ap (λ o. verdict_over o batch n b) k
+
+some_is : (b c : Book) → Some b ≡ Some c → b ≡ c
+some_is b c e = cc
+
+-- where a batch adds a book, its token isn't kept, and its run adds it
+pub ran : (batch : Batch) (n : ℕ) (b c : Book) (replies : List OpReply) → verdict batch n (Some b) ≡ adds replies c → (kept_under batch.token b ≡ None) × (verdict_run batch n b ≡ adds replies c)
+ran batch n b c replies h = of_verdict (λ v. v ≡ adds replies c → (kept_under batch.token b ≡ None) × (verdict_run batch n b ≡ adds replies c)) batch n (λ r e. cc) (λ m rs e. cc) (Some b)
+    (λ d e k v. let q = some_is b d e in (ap (kept_under batch.token) q ∙ k, ap (verdict_run batch n) q ∙ v))
+    h
+
+pub ran_on : (batch : Batch) (s : State) → (c : Commits batch s) → (kept_under batch.token (book_of s.rows) ≡ None) × (verdict_run batch s.number (book_of s.rows) ≡ adds c.replies (book_of (state_with batch s).rows))
+ran_on batch s c = ran batch s.number (book_of s.rows) (book_of (state_with batch s).rows) c.replies c.added
+
 pub batch_commits : BatchCommits
-batch_commits batch s t m q e l =
-    let same : state_with batch s ≡ next_state t.writes s = ap (λ r. next_state (writes_in r) s) e in
-    let b = book_of s.rows in (
+batch_commits batch s t m q a k e l =
+    let n = s.number + 1 in
+    let b = book_of s.rows in
+    let same : state_with batch s ≡ next_state (batch_writes batch n t) s = ap (λ r. next_state (writes_in batch n r) s) e in (
       record {
         made = m;
         replies = t.replies;
         added =
-            verdict_changes (is_query batch.ops) s.number b (run batch.domain batch.ops b) t None q e l
-            ∙ ap (adds t.replies) (sym (ap (λ u. book_of u.rows) same ∙ book_after (s.number + 1) t.writes s.rows));
+            runs batch s.number b a k
+            ∙ (verdict_changes (is_query batch.ops) batch s.number b (run batch.domain batch.ops b) t None q e l
+            ∙ ap (adds t.replies) (sym (ap (λ u. book_of u.rows) same ∙ book_after n (batch_writes batch n t) s.rows)));
       },
       same,
     )
 
 -- what holds of the writes of each run holds of those of a batch that commits
-of_writes : (P : List RowWrite → Type 0) (query : Bool) (n : ℕ) (b c : Book) (replies : List OpReply) (r : RunResult) → verdict_when query n b r ≡ adds replies c → IfOk r (λ t. P t.writes) → P (writes_in r)
-of_writes P query n b c replies (Ok t) e h = h
-of_writes P query n b c replies (Err s) e h = cc
+of_writes : (P : List RowWrite → Type 0) (query : Bool) (batch : Batch) (n : ℕ) (b c : Book) (replies : List OpReply) (r : RunResult) → verdict_when query batch n b r ≡ adds replies c → IfOk r (λ t. P (batch_writes batch (n + 1) t)) → P (writes_in batch (n + 1) r)
+of_writes P query batch n b c replies (Ok t) e h = h
+of_writes P query batch n b c replies (Err s) e h = cc
 
-of_batch : (P : List RowWrite → Type 0) (batch : Batch) (s : State) → Commits batch s → IfOk (run batch.domain batch.ops (book_of s.rows)) (λ t. P t.writes) → P (writes_of batch (book_of s.rows))
-of_batch P batch s c h = of_writes P (is_query batch.ops) s.number (book_of s.rows) (book_of (state_with batch s).rows) c.replies (run batch.domain batch.ops (book_of s.rows)) c.added h
+of_batch : (P : List RowWrite → Type 0) (batch : Batch) (s : State) → Commits batch s → IfOk (run batch.domain batch.ops (book_of s.rows)) (λ t. P (batch_writes batch (s.number + 1) t)) → P (writes_at batch s)
+of_batch P batch s c h = of_writes P (is_query batch.ops) batch s.number (book_of s.rows) (book_of (state_with batch s).rows) c.replies (run batch.domain batch.ops (book_of s.rows)) (ran_on batch s c).1 h
+
+only_fit : (b : Book) (r : RunResult) → IfOk r (λ t. FitAll t.writes b × AscendingBook (after t.writes b)) → IfOk r (λ t. FitAll t.writes b)
+only_fit b (Ok t) h = h.0
+only_fit b (Err s) h = tt
+
+-- the writes of a run find the rows that they name, and so does that of a token that isn't kept
+pub all_fit : (batch : Batch) (n : ℕ) (b : Book) → AscendingBook b → kept_under batch.token b ≡ None → IfOk (run batch.domain batch.ops b) (λ t. FitAll (batch_writes batch n t) b)
+all_fit batch n b a k = batch_fits batch n b k (only_fit b (run batch.domain batch.ops b) (run_fits batch.domain batch.ops b a))
 
 -- the writes of a batch that commits find the rows that they name
-pub writes_fit : (batch : Batch) (s : State) → AscendingBook (book_of s.rows) → Commits batch s → FitAll (writes_of batch (book_of s.rows)) (book_of s.rows)
-writes_fit batch s a c = (of_batch (λ ws. FitAll ws (book_of s.rows) × AscendingBook (after ws (book_of s.rows))) batch s c (run_fits batch.domain batch.ops (book_of s.rows) a)).0
+pub writes_fit : (batch : Batch) (s : State) → AscendingBook (book_of s.rows) → Commits batch s → FitAll (writes_at batch s) (book_of s.rows)
+writes_fit batch s a c = of_batch (λ ws. FitAll ws (book_of s.rows)) batch s c (all_fit batch (s.number + 1) (book_of s.rows) a (ran_on batch s c).0)
 
 pub ascending_next : (batch : Batch) (s : State) → AscendingBook (book_of s.rows) → Commits batch s → AscendingBook (book_of (state_with batch s).rows)
-ascending_next batch s a c = subst AscendingBook (sym (book_after (s.number + 1) (writes_of batch (book_of s.rows)) s.rows)) (in_order (writes_of batch (book_of s.rows)) (book_of s.rows) a (writes_fit batch s a c))
+ascending_next batch s a c = subst AscendingBook (sym (book_after (s.number + 1) (writes_at batch s) s.rows)) (in_order (writes_at batch s) (book_of s.rows) a (writes_fit batch s a c))
+
+-- a run that adds a book is one of changes
+of_changes : (query : Bool) (batch : Batch) (n : ℕ) (b c : Book) (replies : List OpReply) (r : RunResult) → verdict_when query batch n b r ≡ adds replies c → query ≡ false
+of_changes query batch n b c replies (Err s) e = cc
+of_changes true batch n b c replies (Ok t) e = cc
+of_changes false batch n b c replies (Ok t) e = refl
+
+-- so a batch that commits asks for no earlier book
+pub newest_read : (batch : Batch) (s : State) → Commits batch s → past_place batch.ops ≡ None
+newest_read batch s c = changes_newest s.domain batch c.made (of_changes (is_query batch.ops) batch s.number (book_of s.rows) (book_of (state_with batch s).rows) c.replies (run batch.domain batch.ops (book_of s.rows)) (ran_on batch s c).1)
+
+-- what a batch comes to that asks for no earlier book, on a list of books for whose last one a version stands
+pub verdict_last : (batch : Batch) (s : State) (books : List Book) → last_book books ≡ book_of s.rows → place_of books ≡ s.number → past_place batch.ops ≡ None → verdict batch (place_of books) (book_for (past_place batch.ops) books) ≡ verdict batch s.number (Some (book_of s.rows))
+verdict_last batch s books b p e =
+    ap (λ o. verdict batch (place_of books) (book_for o books)) e
+    ∙ (ap (λ n. verdict batch n (Some (last_book books))) p
+    ∙ ap (λ d. verdict batch s.number (Some d)) b)
 
 -- ---- many batches
 
@@ -76,20 +127,20 @@ books_follow [] older newer books l b p f =
 books_follow (batch ∷ batches) older newer books l b p f =
     let c : Commits batch older = f.0 in
     let next : Book = book_of (state_with batch older).rows in
-    let v : verdict batch (place_of books) (last_book books) ≡ adds c.replies next = ap (λ n. verdict batch n (last_book books)) p ∙ (ap (verdict batch older.number) b ∙ c.added) in
-    let a = added_to books (verdict batch (place_of books) (last_book books)) c.replies next v in
+    let v : verdict batch (place_of books) (book_for (past_place batch.ops) books) ≡ adds c.replies next = verdict_last batch older books b p (newest_read batch older c) ∙ c.added in
+    let a = added_to books (verdict batch (place_of books) (book_for (past_place batch.ops) books)) c.replies next v in
     let n : length (books_after batch books) ≡ length books + 1 = ap length a.1 ∙ length-append books (next ∷ []) in
     let r = books_follow batches (state_with batch older) newer (books_after batch books) (omega arith) (ap last_book a.1 ∙ last-snoc empty_book books next) (omega arith) f.1 in
     let k = r.3 in
     ((a.0, r.0), r.1, r.2, omega arith)
 
 pub lawful_next : (batch : Batch) (s : State) → Lawful s.domain (64 * s.number) (book_of s.rows) → Commits batch s → Lawful s.domain (64 * (s.number + 1)) (book_of (state_with batch s).rows)
-lawful_next batch s l c = subst (Lawful s.domain (64 * (s.number + 1))) (sym (book_after (s.number + 1) (writes_of batch (book_of s.rows)) s.rows))
+lawful_next batch s l c = subst (Lawful s.domain (64 * (s.number + 1))) (sym (book_after (s.number + 1) (writes_at batch s) s.rows))
     (of_batch (λ ws. Lawful s.domain (64 * (s.number + 1)) (after ws (book_of s.rows))) batch s c (batch_keeps s.domain batch s.number (book_of s.rows) c.made l))
 
 pub lawful_follows : LawfulFollows
 lawful_follows [] older newer l u f = (subst (λ s. Lawful s.domain (64 * s.number) (book_of s.rows)) f l, subst (λ s. AllUpTo s.number s.rows) f u)
-lawful_follows (batch ∷ batches) older newer l u f = lawful_follows batches (state_with batch older) newer (lawful_next batch older l f.0) (all_up_to_next (writes_of batch (book_of older.rows)) older u) f.1
+lawful_follows (batch ∷ batches) older newer l u f = lawful_follows batches (state_with batch older) newer (lawful_next batch older l f.0) (all_up_to_next (writes_at batch older) older u) f.1
 
 -- ---- writes that don't hit leave the rows with their numbers
 
@@ -108,6 +159,7 @@ unhit_write : (m : MarkKind) (n : ℕ) (w : RowWrite) (rows : CommittedRows) →
 unhit_write m n (wrote_entry c) rows a f h = let r = or_parts _ _ (or_parts _ _ h).1 in ap (λ es. record (marked m rows) { entries = es }) (unhit_numbered entry_key (names_entry m) n c rows.entries a.entries f r.0 r.1)
 unhit_write m n (wrote_agent c) rows a f h = let r = or_parts _ _ h in ap (λ us. record (marked m rows) { agents = us }) (unhit_numbered agent_key (names_agent m) n c rows.agents a.agents f r.0 r.1)
 unhit_write m n (wrote_bundle c) rows a f h = let r = or_parts _ _ h in ap (λ ds. record (marked m rows) { bundles = ds }) (unhit_numbered bundle_key (names_bundle m) n c rows.bundles a.bundles f r.0 r.1)
+unhit_write m n (wrote_token c) rows a f h = let r = or_parts _ _ h in ap (λ ks. record (marked m rows) { tokens = ks }) (unhit_numbered token_key (names_token m) n c rows.tokens a.tokens f r.0 r.1)
 
 unhit_writes : (m : MarkKind) (n : ℕ) (ws : List RowWrite) (rows : CommittedRows) → AscendingBook (book_of rows) → FitAll ws (book_of rows) → list_any (λ w. hits w m) ws ≡ false → marked m rows ≡ marked m (rows_after n ws rows)
 unhit_writes m n [] rows a f h = refl
@@ -120,8 +172,8 @@ unhit_writes m n (w ∷ ws) rows a f h =
 pub unhit_history : UnhitHistory
 unhit_history m [] older newer a f h = ap (λ s. marked m s.rows) f
 unhit_history m (batch ∷ batches) older newer a f h =
-    let r = or_parts (list_any (λ w. hits w m) (writes_of batch (book_of older.rows))) (any_hits m (state_with batch older) batches) h in
-    unhit_writes m (older.number + 1) (writes_of batch (book_of older.rows)) older.rows a (writes_fit batch older a f.0) r.0
+    let r = or_parts (list_any (λ w. hits w m) (writes_at batch older)) (any_hits m (state_with batch older) batches) h in
+    unhit_writes m (older.number + 1) (writes_at batch older) older.rows a (writes_fit batch older a f.0) r.0
     ∙ unhit_history m batches (state_with batch older) newer (ascending_next batch older a f.0) f.1 r.1
 
 -- ---- what stays along a history
@@ -135,14 +187,15 @@ added_within : (limit : Option Limit) (replies others : List OpReply) (b c : Boo
 added_within None replies others b c e = (refl, cc)
 added_within (Some l) replies others b c e = cc
 
-verdict_within : (query : Bool) (n : ℕ) (b c : Book) (replies : List OpReply) (r : RunResult) → verdict_when query n b r ≡ adds replies c → IsWithinLimits c
-verdict_within query n b c replies (Err s) e = cc
-verdict_within true n b c replies (Ok t) e = cc
-verdict_within false n b c replies (Ok t) e =
-    let w = added_within (limit_passed n (after t.writes b)) t.replies replies (after t.writes b) c e in
-    subst IsWithinLimits w.1 ((none_is_passed n (after t.writes b)).0 w.0).1
+run_within : (query : Bool) (batch : Batch) (n : ℕ) (b c : Book) (replies : List OpReply) (r : RunResult) → verdict_when query batch n b r ≡ adds replies c → IsWithinLimits c
+run_within query batch n b c replies (Err s) e = cc
+run_within true batch n b c replies (Ok t) e = cc
+run_within false batch n b c replies (Ok t) e =
+    let d : Book = after (batch_writes batch (n + 1) t) b in
+    let w = added_within (limit_passed n d) t.replies replies d c e in
+    subst IsWithinLimits w.1 ((none_is_passed n d).0 w.0).1
 
 pub limits_follow : LimitsFollow
 limits_follow [] older newer w f = subst (λ s. IsWithinLimits (book_of s.rows)) f w
 limits_follow (batch ∷ batches) older newer w f =
-    limits_follow batches (state_with batch older) newer (verdict_within (is_query batch.ops) older.number (book_of older.rows) (book_of (state_with batch older).rows) f.0.replies (run batch.domain batch.ops (book_of older.rows)) f.0.added) f.1
+    limits_follow batches (state_with batch older) newer (run_within (is_query batch.ops) batch older.number (book_of older.rows) (book_of (state_with batch older).rows) f.0.replies (run batch.domain batch.ops (book_of older.rows)) (ran_on batch older f.0).1) f.1

@@ -100,7 +100,7 @@ abbrev pub identity_cmp : KeyPart Bytes → KeyPart Bytes → Ordering
 identity_cmp x y = edges_cmp (shared.the_row spiffe_id.the_row) bytes_cmp x y
 
 abbrev pub group_cmp : GroupKey → GroupKey → Ordering
-group_cmp x y = ordering_then (ordering_then (bytes_cmp x.0 y.0) (identity_cmp x.1 y.1)) (id_cmp x.2 y.2)
+group_cmp x y = ordering_then (ordering_then (identity_cmp x.0 y.0) (identity_cmp x.1 y.1)) (id_cmp x.2 y.2)
 
 abbrev pub user_cmp : UserKey → UserKey → Ordering
 user_cmp x y = ordering_then (bytes_cmp x.0 y.0) (id_cmp x.1 y.1)
@@ -115,7 +115,7 @@ pub tells_identities : TellsKeys identity_cmp
 tells_identities = tells_edges (edges_order (shared.the_row spiffe_id.the_row) bytes_cmp) tells_bytes
 
 pub tells_groups : TellsKeys group_cmp
-tells_groups = tells_triples bytes_cmp identity_cmp id_cmp tells_bytes tells_identities tells_ids
+tells_groups = tells_triples identity_cmp identity_cmp id_cmp tells_identities tells_identities tells_ids
 
 pub tells_users : TellsKeys user_cmp
 tells_users = tells_pairs bytes_cmp id_cmp tells_bytes tells_ids

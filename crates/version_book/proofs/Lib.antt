@@ -11,6 +11,7 @@ pub mod Mapped
 pub mod Marked
 pub mod NamedRows
 pub mod Numbers
+pub mod Places
 pub mod Ranges
 pub mod Rooms
 pub mod RowShelves

@@ -28,15 +28,15 @@ marked_row m id named shelf sorted keyed rows view row is =
 pub alone : (m : MarkKind) (id : Bytes) → m ≡ mark.Entry id → (r s : CommittedRow Entry) → names_entry m r.row ≡ true → names_entry m s.row ≡ true → r.row.id ≡ s.row.id
 alone m id named r s v w = text_is r.row.id id (ap (λ n. names_entry n r.row) (sym named) ∙ v) ∙ sym (text_is s.row.id id (ap (λ n. names_entry n s.row) (sym named) ∙ w))
 
--- a mark of an agent or a bundle names no entry
+-- a mark of an agent, a bundle or a token names no entry
 names_none : (m : MarkKind) → index_range_of m ≡ SingleRow → ((id : Bytes) → m ≡ mark.Entry id → ⊥) → (e : Entry) → names_entry m e ≡ false
 names_none (mark.Entry id) index_range other e = absurd (other id refl)
 names_none (mark.Group parent identity) index_range other e = cc
 names_none (mark.Children parent) index_range other e = cc
 names_none (mark.Users domain) index_range other e = cc
 names_none (mark.Expiring moment) index_range other e = cc
-names_none (mark.Agent id) index_range other e = refl
-names_none (mark.Bundle domain) index_range other e = refl
+names_none mark.All index_range other e = cc
+names_none m index_range other e = refl
 
 pub all_fail : {X : Type 0} (p : X → Bool) → ((x : X) → p x ≡ false) → (xs : List X) → filter p xs ≡ []
 all_fail p h [] = refl

@@ -5,14 +5,16 @@ use Rattle.std.proofs.lemmas.List.{map-append}
 use Rattle.entry_book.proofs.Keys.{rows_at}
 use Rattle.entry_book.specs.declared.agent.Agent.{Agent}
 use Rattle.entry_book.specs.declared.bundle.Bundle.{Bundle}
+use Rattle.entry_book.specs.declared.kept.KeptBatch.{KeptBatch}
 use Rattle.entry_book.specs.Rows.{Bytes, Entry, entry_key, agent_key, bundle_key}
+use Rattle.entry_book.specs.Tokens.{token_key}
 use Rattle.entry_book.specs.Order.{is_before, with_row}
-use Rattle.entry_book.specs.Book.{Book, group_of, children_of, users_of, expired_before}
-use Rattle.entry_book.specs.Writes.{RowWrite, wrote_entry, wrote_agent, wrote_bundle, after, after_write}
+use Rattle.entry_book.specs.Book.{Book, entry_at, group_of, children_of, users_of, expired_before}
+use Rattle.entry_book.specs.Writes.{RowWrite, wrote_entry, wrote_agent, wrote_bundle, wrote_token, after, after_write}
 use Rattle.version_book.specs.declared.committed_row.CommittedRow.{CommittedRow}
-use Rattle.version_book.specs.Marks.{names_entry, names_agent, names_bundle}
+use Rattle.version_book.specs.Marks.{names_entry, names_agent, names_bundle, names_token}
 use Rattle.version_book.specs.CommittedRows.{CommittedRows, row_of, numbered, of_row, book_of, rows_after_write}
-use Rattle.version_book.specs.Laws.{entries_alone, ReadsEntry, ReadsGroup, ReadsChildren, ReadsUsers, ReadsExpiring, ReadsAgent, ReadsBundle, BookAfter, BookReads}
+use Rattle.version_book.specs.Laws.{entries_alone, ReadsEntry, ReadsGroup, ReadsChildren, ReadsUsers, ReadsExpiring, ReadsAll, ReadsAgent, ReadsBundle, ReadsToken, BookAfter, BookReads}
 
 -- ---- what each mark reads
 
@@ -20,39 +22,47 @@ none : {X : Type 0} (xs : List X) → filter (λ x. false) xs ≡ []
 none [] = refl
 none (x ∷ xs) = none xs
 
-abbrev book : List Entry → List Agent → List Bundle → Book
-book es us ds = record { entries = es; agents = us; bundles = ds }
+every : {X : Type 0} (xs : List X) → filter (λ x. true) xs ≡ xs
+every [] = refl
+every (x ∷ xs) = ap (λ l. x ∷ l) (every xs)
+
+abbrev book : List Entry → List Agent → List Bundle → List KeptBatch → Book
+book es us ds ks = record { entries = es; agents = us; bundles = ds; tokens = ks }
+
+-- books with the same rows
+same_books : {es fs : List Entry} {us vs : List Agent} {ds cs : List Bundle} {ks ls : List KeptBatch} → es ≡ fs → us ≡ vs → ds ≡ cs → ks ≡ ls → book es us ds ks ≡ book fs vs cs ls
+same_books p q r s = λ i. book (p i) (q i) (r i) (s i)
 
 -- a mark that names entries alone
-of_entries : (es : List Entry) (b : Book) → record { entries = es; agents = filter (λ a. false) b.agents; bundles = filter (λ d. false) b.bundles } ≡ entries_alone es
-of_entries es b = ap (λ us. book es us (filter (λ d. false) b.bundles)) (none b.agents) ∙ ap (book es []) (none b.bundles)
+of_entries : (es fs : List Entry) (b : Book) → es ≡ fs → book es (filter (λ a. false) b.agents) (filter (λ d. false) b.bundles) (filter (λ k. false) b.tokens) ≡ entries_alone fs
+of_entries es fs b e = same_books e (none b.agents) (none b.bundles) (none b.tokens)
 
 pub reads_entry : ReadsEntry
-reads_entry id b a = of_entries (filter (λ e. bytes_eq e.id id) b.entries) b ∙ ap entries_alone (rows_at entry_key id b.entries a.entries)
+reads_entry id b a = of_entries (filter (λ e. bytes_eq e.id id) b.entries) (option_to_list (entry_at id b)) b (rows_at entry_key id b.entries a.entries)
 
 pub reads_group : ReadsGroup
-reads_group parent identity b = of_entries (group_of parent identity b) b
+reads_group parent identity b = of_entries (group_of parent identity b) (group_of parent identity b) b refl
 
 pub reads_children : ReadsChildren
-reads_children parent b = of_entries (children_of parent b) b
+reads_children parent b = of_entries (children_of parent b) (children_of parent b) b refl
 
 pub reads_users : ReadsUsers
-reads_users domain b = of_entries (users_of domain b) b
+reads_users domain b = of_entries (users_of domain b) (users_of domain b) b refl
 
 pub reads_expiring : ReadsExpiring
-reads_expiring moment b = of_entries (expired_before moment b) b
+reads_expiring moment b = of_entries (expired_before moment b) (expired_before moment b) b refl
+
+pub reads_all : ReadsAll
+reads_all b = of_entries (filter (λ e. true) b.entries) b.entries b (every b.entries)
 
 pub reads_agent : ReadsAgent
-reads_agent id b a =
-    ap (λ es. book es (filter (λ u. bytes_eq u.id id) b.agents) (filter (λ d. false) b.bundles)) (none b.entries)
-    ∙ (ap (book [] (filter (λ u. bytes_eq u.id id) b.agents)) (none b.bundles)
-    ∙ ap (λ us. book [] us []) (rows_at agent_key id b.agents a.agents))
+reads_agent id b a = same_books (none b.entries) (rows_at agent_key id b.agents a.agents) (none b.bundles) (none b.tokens)
 
 pub reads_bundle : ReadsBundle
-reads_bundle domain b a =
-    ap (λ es. book es (filter (λ u. false) b.agents) (filter (λ d. bytes_eq d.domain domain) b.bundles)) (none b.entries)
-    ∙ (ap (λ us. book [] us (filter (λ d. bytes_eq d.domain domain) b.bundles)) (none b.agents)
-    ∙ ap (book [] []) (rows_at bundle_key domain b.bundles a.bundles))
+reads_bundle domain b a = same_books (none b.entries) (none b.agents) (rows_at bundle_key domain b.bundles a.bundles) (none b.tokens)
+
+pub reads_token : ReadsToken
+reads_token token b a = same_books (none b.entries) (none b.agents) (none b.bundles) (rows_at token_key token b.tokens a.tokens)
 
 -- ---- rows with numbers
 
@@ -80,13 +90,11 @@ pub book_after_write : (n : ℕ) (w : RowWrite) (rows : CommittedRows) → book_
 book_after_write n (wrote_entry c) rows = ap (λ es. record (book_of rows) { entries = es }) (rows-with_row entry_key n c.key c.new rows.entries)
 book_after_write n (wrote_agent c) rows = ap (λ us. record (book_of rows) { agents = us }) (rows-with_row agent_key n c.key c.new rows.agents)
 book_after_write n (wrote_bundle c) rows = ap (λ ds. record (book_of rows) { bundles = ds }) (rows-with_row bundle_key n c.key c.new rows.bundles)
+book_after_write n (wrote_token c) rows = ap (λ ks. record (book_of rows) { tokens = ks }) (rows-with_row token_key n c.key c.new rows.tokens)
 
 pub book_after : BookAfter
 book_after n [] rows = refl
 book_after n (w ∷ ws) rows = book_after n ws (rows_after_write n w rows) ∙ ap (after ws) (book_after_write n w rows)
 
 pub book_reads : BookReads
-book_reads m rows =
-    ap (λ es. book es (filter (names_agent m) (map row_of rows.agents)) (filter (names_bundle m) (map row_of rows.bundles))) (filter-map row_of (names_entry m) rows.entries)
-    ∙ (ap (λ us. book (map row_of (filter (of_row (names_entry m)) rows.entries)) us (filter (names_bundle m) (map row_of rows.bundles))) (filter-map row_of (names_agent m) rows.agents)
-    ∙ ap (book (map row_of (filter (of_row (names_entry m)) rows.entries)) (map row_of (filter (of_row (names_agent m)) rows.agents))) (filter-map row_of (names_bundle m) rows.bundles))
+book_reads m rows = same_books (filter-map row_of (names_entry m) rows.entries) (filter-map row_of (names_agent m) rows.agents) (filter-map row_of (names_bundle m) rows.bundles) (filter-map row_of (names_token m) rows.tokens)

@@ -5,13 +5,14 @@ use Rattle.std.specs.List.{AllByRecursion}
 use Rattle.entry_book.proofs.Keys.{from_with_row, same_key}
 use Rattle.entry_book.proofs.Sets.{All-within, All-from_within}
 use Rattle.entry_book.specs.Rows.{Bytes, entry_key, agent_key, bundle_key}
+use Rattle.entry_book.specs.Tokens.{token_key}
 use Rattle.entry_book.specs.Order.{Within, Ascending, is_before, with_row}
 use Rattle.entry_book.specs.Book.{AscendingBook}
-use Rattle.entry_book.specs.Writes.{RowWrite, wrote_entry, wrote_agent, wrote_bundle}
+use Rattle.entry_book.specs.Writes.{RowWrite, wrote_entry, wrote_agent, wrote_bundle, wrote_token}
 use Rattle.entry_book.specs.Batches.{Batch}
 use Rattle.version_book.specs.declared.committed_row.CommittedRow.{CommittedRow}
 use Rattle.version_book.specs.CommittedRows.{CommittedRows, State, AllUpTo, row_of, numbered, of_row, book_of, next_state, rows_after, rows_after_write}
-use Rattle.version_book.specs.History.{Follows, state_with, writes_of}
+use Rattle.version_book.specs.History.{Follows, state_with, writes_at}
 use Rattle.version_book.specs.Stores.{NumbersTell, TellRows}
 
 -- rows of the newer ones whose numbers aren't above n are of the older ones
@@ -62,16 +63,17 @@ up_to_more n [] h = tt
 up_to_more n (r ∷ rs) h = let l = h.0 in (omega arith, up_to_more n rs h.1)
 
 up_to_write : (n : ℕ) (w : RowWrite) (rows : CommittedRows) → AllUpTo n rows → AllUpTo n (rows_after_write n w rows)
-up_to_write n (wrote_entry c) rows h = record { entries = up_to_with_row entry_key n c.key c.new rows.entries h.entries; agents = h.agents; bundles = h.bundles }
-up_to_write n (wrote_agent c) rows h = record { entries = h.entries; agents = up_to_with_row agent_key n c.key c.new rows.agents h.agents; bundles = h.bundles }
-up_to_write n (wrote_bundle c) rows h = record { entries = h.entries; agents = h.agents; bundles = up_to_with_row bundle_key n c.key c.new rows.bundles h.bundles }
+up_to_write n (wrote_entry c) rows h = record { entries = up_to_with_row entry_key n c.key c.new rows.entries h.entries; agents = h.agents; bundles = h.bundles; tokens = h.tokens }
+up_to_write n (wrote_agent c) rows h = record { entries = h.entries; agents = up_to_with_row agent_key n c.key c.new rows.agents h.agents; bundles = h.bundles; tokens = h.tokens }
+up_to_write n (wrote_bundle c) rows h = record { entries = h.entries; agents = h.agents; bundles = up_to_with_row bundle_key n c.key c.new rows.bundles h.bundles; tokens = h.tokens }
+up_to_write n (wrote_token c) rows h = record { entries = h.entries; agents = h.agents; bundles = h.bundles; tokens = up_to_with_row token_key n c.key c.new rows.tokens h.tokens }
 
 up_to_writes : (n : ℕ) (ws : List RowWrite) (rows : CommittedRows) → AllUpTo n rows → AllUpTo n (rows_after n ws rows)
 up_to_writes n [] rows h = h
 up_to_writes n (w ∷ ws) rows h = up_to_writes n ws (rows_after_write n w rows) (up_to_write n w rows h)
 
 pub all_up_to_next : (ws : List RowWrite) (s : State) → AllUpTo s.number s.rows → AllUpTo (s.number + 1) (next_state ws s).rows
-all_up_to_next ws s h = up_to_writes (s.number + 1) ws s.rows (record { entries = up_to_more s.number s.rows.entries h.entries; agents = up_to_more s.number s.rows.agents h.agents; bundles = up_to_more s.number s.rows.bundles h.bundles })
+all_up_to_next ws s h = up_to_writes (s.number + 1) ws s.rows (record { entries = up_to_more s.number s.rows.entries h.entries; agents = up_to_more s.number s.rows.agents h.agents; bundles = up_to_more s.number s.rows.bundles h.bundles; tokens = up_to_more s.number s.rows.tokens h.tokens })
 
 -- ---- rows whose numbers aren't above n were there before
 
@@ -79,11 +81,13 @@ record AllWereThere (n : ℕ) (older newer : CommittedRows) : Type 0 where
   entries : WereThere n older.entries newer.entries
   agents : WereThere n older.agents newer.agents
   bundles : WereThere n older.bundles newer.bundles
+  tokens : WereThere n older.tokens newer.tokens
 
 there_after_write : (n m : ℕ) (w : RowWrite) (older newer : CommittedRows) → n < m → AllWereThere n older newer → AllWereThere n older (rows_after_write m w newer)
-there_after_write n m (wrote_entry c) older newer l h = record { entries = were_there_with_row entry_key n m c.key c.new older.entries newer.entries l h.entries; agents = h.agents; bundles = h.bundles }
-there_after_write n m (wrote_agent c) older newer l h = record { entries = h.entries; agents = were_there_with_row agent_key n m c.key c.new older.agents newer.agents l h.agents; bundles = h.bundles }
-there_after_write n m (wrote_bundle c) older newer l h = record { entries = h.entries; agents = h.agents; bundles = were_there_with_row bundle_key n m c.key c.new older.bundles newer.bundles l h.bundles }
+there_after_write n m (wrote_entry c) older newer l h = record { entries = were_there_with_row entry_key n m c.key c.new older.entries newer.entries l h.entries; agents = h.agents; bundles = h.bundles; tokens = h.tokens }
+there_after_write n m (wrote_agent c) older newer l h = record { entries = h.entries; agents = were_there_with_row agent_key n m c.key c.new older.agents newer.agents l h.agents; bundles = h.bundles; tokens = h.tokens }
+there_after_write n m (wrote_bundle c) older newer l h = record { entries = h.entries; agents = h.agents; bundles = were_there_with_row bundle_key n m c.key c.new older.bundles newer.bundles l h.bundles; tokens = h.tokens }
+there_after_write n m (wrote_token c) older newer l h = record { entries = h.entries; agents = h.agents; bundles = h.bundles; tokens = were_there_with_row token_key n m c.key c.new older.tokens newer.tokens l h.tokens }
 
 there_after : (n m : ℕ) (ws : List RowWrite) (older newer : CommittedRows) → n < m → AllWereThere n older newer → AllWereThere n older (rows_after m ws newer)
 there_after n m [] older newer l h = h
@@ -91,13 +95,14 @@ there_after n m (w ∷ ws) older newer l h = there_after n m ws older (rows_afte
 
 there_since : (n : ℕ) (older : CommittedRows) (batches : List Batch) (s newer : State) → n ≤ s.number → AllWereThere n older s.rows → Follows s batches newer → AllWereThere n older newer.rows
 there_since n older [] s newer l h f = subst (λ t. AllWereThere n older t.rows) f h
-there_since n older (batch ∷ batches) s newer l h f = there_since n older batches (state_with batch s) newer (omega arith) (there_after n (s.number + 1) (writes_of batch (book_of s.rows)) older s.rows (omega arith) h) f.1
+there_since n older (batch ∷ batches) s newer l h f = there_since n older batches (state_with batch s) newer (omega arith) (there_after n (s.number + 1) (writes_at batch s) older s.rows (omega arith) h) f.1
 
 pub numbers_tell : (batches : List Batch) (older newer : State) → AscendingBook (book_of older.rows) → AllUpTo older.number older.rows → Follows older batches newer → NumbersTell older.rows newer.rows
 numbers_tell batches older newer a u f =
-    let h = there_since older.number older.rows batches older newer (omega arith) (record { entries = λ r w l. w; agents = λ r w l. w; bundles = λ r w l. w }) f in
+    let h = there_since older.number older.rows batches older newer (omega arith) (record { entries = λ r w l. w; agents = λ r w l. w; bundles = λ r w l. w; tokens = λ r w l. w }) f in
     record {
       entries = tell entry_key older.number older.rows.entries newer.rows.entries a.entries u.entries h.entries;
       agents = tell agent_key older.number older.rows.agents newer.rows.agents a.agents u.agents h.agents;
       bundles = tell bundle_key older.number older.rows.bundles newer.rows.bundles a.bundles u.bundles h.bundles;
+      tokens = tell token_key older.number older.rows.tokens newer.rows.tokens a.tokens u.tokens h.tokens;
     }

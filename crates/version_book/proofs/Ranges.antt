@@ -1,5 +1,5 @@
 -- The ranges of keys from one bound to the other have just the entries that a mark names.
-use Rattle.std.proofs.Common.{◌≡◌, ℕ, Bool, true, false, cond, ◌&&◌, [], ◌∷◌, refl, sym, ap, subst, ◌∙◌, inl, ⊎_elim, arith}
+use Rattle.std.proofs.Common.{◌≡◌, ℕ, Bool, true, false, cond, ◌&&◌, List, [], ◌∷◌, refl, sym, ap, subst, ◌∙◌, inl, ⊎_elim, arith}
 use Rattle.std.specs.Prelude.{nat_lt, ◌==◌, bytes_eq}
 use Rattle.std.specs.declared.cmp.Ordering.{Ordering}
 use Rattle.std.specs.declared.cmp.Ordering.TheVariants.{Less, Equal, Greater}
@@ -52,13 +52,16 @@ module _ {K : Type 0} (cmp : K → K → Ordering) (one : Entry → K) (lo hi : 
     once = λ e k l w v _ _. ⊎_elim (λ q. ⊎_elim (λ r. sym q ∙ r) (λ n. absurd n) v) (λ n. absurd n) w;
   }
 
-pub covers_group : (parent identity : Bytes) → Covers group_cmp group_keys (parent, At identity, Start) (parent, At identity, End) (in_group parent identity)
-covers_group parent identity = covers_one group_cmp (λ e. (e.parent, At e.identity, At e.id)) (parent, At identity, Start) (parent, At identity, End) (in_group parent identity)
+pub covers_group : (parent identity : Bytes) → Covers group_cmp group_keys (At parent, At identity, Start) (At parent, At identity, End) (in_group parent identity)
+covers_group parent identity = covers_one group_cmp (λ e. (At e.parent, At e.identity, At e.id)) (At parent, At identity, Start) (At parent, At identity, End) (in_group parent identity)
     (λ e. around (ordering_then (bytes_cmp e.parent parent) (bytes_cmp e.identity identity)) ∙ (equal_both (bytes_cmp e.parent parent) (bytes_cmp e.identity identity) ∙ both_same (bytes_cmp e.parent parent) (bytes_cmp e.identity identity) (bytes_eq e.parent parent) (bytes_eq e.identity identity) (texts_ties e.parent parent) (texts_ties e.identity identity)))
 
-pub covers_children : (parent : Bytes) → Covers group_cmp group_keys (parent, Start, Start) (parent, End, End) (λ e. bytes_eq e.parent parent)
-covers_children parent = covers_one group_cmp (λ e. (e.parent, At e.identity, At e.id)) (parent, Start, Start) (parent, End, End) (λ e. bytes_eq e.parent parent)
+pub covers_children : (parent : Bytes) → Covers group_cmp group_keys (At parent, Start, Start) (At parent, End, End) (λ e. bytes_eq e.parent parent)
+covers_children parent = covers_one group_cmp (λ e. (At e.parent, At e.identity, At e.id)) (At parent, Start, Start) (At parent, End, End) (λ e. bytes_eq e.parent parent)
     (λ e. around_both (bytes_cmp e.parent parent) ∙ sym (texts_ties e.parent parent))
+
+pub covers_all : Covers group_cmp group_keys (Start, Start, Start) (End, End, End) (λ e. true)
+covers_all = covers_one group_cmp (λ e. (At e.parent, At e.identity, At e.id)) (Start, Start, Start) (End, End, End) (λ e. true) (λ e. refl)
 
 -- ---- an entry with a key for each domain
 
@@ -99,41 +102,36 @@ covers_expiries moment =
 
 -- ---- the ranges of marks
 
+module _ {K : Type 0} (cmp : K → K → Ordering) (keys : Entry → List K) (p : Entry → Bool) where
+  -- between the same bounds
+  at_bounds : (lo hi low high : K) → lo ≡ low → hi ≡ high → Covers cmp keys lo hi p → Covers cmp keys low high p
+  at_bounds lo hi low high l h c = subst (λ k. Covers cmp keys k high p) l (subst (λ k. Covers cmp keys lo k p) h c)
+
 pub covers_groups_of : (m : MarkKind) (lo hi : GroupKey) → index_range_of m ≡ Groups lo hi → Covers group_cmp group_keys lo hi (names_entry m)
-covers_groups_of (mark.Entry id) lo hi e = cc
 covers_groups_of (mark.Group parent identity) lo hi e =
-    let low : (parent, At identity, Start) ≡ lo = cc in
-    let high : (parent, At identity, End) ≡ hi = cc in
-    subst (λ (k : GroupKey). Covers group_cmp group_keys k hi (in_group parent identity)) low (subst (λ (k : GroupKey). Covers group_cmp group_keys (parent, At identity, Start) k (in_group parent identity)) high (covers_group parent identity))
+    let low : (At parent, At identity, Start) ≡ lo = cc in
+    let high : (At parent, At identity, End) ≡ hi = cc in
+    at_bounds group_cmp group_keys (in_group parent identity) (At parent, At identity, Start) (At parent, At identity, End) lo hi low high (covers_group parent identity)
 covers_groups_of (mark.Children parent) lo hi e =
-    let low : (parent, Start, Start) ≡ lo = cc in
-    let high : (parent, End, End) ≡ hi = cc in
-    subst (λ (k : GroupKey). Covers group_cmp group_keys k hi (λ e. bytes_eq e.parent parent)) low (subst (λ (k : GroupKey). Covers group_cmp group_keys (parent, Start, Start) k (λ e. bytes_eq e.parent parent)) high (covers_children parent))
-covers_groups_of (mark.Users domain) lo hi e = cc
-covers_groups_of (mark.Expiring moment) lo hi e = cc
-covers_groups_of (mark.Agent id) lo hi e = cc
-covers_groups_of (mark.Bundle domain) lo hi e = cc
+    let low : (At parent, Start, Start) ≡ lo = cc in
+    let high : (At parent, End, End) ≡ hi = cc in
+    at_bounds group_cmp group_keys (λ e. bytes_eq e.parent parent) (At parent, Start, Start) (At parent, End, End) lo hi low high (covers_children parent)
+covers_groups_of mark.All lo hi e =
+    let low : (Start, Start, Start) ≡ lo = cc in
+    let high : (End, End, End) ≡ hi = cc in
+    at_bounds group_cmp group_keys (λ e. true) (Start, Start, Start) (End, End, End) lo hi low high covers_all
+covers_groups_of m lo hi e = cc
 
 pub covers_users_of : (m : MarkKind) (lo hi : UserKey) → index_range_of m ≡ Users lo hi → Covers user_cmp user_keys lo hi (names_entry m)
-covers_users_of (mark.Entry id) lo hi e = cc
-covers_users_of (mark.Group parent identity) lo hi e = cc
-covers_users_of (mark.Children parent) lo hi e = cc
 covers_users_of (mark.Users domain) lo hi e =
     let low : (domain, Start) ≡ lo = cc in
     let high : (domain, End) ≡ hi = cc in
-    subst (λ (k : UserKey). Covers user_cmp user_keys k hi (names domain)) low (subst (λ (k : UserKey). Covers user_cmp user_keys (domain, Start) k (names domain)) high (covers_users domain))
-covers_users_of (mark.Expiring moment) lo hi e = cc
-covers_users_of (mark.Agent id) lo hi e = cc
-covers_users_of (mark.Bundle domain) lo hi e = cc
+    at_bounds user_cmp user_keys (names domain) (domain, Start) (domain, End) lo hi low high (covers_users domain)
+covers_users_of m lo hi e = cc
 
 pub covers_expiries_of : (m : MarkKind) (lo hi : ExpiryKey) → index_range_of m ≡ Expiries lo hi → Covers expiry_cmp expiry_keys lo hi (names_entry m)
-covers_expiries_of (mark.Entry id) lo hi e = cc
-covers_expiries_of (mark.Group parent identity) lo hi e = cc
-covers_expiries_of (mark.Children parent) lo hi e = cc
-covers_expiries_of (mark.Users domain) lo hi e = cc
 covers_expiries_of (mark.Expiring moment) lo hi e =
     let low : (0, Start) ≡ lo = cc in
     let high : (moment, Start) ≡ hi = cc in
-    subst (λ (k : ExpiryKey). Covers expiry_cmp expiry_keys k hi (expires_before moment)) low (subst (λ (k : ExpiryKey). Covers expiry_cmp expiry_keys (0, Start) k (expires_before moment)) high (covers_expiries moment))
-covers_expiries_of (mark.Agent id) lo hi e = cc
-covers_expiries_of (mark.Bundle domain) lo hi e = cc
+    at_bounds expiry_cmp expiry_keys (expires_before moment) (0, Start) (moment, Start) lo hi low high (covers_expiries moment)
+covers_expiries_of m lo hi e = cc

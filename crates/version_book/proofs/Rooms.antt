@@ -13,18 +13,23 @@ use Rattle.entry_book.specs.declared.agent.Agent.{Agent}
 use Rattle.entry_book.specs.declared.bundle.Bundle.{Bundle}
 use Rattle.entry_book.specs.declared.entry.NewEntry.{NewEntry}
 use Rattle.entry_book.specs.declared.fault.OpFault.{OpFault}
+use Rattle.entry_book.specs.declared.kept.KeptBatch.{KeptBatch}
 use Rattle.entry_book.specs.declared.fault.OpFault.TheVariants.{ForeignId, EmptyPath, ServerIdentity, Selectors, TooManyDomains}
 use Rattle.entry_book.specs.declared.mode.DropMode.{DropMode}
 use Rattle.entry_book.specs.declared.mode.DropMode.TheVariants as mode
 use Rattle.entry_book.specs.declared.op.Op.{Op}
 use Rattle.entry_book.specs.declared.op.Op.TheVariants.{Create, Update, Delete, Show, ShowAgent, ShowBundle, Children, Page, Authorised, Trust, Prune, SetAgent, DropAgent, SetBundle, DropBundle}
+use Rattle.entry_book.specs.declared.reply.OpReply.{OpReply}
 use Rattle.entry_book.specs.Rows.{Bytes, Entry, at_revision, given_of, entry_key, agent_key, bundle_key}
+use Rattle.entry_book.specs.Tokens.{token_key}
 use Rattle.entry_book.specs.Order.{Within, is_before, with_row}
 use Rattle.entry_book.specs.Book.{Book, AscendingBook, entry_at, agent_at, bundle_at, names, users_of, expired_before}
-use Rattle.entry_book.specs.Writes.{RowWrite, wrote_entry, wrote_agent, wrote_bundle, FitsBook, FitAll, after, after_write}
-use Rattle.entry_book.specs.Batches.{IsProperOp, entry_fault, op_fault, is_foreign, has_no_path, is_outside}
+use Rattle.entry_book.specs.Writes.{RowWrite, wrote_entry, wrote_agent, wrote_bundle, wrote_token, FitsBook, FitAll, after, after_write}
+use Rattle.entry_book.specs.Batches.{Batch, IsMadeFor, IsProperOp, entry_fault, op_fault, is_foreign, has_no_path, is_outside}
 use Rattle.entry_book.specs.Ops.{OpEffect, OpResult, similar, lacking, put_named, put_beside, create_over, is_stale, update_when, update_over, removed, delete_when, delete_over, for_agent, agent_dropped, bundle_removed, freed, drop_in, drop_over, op_of}
 use Rattle.entry_book.specs.Runs.{RunEffect, RefusedOp, RunResult, onto, then_run, run}
+use Rattle.entry_book.specs.History.{token_writes}
+use Rattle.entry_book.specs.Laws.{AreFaultless, IsWithinLimits}
 use Rattle.entry_book.specs.Lawful.{Lawful}
 use Rattle.version_book.specs.Laws.{RoomInRun}
 use Rattle.version_book.specs.Room.{RoomFor, RoomAll, count_of_names}
@@ -103,11 +108,13 @@ abbrev growth : RowWrite → ℕ
 growth (wrote_entry c) = grows c.old c.new
 growth (wrote_agent c) = grows c.old c.new
 growth (wrote_bundle c) = grows c.old c.new
+growth (wrote_token c) = grows c.old c.new
 
 growth_by_one : (w : RowWrite) → growth w ≤ 1
 growth_by_one (wrote_entry c) = grows_by_one c.old c.new
 growth_by_one (wrote_agent c) = grows_by_one c.old c.new
 growth_by_one (wrote_bundle c) = grows_by_one c.old c.new
+growth_by_one (wrote_token c) = grows_by_one c.old c.new
 
 abbrev growth_of : List RowWrite → ℕ
 growth_of [] = 0
@@ -121,12 +128,14 @@ abbrev PutsFewNames : RowWrite → Type 0
 PutsFewNames (wrote_entry c) = IfSome c.new HasFewNames
 PutsFewNames (wrote_agent c) = ⊤
 PutsFewNames (wrote_bundle c) = ⊤
+PutsFewNames (wrote_token c) = ⊤
 
 -- A book that has at most n rows more than the limits allow, in each set.
 record IsSmall (n : ℕ) (b : Book) : Type 0 where
   entries : length b.entries ≤ 16384 + n
   agents : length b.agents ≤ 4096 + n
   bundles : length b.bundles ≤ 1024 + n
+  tokens : length b.tokens ≤ 65536 + n
   few : AllByRecursion HasFewNames b.entries
 
 few_after : (k : Bytes) (new : Option Entry) (rows : List Entry) → AllByRecursion HasFewNames rows → IfSome new HasFewNames → AllByRecursion HasFewNames (with_row entry_key k new rows)
@@ -138,17 +147,21 @@ few_after k new rows h n = All-from_within HasFewNames (with_row entry_key k new
 
 small_after : (n : ℕ) (w : RowWrite) (b : Book) → FitsBook w b → PutsFewNames w → IsSmall n b → IsSmall (n + growth w) (after_write w b)
 small_after n (wrote_entry c) b f p s =
-    let a = s.entries in let u = s.agents in let d = s.bundles in
+    let a = s.entries in let u = s.agents in let d = s.bundles in let k = s.tokens in
     let g = size_after entry_key c.key c.old c.new b.entries f.found in
-    record { entries = omega arith; agents = omega arith; bundles = omega arith; few = few_after c.key c.new b.entries s.few p }
+    record { entries = omega arith; agents = omega arith; bundles = omega arith; tokens = omega arith; few = few_after c.key c.new b.entries s.few p }
 small_after n (wrote_agent c) b f p s =
-    let a = s.entries in let u = s.agents in let d = s.bundles in
+    let a = s.entries in let u = s.agents in let d = s.bundles in let k = s.tokens in
     let g = size_after agent_key c.key c.old c.new b.agents f.found in
-    record { entries = omega arith; agents = omega arith; bundles = omega arith; few = s.few }
+    record { entries = omega arith; agents = omega arith; bundles = omega arith; tokens = omega arith; few = s.few }
 small_after n (wrote_bundle c) b f p s =
-    let a = s.entries in let u = s.agents in let d = s.bundles in
+    let a = s.entries in let u = s.agents in let d = s.bundles in let k = s.tokens in
     let g = size_after bundle_key c.key c.old c.new b.bundles f.found in
-    record { entries = omega arith; agents = omega arith; bundles = omega arith; few = s.few }
+    record { entries = omega arith; agents = omega arith; bundles = omega arith; tokens = omega arith; few = s.few }
+small_after n (wrote_token c) b f p s =
+    let a = s.entries in let u = s.agents in let d = s.bundles in let k = s.tokens in
+    let g = size_after token_key c.key c.old c.new b.tokens f.found in
+    record { entries = omega arith; agents = omega arith; bundles = omega arith; tokens = omega arith; few = s.few }
 
 names_le : (es : List Entry) → AllByRecursion HasFewNames es → count_of_names es ≤ 8 * length es
 names_le [] h = omega arith
@@ -162,12 +175,33 @@ room_for : (n : ℕ) (w : RowWrite) (b : Book) → n ≤ 64 → IsSmall n (after
 room_for n (wrote_entry c) b l s = if_some _ c.new (λ e. let a = s.entries in let r = names_le (after_write (wrote_entry c) b).entries s.few in (omega arith, omega arith))
 room_for n (wrote_agent c) b l s = if_some _ c.new (λ x. let a = s.agents in omega arith)
 room_for n (wrote_bundle c) b l s = if_some _ c.new (λ d. let a = s.bundles in omega arith)
+room_for n (wrote_token c) b l s = if_some _ c.new (λ k. let a = s.tokens in omega arith)
 
 room_all : (n : ℕ) (ws : List RowWrite) (b : Book) → n + growth_of ws ≤ 64 → FitAll ws b → AllByRecursion PutsFewNames ws → IsSmall n b → RoomAll ws b
 room_all n [] b l f p s = tt
 room_all n (w ∷ ws) b l f p s =
     let t = small_after n w b f.0 p.0 s in
     (room_for (n + growth w) w b (omega arith) t, room_all (n + growth w) ws (after_write w b) (omega arith) f.1 p.1 t)
+
+small_all : (n : ℕ) (ws : List RowWrite) (b : Book) → FitAll ws b → AllByRecursion PutsFewNames ws → IsSmall n b → IsSmall (n + growth_of ws) (after ws b)
+small_all n [] b f p s = let q : n ≡ n + 0 = omega arith in subst (λ m. IsSmall m b) q s
+small_all n (w ∷ ws) b f p s =
+    let q : n + growth w + growth_of ws ≡ n + growth_of (w ∷ ws) = omega arith in
+    subst (λ m. IsSmall m (after ws (after_write w b))) q (small_all (n + growth w) ws (after_write w b) f.1 p.1 (small_after n w b f.0 p.0 s))
+
+-- ---- what is kept under a token is one row more, or in the place of one
+
+room_for_token : (token : Option Bytes) (ops : List Op) (n : ℕ) (replies : List OpReply) (b : Book) → length b.tokens ≤ 65600 → RoomAll (token_writes token ops n replies) b
+room_for_token None ops n replies b l = tt
+room_for_token (Some k) ops n replies b l =
+    let kept : KeptBatch = record { token = k; ops = ops; place = n; replies = replies } in
+    let size = length-with_row token_key k (Some kept) b.tokens in
+    let rest = others_le token_key k b.tokens in
+    (omega arith, tt)
+
+room_append : (xs ys : List RowWrite) (b : Book) → RoomAll xs b → RoomAll ys (after xs b) → RoomAll (xs ++ ys) b
+room_append [] ys b h k = k
+room_append (x ∷ xs) ys b h k = (h.0, room_append xs ys (after_write x b) h.1 k)
 
 -- ---- the names of an entry without fault
 
@@ -316,13 +350,22 @@ run_modest own m (op ∷ ops) b p f l =
 of_run : (P : RunEffect → Type 0) (r : RunResult) (t : RunEffect) → r ≡ Ok t → IfOk r P → P t
 of_run P r t e h = let k : IfOk {E = RefusedOp} (Ok t) P = subst (λ r. IfOk r P) e h in k
 
-pub room_in_run : RoomInRun
-room_in_run own most batch b t made l w e =
-    let sound = no_fault batch.domain batch.ops made.no_fault in
-    let few = sound.1 in
-    let faultless : AllByRecursion (λ op. op_fault own op ≡ None) batch.ops = subst (λ d. AllByRecursion (λ op. op_fault d op ≡ None) batch.ops) made.domain_is sound.2 in
+-- whichever replies are kept
+pub room_with : (own : Bytes) (most : ℕ) (batch : Batch) (n : ℕ) (replies : List OpReply) (b : Book) (t : RunEffect) → IsMadeFor own batch → Lawful own most b → IsWithinLimits b → run own batch.ops b ≡ Ok t → RoomAll (t.writes ++ token_writes batch.token batch.ops n replies) b
+room_with own most batch n replies b t made l w e =
+    let sound : AreFaultless batch.domain batch.ops = no_fault batch.domain batch.ops batch.token made.no_fault in
+    let few = sound.few in
+    let faultless : AllByRecursion (λ op. op_fault own op ≡ None) batch.ops = subst (λ d. AllByRecursion (λ op. op_fault d op ≡ None) batch.ops) made.domain_is sound.none in
     let modest : AreModest (length batch.ops) t.writes = of_run (λ t. AreModest (length batch.ops) t.writes) (run own batch.ops b) t e (run_modest own most batch.ops b made.proper faultless l) in
     let fits = of_run (λ t. FitAll t.writes b × AscendingBook (after t.writes b)) (run own batch.ops b) t e (run_fits own batch.ops b l.ascending) in
     let g = modest.grow in
-    let x = w.entries in let y = w.agents in let z = w.bundles in
-    room_all 0 t.writes b (omega arith) fits.0 modest.few (record { entries = omega arith; agents = omega arith; bundles = omega arith; few = few_in own most b l })
+    let x = w.entries in let y = w.agents in let z = w.bundles in let k = w.tokens in
+    let small : IsSmall 0 b = record { entries = omega arith; agents = omega arith; bundles = omega arith; tokens = omega arith; few = few_in own most b l } in
+    let left : IsSmall (0 + growth_of t.writes) (after t.writes b) = small_all 0 t.writes b fits.0 modest.few small in
+    let tokens = left.tokens in
+    room_append t.writes (token_writes batch.token batch.ops n replies) b
+    (room_all 0 t.writes b (omega arith) fits.0 modest.few small)
+    (room_for_token batch.token batch.ops n replies (after t.writes b) (omega arith))
+
+pub room_in_run : RoomInRun
+room_in_run own most batch n b t made l w e = room_with own most batch n t.replies b t made l w e

@@ -58,7 +58,7 @@ turns_identities End (At y) = refl
 turns_identities End End = refl
 
 pub turns_groups : Turns group_cmp
-turns_groups k l = turns_then _ _ _ _ (turns_then _ _ _ _ (turns_bytes k.0 l.0) (turns_identities k.1 l.1)) (turns_ids k.2 l.2)
+turns_groups k l = turns_then _ _ _ _ (turns_then _ _ _ _ (turns_identities k.0 l.0) (turns_identities k.1 l.1)) (turns_ids k.2 l.2)
 
 pub turns_users : Turns user_cmp
 turns_users k l = turns_then _ _ _ _ (turns_bytes k.0 l.0) (turns_ids k.1 l.1)

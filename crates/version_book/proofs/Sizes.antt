@@ -124,7 +124,7 @@ identity_itself (At x) = bytes_itself x
 identity_itself End = refl
 
 pub groups_size : (rows : List (CommittedRow Entry)) (index : List (GroupKey × CommittedRow Entry)) → IsInOrder group_cmp index → IsIndex group_keys rows index → length index ≤ count_of_keys group_keys rows
-groups_size rows index sorted i = index_size_by group_cmp (λ k. then_equal _ _ (then_equal _ _ (bytes_itself k.0) (identity_itself k.1)) (id_itself k.2)) group_keys rows index sorted i
+groups_size rows index sorted i = index_size_by group_cmp (λ k. then_equal _ _ (then_equal _ _ (identity_itself k.0) (identity_itself k.1)) (id_itself k.2)) group_keys rows index sorted i
 
 pub users_size : (rows : List (CommittedRow Entry)) (index : List (UserKey × CommittedRow Entry)) → IsInOrder user_cmp index → IsIndex user_keys rows index → length index ≤ count_of_keys user_keys rows
 users_size rows index sorted i = index_size_by user_cmp (λ k. then_equal _ _ (bytes_itself k.0) (id_itself k.1)) user_keys rows index sorted i

@@ -1,6 +1,7 @@
 -- What it tells of an older and a newer version that a mark has the same rows in both, with the same numbers.
-use Rattle.std.proofs.Common.{◌≡◌, Bool, true, false, List, sym, ap, ◌∙◌, IsTrue}
-use Rattle.std.proofs.lemmas.Bool.{both_ways, cases_Bool}
+use Rattle.std.proofs.Common.{◌≡◌, Bool, true, false, List, [], ◌∷◌, sym, ap, ◌∙◌, IsTrue}
+use Rattle.std.specs.List.{AllByRecursion, list_any}
+use Rattle.std.proofs.lemmas.Bool.{both_ways, cases_Bool, or_parts}
 use Rattle.std.proofs.Common.{⊎_elim}
 use Rattle.entry_book.specs.Batches.{Batch}
 use Rattle.entry_book.specs.Book.{AscendingBook}
@@ -8,6 +9,7 @@ use Rattle.version_book.specs.declared.mark.MarkKind.{MarkKind}
 use Rattle.version_book.specs.Marks.{Agree}
 use Rattle.version_book.specs.CommittedRows.{State, AllUpTo, book_of, marked}
 use Rattle.version_book.specs.History.{Follows, IsEarlier, any_hits}
+use Rattle.version_book.specs.Laws.{ChangedMarksHit, UnhitMarks}
 use Rattle.version_book.specs.Stores.{NumbersTell}
 use Rattle.version_book.proofs.Histories.{unhit_history}
 use Rattle.version_book.proofs.NamedRows.{book_reads}
@@ -25,3 +27,20 @@ module _ (m : MarkKind) (older newer : State) (ascending : AscendingBook (book_o
 
   pub some_hits : (Same → IsTrue result) → (batches : List Batch) → Follows older batches newer → result ≡ false → any_hits m older batches ≡ true
   some_hits same batches f h = ⊎_elim (λ t. t) (λ n. absurd (both_ways result h (same (unhit_history m batches older newer ascending f n)))) (cases_Bool (any_hits m older batches))
+
+-- ---- lists of marks
+
+module _ (batches : List Batch) (older newer : State) (ascending : AscendingBook (book_of older.rows)) (follows : Follows older batches newer) where
+  unhit_rows : (ms : List MarkKind) → list_any (λ m. any_hits m older batches) ms ≡ false → AllByRecursion (λ m. marked m older.rows ≡ marked m newer.rows) ms
+  unhit_rows [] h = tt
+  unhit_rows (m ∷ ms) h = let r = or_parts (any_hits m older batches) (list_any (λ m. any_hits m older batches) ms) h in (unhit_history m batches older newer ascending follows r.0, unhit_rows ms r.1)
+
+  all_agree : (ms : List MarkKind) → AllByRecursion (λ m. marked m older.rows ≡ marked m newer.rows) ms → AllByRecursion (λ m. Agree (book_of older.rows) (book_of newer.rows) m) ms
+  all_agree [] h = tt
+  all_agree (m ∷ ms) h = (book_reads m older.rows ∙ (ap book_of h.0 ∙ sym (book_reads m newer.rows)), all_agree ms h.1)
+
+pub unhit_marks : UnhitMarks
+unhit_marks ms batches older newer a f h = all_agree batches older newer a f ms (unhit_rows batches older newer a f ms h)
+
+pub changed_marks_hit : ChangedMarksHit
+changed_marks_hit ms batches older newer a f n = ⊎_elim (λ t. t) (λ h. absurd (n (unhit_rows batches older newer a f ms h))) (cases_Bool (list_any (λ m. any_hits m older batches) ms))

@@ -7,18 +7,20 @@ use Rattle.entry_book.proofs.Keys.{from_with_row}
 use Rattle.entry_book.proofs.Sets.{from_any, from_within_filter, text_is, text_same, within_any}
 use Rattle.entry_book.specs.declared.agent.Agent.{Agent}
 use Rattle.entry_book.specs.declared.bundle.Bundle.{Bundle}
+use Rattle.entry_book.specs.declared.kept.KeptBatch.{KeptBatch}
 use Rattle.entry_book.specs.Rows.{Bytes, Entry, entry_key, agent_key, bundle_key}
+use Rattle.entry_book.specs.Tokens.{token_key}
 use Rattle.entry_book.specs.Order.{Within, with_row}
 use Rattle.entry_book.specs.Book.{Book, AscendingBook}
-use Rattle.entry_book.specs.Writes.{RowChange, RowWrite, wrote_entry, wrote_agent, wrote_bundle, FitsRows, FitsBook, FitAll, after_write}
+use Rattle.entry_book.specs.Writes.{RowChange, RowWrite, wrote_entry, wrote_agent, wrote_bundle, wrote_token, FitsRows, FitsBook, FitAll, after_write}
 use Rattle.entry_book.specs.Batches.{Batch}
-use Rattle.entry_book.specs.History.{last_book, books_after, books_from}
+use Rattle.entry_book.specs.History.{last_book, place_of, books_after, books_from}
 use Rattle.version_book.specs.declared.mark.MarkKind.{MarkKind}
 use Rattle.version_book.specs.declared.mark.MarkKind.TheVariants as mark
 use Rattle.version_book.specs.declared.committed_row.CommittedRow.{CommittedRow}
-use Rattle.version_book.specs.Marks.{hits, passes, names_entry, names_agent, names_bundle}
+use Rattle.version_book.specs.Marks.{hits, passes, names_entry, names_agent, names_bundle, names_token}
 use Rattle.version_book.specs.CommittedRows.{CommittedRows, State, row_of, numbered, of_row, book_of, rows_after, rows_after_write}
-use Rattle.version_book.specs.History.{Follows, IsLast, LastHit, SomeHit, any_hits, state_with, writes_of}
+use Rattle.version_book.specs.History.{Follows, IsLast, LastHit, SomeHit, any_hits, state_with, writes_at, writes_of}
 use Rattle.version_book.specs.Laws.{HitsInBooks, LastWritten}
 use Rattle.version_book.proofs.Batches.{stands_next}
 use Rattle.version_book.proofs.Histories.{ascending_next, writes_fit}
@@ -40,23 +42,27 @@ neither false b h k = k
 
 -- ---- hits, in the words of the list of all books
 
+-- the writes of a batch, as the book after a list of books for whose last one a version stands
+writes_there : (batch : Batch) (s : State) (books : List Book) → IsLast s books → writes_of batch (place_of books + 1) (last_book books) ≡ writes_at batch s
+writes_there batch s books k = ap (λ n. writes_of batch (n + 1) (last_book books)) k.place ∙ ap (writes_of batch (s.number + 1)) k.book
+
 found_in_books : (m : MarkKind) (batches : List Batch) (older newer : State) (books : List Book) → 0 < length books → IsLast older books → Follows older batches newer → any_hits m older batches ≡ true → SomeHit m books batches
 found_in_books m [] older newer books l k f h = cc
 found_in_books m (batch ∷ batches) older newer books l k f h = ⊎_elim
     (λ here.
-    let w = from_any (λ w. hits w m) (writes_of batch (book_of older.rows)) here in
-    record { before = []; batch = batch; later = batches; split = refl; write = w.0; is_made = subst (λ b. Within (writes_of batch b) w.0) (sym k.book) w.1; hit = w.2 })
+    let w = from_any (λ w. hits w m) (writes_at batch older) here in
+    record { before = []; batch = batch; later = batches; split = refl; write = w.0; is_made = subst (λ ws. Within ws w.0) (sym (writes_there batch older books k)) w.1; hit = w.2 })
     (λ there.
     let n = stands_next batch older books l k f.0 in
     let r = found_in_books m batches (state_with batch older) newer (books_after batch books) n.1 n.0 f.1 there in
     record { before = batch ∷ r.before; batch = r.batch; later = r.later; split = ap (λ bs. batch ∷ bs) r.split; write = r.write; is_made = r.is_made; hit = r.hit })
-    (or_cases (list_any (λ w. hits w m) (writes_of batch (book_of older.rows))) (any_hits m (state_with batch older) batches) h)
+    (or_cases (list_any (λ w. hits w m) (writes_at batch older)) (any_hits m (state_with batch older) batches) h)
 
-from_books : (m : MarkKind) (before : List Batch) (batch : Batch) (later : List Batch) (older newer : State) (books : List Book) → 0 < length books → IsLast older books → Follows older (before ++ batch ∷ later) newer → (w : RowWrite) → Within (writes_of batch (last_book (books_from books before))) w → hits w m ≡ true → any_hits m older (before ++ batch ∷ later) ≡ true
-from_books m [] batch later older newer books l k f w i h = left_is (list_any (λ w. hits w m) (writes_of batch (book_of older.rows))) (any_hits m (state_with batch older) later) (within_any (λ w. hits w m) (writes_of batch (book_of older.rows)) w (subst (λ b. Within (writes_of batch b) w) k.book i) h)
+from_books : (m : MarkKind) (before : List Batch) (batch : Batch) (later : List Batch) (older newer : State) (books : List Book) → 0 < length books → IsLast older books → Follows older (before ++ batch ∷ later) newer → (w : RowWrite) → Within (writes_of batch (place_of (books_from books before) + 1) (last_book (books_from books before))) w → hits w m ≡ true → any_hits m older (before ++ batch ∷ later) ≡ true
+from_books m [] batch later older newer books l k f w i h = left_is (list_any (λ w. hits w m) (writes_at batch older)) (any_hits m (state_with batch older) later) (within_any (λ w. hits w m) (writes_at batch older) w (subst (λ ws. Within ws w) (writes_there batch older books k) i) h)
 from_books m (first ∷ before) batch later older newer books l k f w i h =
     let n = stands_next first older books l k f.0 in
-    right_is (list_any (λ w. hits w m) (writes_of first (book_of older.rows))) (any_hits m (state_with first older) (before ++ batch ∷ later)) (from_books m before batch later (state_with first older) newer (books_after first books) n.1 n.0 f.1 w i h)
+    right_is (list_any (λ w. hits w m) (writes_at first older)) (any_hits m (state_with first older) (before ++ batch ∷ later)) (from_books m before batch later (state_with first older) newer (books_after first books) n.1 n.0 f.1 w i h)
 
 pub hits_in_books : HitsInBooks
 hits_in_books m batches older newer books l k f = (
@@ -118,16 +124,25 @@ entry_written n (wrote_entry c) rows r f v = ⊎_elim
     (row_written entry_key n c rows.entries r f (new_key entry_key c.key c.new f.keyed) v)
 entry_written n (wrote_agent c) rows r f v = let m = mark.Entry r.row.id in inr (neither (passes (names_agent m) c.old) (passes (names_agent m) c.new) (never (names_agent m) c.old (λ x. refl)) (never (names_agent m) c.new (λ x. refl)), v)
 entry_written n (wrote_bundle c) rows r f v = let m = mark.Entry r.row.id in inr (neither (passes (names_bundle m) c.old) (passes (names_bundle m) c.new) (never (names_bundle m) c.old (λ x. refl)) (never (names_bundle m) c.new (λ x. refl)), v)
+entry_written n (wrote_token c) rows r f v = let m = mark.Entry r.row.id in inr (neither (passes (names_token m) c.old) (passes (names_token m) c.new) (never (names_token m) c.old (λ x. refl)) (never (names_token m) c.new (λ x. refl)), v)
 
 agent_written : (n : ℕ) (w : RowWrite) (rows : CommittedRows) (r : CommittedRow Agent) → FitsBook w (book_of rows) → Within (rows_after_write n w rows).agents r → Wrote (hits w (mark.Agent (agent_key r.row))) n rows.agents r
 agent_written n (wrote_entry c) rows r f v = let m = mark.Agent r.row.id in inr (neither (passes (names_entry m) c.old) (passes (names_entry m) c.new) (never (names_entry m) c.old (λ x. refl)) (never (names_entry m) c.new (λ x. refl)), v)
 agent_written n (wrote_agent c) rows r f v = ⊎_elim (λ h. inl h) (λ h. inr (h.0, h.1)) (row_written agent_key n c rows.agents r f (new_key agent_key c.key c.new f.keyed) v)
 agent_written n (wrote_bundle c) rows r f v = let m = mark.Agent r.row.id in inr (neither (passes (names_bundle m) c.old) (passes (names_bundle m) c.new) (never (names_bundle m) c.old (λ x. refl)) (never (names_bundle m) c.new (λ x. refl)), v)
+agent_written n (wrote_token c) rows r f v = let m = mark.Agent r.row.id in inr (neither (passes (names_token m) c.old) (passes (names_token m) c.new) (never (names_token m) c.old (λ x. refl)) (never (names_token m) c.new (λ x. refl)), v)
 
 bundle_written : (n : ℕ) (w : RowWrite) (rows : CommittedRows) (r : CommittedRow Bundle) → FitsBook w (book_of rows) → Within (rows_after_write n w rows).bundles r → Wrote (hits w (mark.Bundle (bundle_key r.row))) n rows.bundles r
 bundle_written n (wrote_entry c) rows r f v = let m = mark.Bundle r.row.domain in inr (neither (passes (names_entry m) c.old) (passes (names_entry m) c.new) (never (names_entry m) c.old (λ x. refl)) (never (names_entry m) c.new (λ x. refl)), v)
 bundle_written n (wrote_agent c) rows r f v = let m = mark.Bundle r.row.domain in inr (neither (passes (names_agent m) c.old) (passes (names_agent m) c.new) (never (names_agent m) c.old (λ x. refl)) (never (names_agent m) c.new (λ x. refl)), v)
 bundle_written n (wrote_bundle c) rows r f v = ⊎_elim (λ h. inl h) (λ h. inr (h.0, h.1)) (row_written bundle_key n c rows.bundles r f (new_key bundle_key c.key c.new f.keyed) v)
+bundle_written n (wrote_token c) rows r f v = let m = mark.Bundle r.row.domain in inr (neither (passes (names_token m) c.old) (passes (names_token m) c.new) (never (names_token m) c.old (λ x. refl)) (never (names_token m) c.new (λ x. refl)), v)
+
+token_written : (n : ℕ) (w : RowWrite) (rows : CommittedRows) (r : CommittedRow KeptBatch) → FitsBook w (book_of rows) → Within (rows_after_write n w rows).tokens r → Wrote (hits w (mark.Token (token_key r.row))) n rows.tokens r
+token_written n (wrote_entry c) rows r f v = let m = mark.Token r.row.token in inr (neither (passes (names_entry m) c.old) (passes (names_entry m) c.new) (never (names_entry m) c.old (λ x. refl)) (never (names_entry m) c.new (λ x. refl)), v)
+token_written n (wrote_agent c) rows r f v = let m = mark.Token r.row.token in inr (neither (passes (names_agent m) c.old) (passes (names_agent m) c.new) (never (names_agent m) c.old (λ x. refl)) (never (names_agent m) c.new (λ x. refl)), v)
+token_written n (wrote_bundle c) rows r f v = let m = mark.Token r.row.token in inr (neither (passes (names_bundle m) c.old) (passes (names_bundle m) c.new) (never (names_bundle m) c.old (λ x. refl)) (never (names_bundle m) c.new (λ x. refl)), v)
+token_written n (wrote_token c) rows r f v = ⊎_elim (λ h. inl h) (λ h. inr (h.0, h.1)) (row_written token_key n c rows.tokens r f (new_key token_key c.key c.new f.keyed) v)
 
 -- ---- rows after batches
 
@@ -155,7 +170,7 @@ module _ {X : Type 0} (mark_of : X → MarkKind) (rows_of : CommittedRows → Li
   last_written_of [] older newer a f r v = inr (refl, subst (λ s. Within (rows_of s.rows) r) (sym f) v)
   last_written_of (batch ∷ batches) older newer a f r v =
       let m : MarkKind = mark_of r.row in
-      let ws : List RowWrite = writes_of batch (book_of older.rows) in
+      let ws : List RowWrite = writes_at batch older in
       ⊎_elim
       (λ h. inl (later_hit m batch batches older r.commit h))
       (λ h. ⊎_elim
@@ -169,4 +184,5 @@ last_written batches older newer a f = record {
   entries = last_written_of (λ e. mark.Entry (entry_key e)) (λ rows. rows.entries) entry_written batches older newer a f;
   agents = last_written_of (λ u. mark.Agent (agent_key u)) (λ rows. rows.agents) agent_written batches older newer a f;
   bundles = last_written_of (λ d. mark.Bundle (bundle_key d)) (λ rows. rows.bundles) bundle_written batches older newer a f;
+  tokens = last_written_of (λ k. mark.Token (token_key k)) (λ rows. rows.tokens) token_written batches older newer a f;
 }

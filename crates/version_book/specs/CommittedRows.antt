@@ -3,13 +3,15 @@ use Rattle.std.specs.Prelude.{ℕ, ◌+◌, ◌≤◌, List, [], ◌∷◌, filt
 use Rattle.std.specs.List.{AllByRecursion}
 use Rattle.entry_book.specs.declared.agent.Agent.{Agent}
 use Rattle.entry_book.specs.declared.bundle.Bundle.{Bundle}
+use Rattle.entry_book.specs.declared.kept.KeptBatch.{KeptBatch}
 use Rattle.entry_book.specs.Rows.{Bytes, Entry, entry_key, agent_key, bundle_key}
+use Rattle.entry_book.specs.Tokens.{token_key}
 use Rattle.entry_book.specs.Order.{with_row}
 use Rattle.entry_book.specs.Book.{Book}
-use Rattle.entry_book.specs.Writes.{RowWrite, wrote_entry, wrote_agent, wrote_bundle}
+use Rattle.entry_book.specs.Writes.{RowWrite, wrote_entry, wrote_agent, wrote_bundle, wrote_token}
 use Rattle.version_book.specs.declared.mark.MarkKind.{MarkKind}
 use Rattle.version_book.specs.declared.committed_row.CommittedRow.{CommittedRow}
-use Rattle.version_book.specs.Marks.{names_entry, names_agent, names_bundle}
+use Rattle.version_book.specs.Marks.{names_entry, names_agent, names_bundle, names_token}
 
 abbrev pub row_of : {X : Type 0} → CommittedRow X → X
 row_of r = r.row
@@ -25,23 +27,25 @@ pub record CommittedRows : Type 0 where
   pub entries : List (CommittedRow Entry)
   pub agents : List (CommittedRow Agent)
   pub bundles : List (CommittedRow Bundle)
+  pub tokens : List (CommittedRow KeptBatch)
 
 abbrev pub no_rows : CommittedRows
-no_rows = record { entries = []; agents = []; bundles = [] }
+no_rows = record { entries = []; agents = []; bundles = []; tokens = [] }
 
 -- the book that these rows are
 abbrev pub book_of : CommittedRows → Book
-book_of rows = record { entries = map row_of rows.entries; agents = map row_of rows.agents; bundles = map row_of rows.bundles }
+book_of rows = record { entries = map row_of rows.entries; agents = map row_of rows.agents; bundles = map row_of rows.bundles; tokens = map row_of rows.tokens }
 
 -- the rows that a mark names, in the order of their keys
 abbrev pub marked : MarkKind → CommittedRows → CommittedRows
-marked m rows = record { entries = filter (of_row (names_entry m)) rows.entries; agents = filter (of_row (names_agent m)) rows.agents; bundles = filter (of_row (names_bundle m)) rows.bundles }
+marked m rows = record { entries = filter (of_row (names_entry m)) rows.entries; agents = filter (of_row (names_agent m)) rows.agents; bundles = filter (of_row (names_bundle m)) rows.bundles; tokens = filter (of_row (names_token m)) rows.tokens }
 
 -- no number is above n
 pub record AllUpTo (n : ℕ) (rows : CommittedRows) : Type 0 where
   pub entries : AllByRecursion (λ r. r.commit ≤ n) rows.entries
   pub agents : AllByRecursion (λ r. r.commit ≤ n) rows.agents
   pub bundles : AllByRecursion (λ r. r.commit ≤ n) rows.bundles
+  pub tokens : AllByRecursion (λ r. r.commit ≤ n) rows.tokens
 
 -- ---- writes of a commit
 
@@ -50,6 +54,7 @@ abbrev pub rows_after_write : ℕ → RowWrite → CommittedRows → CommittedRo
 rows_after_write n (wrote_entry c) rows = record rows { entries = with_row (of_row entry_key) c.key (option_map (numbered n) c.new) rows.entries }
 rows_after_write n (wrote_agent c) rows = record rows { agents = with_row (of_row agent_key) c.key (option_map (numbered n) c.new) rows.agents }
 rows_after_write n (wrote_bundle c) rows = record rows { bundles = with_row (of_row bundle_key) c.key (option_map (numbered n) c.new) rows.bundles }
+rows_after_write n (wrote_token c) rows = record rows { tokens = with_row (of_row token_key) c.key (option_map (numbered n) c.new) rows.tokens }
 
 -- the rows after these writes, one after another
 abbrev pub rows_after : ℕ → List RowWrite → CommittedRows → CommittedRows

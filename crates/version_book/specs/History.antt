@@ -1,5 +1,5 @@
 -- How versions follow one another: by batches that commit as the plain book says.
-use Rattle.std.specs.Prelude.{◌≡◌, ℕ, ◌+◌, Bool, true, false, ◌||◌, List, [], ◌∷◌, ◌++◌, length, Ok, Err}
+use Rattle.std.specs.Prelude.{◌≡◌, ℕ, ◌+◌, Bool, true, false, ◌||◌, List, [], ◌∷◌, ◌++◌, length, Some, Ok, Err}
 use Rattle.std.specs.List.{list_any}
 use Rattle.entry_book.specs.declared.reply.OpReply.{OpReply}
 use Rattle.entry_book.specs.declared.reply.Reply.{Reply}
@@ -8,30 +8,34 @@ use Rattle.entry_book.specs.Book.{Book}
 use Rattle.entry_book.specs.Writes.{RowWrite}
 use Rattle.entry_book.specs.Runs.{RunResult, run}
 use Rattle.entry_book.specs.Batches.{Batch, IsMadeFor}
-use Rattle.entry_book.specs.History.{verdict, adds, reply_with, last_book, place_of, books_from}
+use Rattle.entry_book.specs.History.{verdict, adds, batch_writes, reply_with, last_book, place_of, books_from}
 use Rattle.version_book.specs.declared.mark.MarkKind.{MarkKind}
 use Rattle.version_book.specs.Marks.{hits}
 use Rattle.version_book.specs.CommittedRows.{State, book_of, next_state}
 
 -- ---- one batch
 
-abbrev pub writes_in : RunResult → List RowWrite
-writes_in (Ok t) = t.writes
-writes_in (Err s) = []
+abbrev pub writes_in : Batch → ℕ → RunResult → List RowWrite
+writes_in batch n (Ok t) = batch_writes batch n t
+writes_in batch n (Err s) = []
 
--- the writes of a batch, run on a book
-abbrev pub writes_of : Batch → Book → List RowWrite
-writes_of batch b = writes_in (run batch.domain batch.ops b)
+-- all writes of a batch as book n, run on the book before it: those of its operations, and then that of its token
+abbrev pub writes_of : Batch → ℕ → Book → List RowWrite
+writes_of batch n b = writes_in batch n (run batch.domain batch.ops b)
+
+-- those that make the version after this one
+abbrev pub writes_at : Batch → State → List RowWrite
+writes_at batch s = writes_of batch (s.number + 1) (book_of s.rows)
 
 -- the version after a batch
 abbrev pub state_with : Batch → State → State
-state_with batch s = next_state (writes_of batch (book_of s.rows)) s
+state_with batch s = next_state (writes_at batch s) s
 
 -- The batch commits on the version: it was made for its trust domain, and the plain book adds the book of the version after it.
 pub record Commits (batch : Batch) (s : State) : Type 0 where
   pub made : IsMadeFor s.domain batch
   pub replies : List OpReply
-  pub added : verdict batch s.number (book_of s.rows) ≡ adds replies (book_of (state_with batch s).rows)
+  pub added : verdict batch s.number (Some (book_of s.rows)) ≡ adds replies (book_of (state_with batch s).rows)
 
 -- ---- many batches
 
@@ -52,12 +56,12 @@ IsEarlier older newer = (batches : List Batch) × Follows older batches newer
 -- one of the batches, run one after another from the older version on, makes a write that hits the mark
 abbrev pub any_hits : MarkKind → State → List Batch → Bool
 any_hits m older [] = false
-any_hits m older (batch ∷ batches) = list_any (λ w. hits w m) (writes_of batch (book_of older.rows)) || any_hits m (state_with batch older) batches
+any_hits m older (batch ∷ batches) = list_any (λ w. hits w m) (writes_at batch older) || any_hits m (state_with batch older) batches
 
 -- the replies to these batches, each at the version that the earlier ones left
 abbrev pub replies_on : List Batch → State → List Reply
 replies_on [] s = []
-replies_on (batch ∷ batches) s = reply_with s.number (verdict batch s.number (book_of s.rows)) ∷ replies_on batches (state_with batch s)
+replies_on (batch ∷ batches) s = reply_with s.number (verdict batch s.number (Some (book_of s.rows))) ∷ replies_on batches (state_with batch s)
 
 -- ---- beside the list of all books
 
@@ -73,7 +77,7 @@ pub record SomeHit (m : MarkKind) (books : List Book) (batches : List Batch) : T
   pub later : List Batch
   pub split : batches ≡ before ++ batch ∷ later
   pub write : RowWrite
-  pub is_made : Within (writes_of batch (last_book (books_from books before))) write
+  pub is_made : Within (writes_of batch (place_of (books_from books before) + 1) (last_book (books_from books before))) write
   pub hit : hits write m ≡ true
 
 -- The last of the batches that makes a write that hits the mark makes the version of this number.
@@ -83,5 +87,5 @@ pub record LastHit (m : MarkKind) (older : State) (batches : List Batch) (n : �
   pub later : List Batch
   pub split : batches ≡ before ++ batch ∷ later
   pub number : n ≡ older.number + length before + 1
-  pub hit : list_any (λ w. hits w m) (writes_of batch (book_of (state_after before older).rows)) ≡ true
+  pub hit : list_any (λ w. hits w m) (writes_at batch (state_after before older)) ≡ true
   pub none_later : any_hits m (state_with batch (state_after before older)) later ≡ false

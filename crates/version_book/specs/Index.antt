@@ -1,4 +1,4 @@
--- The keys of indexes, and what an index has. The start stands before all ids, and the end after them.
+-- The keys of indexes, and what an index has. The start stands before all values of a part, and the end after them.
 use Rattle.std.specs.Prelude.{◌≡◌, ℕ, Bool, true, ◌&&◌, nat_lt, List, [], ◌∷◌, map, if◌then◌else◌}
 use Rattle.std.specs.declared.cmp.Ordering.{Ordering}
 use Rattle.std.specs.Ordering.{is_eq, is_lt, is_ge}
@@ -15,7 +15,7 @@ use Rattle.version_book.specs.declared.committed_row.CommittedRow.{CommittedRow}
 -- ---- the keys of an entry
 
 abbrev pub GroupKey : Type 0
-GroupKey = Bytes × KeyPart Bytes × KeyPart Bytes
+GroupKey = KeyPart Bytes × KeyPart Bytes × KeyPart Bytes
 
 abbrev pub UserKey : Type 0
 UserKey = Bytes × KeyPart Bytes
@@ -25,7 +25,7 @@ ExpiryKey = ℕ × KeyPart Bytes
 
 -- each entry stands once under its parent and identity
 abbrev pub group_keys : Entry → List GroupKey
-group_keys e = (e.parent, At e.identity, At e.id) ∷ []
+group_keys e = (At e.parent, At e.identity, At e.id) ∷ []
 
 -- and once under each domain that it names
 abbrev pub user_keys : Entry → List UserKey
@@ -55,13 +55,12 @@ pub record Covers {K : Type 0} (cmp : K → K → Ordering) (keys : Entry → Li
 -- ---- the bounds of a mark's range
 
 abbrev pub index_range_of : MarkKind → IndexRange
-index_range_of (mark.Entry id) = SingleRow
-index_range_of (mark.Group parent identity) = Groups (parent, At identity, Start) (parent, At identity, End)
-index_range_of (mark.Children parent) = Groups (parent, Start, Start) (parent, End, End)
+index_range_of (mark.Group parent identity) = Groups (At parent, At identity, Start) (At parent, At identity, End)
+index_range_of (mark.Children parent) = Groups (At parent, Start, Start) (At parent, End, End)
 index_range_of (mark.Users domain) = Users (domain, Start) (domain, End)
 index_range_of (mark.Expiring moment) = Expiries (0, Start) (moment, Start)
-index_range_of (mark.Agent id) = SingleRow
-index_range_of (mark.Bundle domain) = SingleRow
+index_range_of mark.All = Groups (Start, Start, Start) (End, End, End)
+index_range_of m = SingleRow
 
 -- ---- what holds of the keys of an index
 

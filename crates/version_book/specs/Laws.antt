@@ -1,16 +1,17 @@
 -- The laws of marks and versions. Each is a clause of a function of the module `laws`.
-use Rattle.std.specs.Prelude.{◌≡◌, ◌↔◌, ◌⊎◌, ℕ, ◌+◌, ◌*◌, ◌<◌, true, false, List, ◌++◌, length, map, option_to_list, slice_get, Some, None, Ok}
-use Rattle.std.specs.List.{AllByRecursion}
+use Rattle.std.specs.Prelude.{◌≡◌, ◌↔◌, ◌⊎◌, ℕ, ◌+◌, ◌*◌, ◌<◌, ◌≤◌, true, false, List, ◌++◌, length, map, option_to_list, slice_get, Some, None, Ok, IfOk}
+use Rattle.std.specs.List.{AllByRecursion, list_any}
 use Rattle.entry_book.specs.Rows.{Bytes, Entry, entry_key, agent_key, bundle_key}
+use Rattle.entry_book.specs.Tokens.{token_key}
 use Rattle.entry_book.specs.Order.{Within}
-use Rattle.entry_book.specs.Book.{Book, AscendingBook, entry_at, agent_at, bundle_at, group_of, children_of, users_of, expired_before, empty_book}
+use Rattle.entry_book.specs.Book.{Book, AscendingBook, entry_at, agent_at, bundle_at, token_at, group_of, children_of, users_of, expired_before, empty_book}
 use Rattle.entry_book.specs.Writes.{RowWrite, after, FitAll}
 use Rattle.entry_book.specs.Batches.{Batch, IsMadeFor, is_query}
 use Rattle.entry_book.specs.Runs.{RunEffect, run}
 use Rattle.entry_book.specs.Limits.{limit_passed}
 use Rattle.entry_book.specs.Lawful.{Lawful}
 use Rattle.entry_book.specs.Laws.{IsWithinLimits}
-use Rattle.entry_book.specs.History.{last_book, place_of, books_from, CommitAll}
+use Rattle.entry_book.specs.History.{last_book, place_of, batch_writes, kept_under, books_from, CommitAll}
 use Rattle.entry_book.specs.Worked.{replies_from}
 use Rattle.version_book.specs.declared.mark.MarkKind.{MarkKind}
 use Rattle.version_book.specs.declared.mark.MarkKind.TheVariants as mark
@@ -20,6 +21,7 @@ use Rattle.version_book.specs.Marks.{reads, Agree, hits, seen}
 use Rattle.version_book.specs.CommittedRows.{CommittedRows, State, book_of, marked, AllUpTo, rows_after, next_state}
 use Rattle.version_book.specs.History.{Commits, Follows, IsLast, LastHit, SomeHit, any_hits, replies_on, state_after, state_with}
 use Rattle.version_book.specs.Room.{RoomAll}
+use Rattle.version_book.specs.Written.{placed}
 
 -- ---- what each mark reads, in the words of the book's own questions
 
@@ -41,11 +43,17 @@ ReadsUsers = (domain : Bytes) (b : Book) → reads (mark.Users domain) b ≡ ent
 abbrev pub ReadsExpiring : Type 0
 ReadsExpiring = (moment : ℕ) (b : Book) → reads (mark.Expiring moment) b ≡ entries_alone (expired_before moment b)
 
+abbrev pub ReadsAll : Type 0
+ReadsAll = (b : Book) → reads mark.All b ≡ entries_alone b.entries
+
 abbrev pub ReadsAgent : Type 0
 ReadsAgent = (id : Bytes) (b : Book) → AscendingBook b → reads (mark.Agent id) b ≡ record empty_book { agents = option_to_list (agent_at id b) }
 
 abbrev pub ReadsBundle : Type 0
 ReadsBundle = (domain : Bytes) (b : Book) → AscendingBook b → reads (mark.Bundle domain) b ≡ record empty_book { bundles = option_to_list (bundle_at domain b) }
+
+abbrev pub ReadsToken : Type 0
+ReadsToken = (token : Bytes) (b : Book) → AscendingBook b → reads (mark.Token token) b ≡ record empty_book { tokens = option_to_list (token_at token b) }
 
 -- ---- reads and writes
 
@@ -61,6 +69,16 @@ AgreeAfter = (ws : List RowWrite) (b c : Book) (m : MarkKind) → Agree b c m �
 abbrev pub Unhit : Type 0
 Unhit = (ws : List RowWrite) (b : Book) (m : MarkKind) → AscendingBook b → FitAll ws b → AllByRecursion (λ w. hits w m ≡ false) ws → Agree b (after ws b) m
 
+-- ---- places
+
+-- where the place is put into a batch's writes, they are its writes as the book of this number, whichever place they had
+abbrev pub PlacesPut : Type 0
+PlacesPut = (batch : Batch) (b : Book) (m n : ℕ) → IfOk (run batch.domain batch.ops b) (λ t. placed n (batch_writes batch m t) ≡ batch_writes batch n t)
+
+-- writes hit the same marks, whichever place is put into them
+abbrev pub HitsAtAnyPlace : Type 0
+HitsAtAnyPlace = (n : ℕ) (ws : List RowWrite) (m : MarkKind) → list_any (λ w. hits w m) (placed n ws) ≡ list_any (λ w. hits w m) ws
+
 -- ---- versions
 
 -- the book of a version after writes is the book after these writes
@@ -73,9 +91,9 @@ BookReads = (m : MarkKind) (rows : CommittedRows) → reads m (book_of rows) ≡
 
 -- ---- histories
 
--- A batch of changes that runs on a version's book, and passes no limit, commits on it: the version after it has its writes.
+-- A batch of changes that may run at a version's number, whose token isn't kept, that runs on its book, and passes no limit, commits on it: the version after it has its writes.
 abbrev pub BatchCommits : Type 0
-BatchCommits = (batch : Batch) (s : State) (t : RunEffect) → IsMadeFor s.domain batch → is_query batch.ops ≡ false → run batch.domain batch.ops (book_of s.rows) ≡ Ok t → limit_passed s.number (after t.writes (book_of s.rows)) ≡ None → Commits batch s × (state_with batch s ≡ next_state t.writes s)
+BatchCommits = (batch : Batch) (s : State) (t : RunEffect) → IsMadeFor s.domain batch → is_query batch.ops ≡ false → batch.after ≤ s.number → kept_under batch.token (book_of s.rows) ≡ None → run batch.domain batch.ops (book_of s.rows) ≡ Ok t → limit_passed s.number (after (batch_writes batch (s.number + 1) t) (book_of s.rows)) ≡ None → Commits batch s × (state_with batch s ≡ next_state (batch_writes batch (s.number + 1) t) s)
 
 -- histories are joined, so a history goes on with any batch that commits on its last version
 abbrev pub FollowsJoined : Type 0
@@ -101,13 +119,21 @@ LawfulFollows = (batches : List Batch) (older newer : State) → Lawful older.do
 abbrev pub UnhitHistory : Type 0
 UnhitHistory = (m : MarkKind) (batches : List Batch) (older newer : State) → AscendingBook (book_of older.rows) → Follows older batches newer → any_hits m older batches ≡ false → marked m older.rows ≡ marked m newer.rows
 
--- the run of a batch on a lawful book within the limits has room for all of its rows
-abbrev pub RoomInRun : Type 0
-RoomInRun = (own : Bytes) (most : ℕ) (batch : Batch) (b : Book) (t : RunEffect) → IsMadeFor own batch → Lawful own most b → IsWithinLimits b → run own batch.ops b ≡ Ok t → RoomAll t.writes b
+-- where no batch since makes a write that hits one of these marks, both books read the same at each of them
+abbrev pub UnhitMarks : Type 0
+UnhitMarks = (ms : List MarkKind) (batches : List Batch) (older newer : State) → AscendingBook (book_of older.rows) → Follows older batches newer → list_any (λ m. any_hits m older batches) ms ≡ false → AllByRecursion (λ m. Agree (book_of older.rows) (book_of newer.rows) m) ms
 
--- the writes of a batch that runs on a lawful version within the limits may be applied to it
+-- where not all of these marks have the same rows in both versions, with the same numbers, some batch since makes a write that hits one of them
+abbrev pub ChangedMarksHit : Type 0
+ChangedMarksHit = (ms : List MarkKind) (batches : List Batch) (older newer : State) → AscendingBook (book_of older.rows) → Follows older batches newer → (AllByRecursion (λ m. marked m older.rows ≡ marked m newer.rows) ms → ⊥) → list_any (λ m. any_hits m older batches) ms ≡ true
+
+-- the run of a batch on a lawful book within the limits has room for all of its rows, and for what is kept under its token
+abbrev pub RoomInRun : Type 0
+RoomInRun = (own : Bytes) (most : ℕ) (batch : Batch) (n : ℕ) (b : Book) (t : RunEffect) → IsMadeFor own batch → Lawful own most b → IsWithinLimits b → run own batch.ops b ≡ Ok t → RoomAll (batch_writes batch n t) b
+
+-- all writes of a batch that runs on a lawful version within the limits, where its token isn't kept, may be applied to it
 abbrev pub RunMayApply : Type 0
-RunMayApply = (batch : Batch) (s : State) (t : RunEffect) → IsMadeFor s.domain batch → Lawful s.domain (64 * s.number) (book_of s.rows) → IsWithinLimits (book_of s.rows) → run batch.domain batch.ops (book_of s.rows) ≡ Ok t → MayApply t.writes (s.number + 1) s
+RunMayApply = (batch : Batch) (s : State) (t : RunEffect) → IsMadeFor s.domain batch → Lawful s.domain (64 * s.number) (book_of s.rows) → IsWithinLimits (book_of s.rows) → kept_under batch.token (book_of s.rows) ≡ None → run batch.domain batch.ops (book_of s.rows) ≡ Ok t → MayApply (batch_writes batch (s.number + 1) t) (s.number + 1) s
 
 -- ---- lists of batches
 
@@ -159,6 +185,7 @@ pub record HaveLastNumbers (older : State) (batches : List Batch) (newer : State
   pub entries : HasLastNumber (λ e. mark.Entry (entry_key e)) older.rows.entries older batches newer.rows.entries
   pub agents : HasLastNumber (λ a. mark.Agent (agent_key a)) older.rows.agents older batches newer.rows.agents
   pub bundles : HasLastNumber (λ d. mark.Bundle (bundle_key d)) older.rows.bundles older batches newer.rows.bundles
+  pub tokens : HasLastNumber (λ k. mark.Token (token_key k)) older.rows.tokens older batches newer.rows.tokens
 
 abbrev pub LastWritten : Type 0
 LastWritten = (batches : List Batch) (older newer : State) → AscendingBook (book_of older.rows) → Follows older batches newer → HaveLastNumbers older batches newer

@@ -1,10 +1,11 @@
 -- What a batch can read, and which writes hit it. A mark is the record of the crate's own type `MarkKind`.
-use Rattle.std.specs.Prelude.{◌≡◌, Bool, false, ◌||◌, filter, Option, Some, None, bytes_eq, if◌then◌else◌}
+use Rattle.std.specs.Prelude.{◌≡◌, Bool, true, false, ◌||◌, filter, Option, Some, None, bytes_eq, if◌then◌else◌}
 use Rattle.entry_book.specs.declared.agent.Agent.{Agent}
 use Rattle.entry_book.specs.declared.bundle.Bundle.{Bundle}
+use Rattle.entry_book.specs.declared.kept.KeptBatch.{KeptBatch}
 use Rattle.entry_book.specs.Rows.{Bytes, Entry}
 use Rattle.entry_book.specs.Book.{Book, in_group, names, expires_before}
-use Rattle.entry_book.specs.Writes.{RowChange, RowWrite, wrote_entry, wrote_agent, wrote_bundle}
+use Rattle.entry_book.specs.Writes.{RowChange, RowWrite, wrote_entry, wrote_agent, wrote_bundle, wrote_token}
 use Rattle.version_book.specs.declared.mark.MarkKind.{MarkKind}
 use Rattle.version_book.specs.declared.mark.MarkKind.TheVariants as mark
 
@@ -16,30 +17,28 @@ names_entry (mark.Group parent identity) e = in_group parent identity e
 names_entry (mark.Children parent) e = bytes_eq e.parent parent
 names_entry (mark.Users domain) e = names domain e
 names_entry (mark.Expiring moment) e = expires_before moment e
-names_entry (mark.Agent id) e = false
-names_entry (mark.Bundle domain) e = false
+names_entry mark.All e = true
+names_entry m e = false
 
 abbrev pub names_agent : MarkKind → Agent → Bool
-names_agent (mark.Entry id) a = false
-names_agent (mark.Group parent identity) a = false
-names_agent (mark.Children parent) a = false
-names_agent (mark.Users domain) a = false
-names_agent (mark.Expiring moment) a = false
 names_agent (mark.Agent id) a = bytes_eq a.id id
-names_agent (mark.Bundle domain) a = false
+names_agent m a = false
 
 abbrev pub names_bundle : MarkKind → Bundle → Bool
-names_bundle (mark.Entry id) d = false
-names_bundle (mark.Group parent identity) d = false
-names_bundle (mark.Children parent) d = false
-names_bundle (mark.Users domain) d = false
-names_bundle (mark.Expiring moment) d = false
-names_bundle (mark.Agent id) d = false
 names_bundle (mark.Bundle domain) d = bytes_eq d.domain domain
+names_bundle m d = false
+
+-- the mark is that of this token
+abbrev pub is_of_token : Bytes → MarkKind → Bool
+is_of_token k (mark.Token token) = bytes_eq k token
+is_of_token k m = false
+
+abbrev pub names_token : MarkKind → KeptBatch → Bool
+names_token m k = is_of_token k.token m
 
 -- what a mark reads on a book: the part of the book that it names, whole rows, perhaps none
 abbrev pub reads : MarkKind → Book → Book
-reads m b = record { entries = filter (names_entry m) b.entries; agents = filter (names_agent m) b.agents; bundles = filter (names_bundle m) b.bundles }
+reads m b = record { entries = filter (names_entry m) b.entries; agents = filter (names_agent m) b.agents; bundles = filter (names_bundle m) b.bundles; tokens = filter (names_token m) b.tokens }
 
 -- both books read the same at the mark
 abbrev pub Agree : Book → Book → MarkKind → Type 0
@@ -51,21 +50,18 @@ abbrev pub passes : {X : Type 0} → (X → Bool) → Option X → Bool
 passes p None = false
 passes p (Some x) = p x
 
--- the mark is that of the entry of this id
+-- the mark is that of the entry of this id, or of all entries
 abbrev pub is_of_entry : Bytes → MarkKind → Bool
 is_of_entry k (mark.Entry id) = bytes_eq k id
-is_of_entry k (mark.Group parent identity) = false
-is_of_entry k (mark.Children parent) = false
-is_of_entry k (mark.Users domain) = false
-is_of_entry k (mark.Expiring moment) = false
-is_of_entry k (mark.Agent id) = false
-is_of_entry k (mark.Bundle domain) = false
+is_of_entry k mark.All = true
+is_of_entry k m = false
 
--- The old row or the new one is among the rows that the mark names. A write of an entry also hits the mark of its id.
+-- The old row or the new one is among the rows that the mark names. A write of an entry also hits the mark of its id, and that of all entries.
 abbrev pub hits : RowWrite → MarkKind → Bool
 hits (wrote_entry c) m = is_of_entry c.key m || (passes (names_entry m) c.old || passes (names_entry m) c.new)
 hits (wrote_agent c) m = passes (names_agent m) c.old || passes (names_agent m) c.new
 hits (wrote_bundle c) m = passes (names_bundle m) c.old || passes (names_bundle m) c.new
+hits (wrote_token c) m = passes (names_token m) c.old || passes (names_token m) c.new
 
 -- ---- what a mark sees of a write
 
@@ -80,3 +76,4 @@ abbrev pub seen : MarkKind → RowWrite → RowWrite
 seen m (wrote_entry c) = wrote_entry (seen_change (names_entry m) c)
 seen m (wrote_agent c) = wrote_agent (seen_change (names_agent m) c)
 seen m (wrote_bundle c) = wrote_bundle (seen_change (names_bundle m) c)
+seen m (wrote_token c) = wrote_token (seen_change (names_token m) c)

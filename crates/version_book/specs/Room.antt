@@ -3,7 +3,7 @@ use Rattle.std.specs.Prelude.{◌≤◌, ◌+◌, ⊤, ℕ, List, [], ◌∷◌,
 use Rattle.version_shelf.specs.Shelf.{most_rows}
 use Rattle.entry_book.specs.Rows.{Entry}
 use Rattle.entry_book.specs.Book.{Book}
-use Rattle.entry_book.specs.Writes.{RowWrite, wrote_entry, wrote_agent, wrote_bundle, after_write}
+use Rattle.entry_book.specs.Writes.{RowWrite, wrote_entry, wrote_agent, wrote_bundle, wrote_token, after_write}
 
 -- how often the entries name a trust domain, all in all
 abbrev pub count_of_names : List Entry → ℕ
@@ -15,6 +15,7 @@ abbrev pub RoomFor : RowWrite → Book → Type 0
 RoomFor (wrote_entry c) b = IfSome c.new (λ e. (length (after_write (wrote_entry c) b).entries ≤ most_rows) × (count_of_names (after_write (wrote_entry c) b).entries ≤ most_rows))
 RoomFor (wrote_agent c) b = IfSome c.new (λ a. length (after_write (wrote_agent c) b).agents ≤ most_rows)
 RoomFor (wrote_bundle c) b = IfSome c.new (λ d. length (after_write (wrote_bundle c) b).bundles ≤ most_rows)
+RoomFor (wrote_token c) b = IfSome c.new (λ k. length (after_write (wrote_token c) b).tokens ≤ most_rows)
 
 -- each on the book that the earlier ones left
 abbrev pub RoomAll : List RowWrite → Book → Type 0

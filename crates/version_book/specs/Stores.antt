@@ -4,6 +4,7 @@ use Rattle.std.specs.declared.cmp.Ordering.{Ordering}
 use Rattle.std.specs.List.{AllByRecursion}
 use Rattle.version_shelf.specs.Shelf.{with_key, without_key}
 use Rattle.entry_book.specs.Rows.{Bytes, Entry, entry_key, agent_key, bundle_key}
+use Rattle.entry_book.specs.Tokens.{token_key}
 use Rattle.entry_book.specs.Order.{Within}
 use Rattle.version_book.specs.declared.committed_row.CommittedRow.{CommittedRow}
 use Rattle.version_book.specs.CommittedRows.{CommittedRows}
@@ -47,3 +48,4 @@ pub record NumbersTell (older newer : CommittedRows) : Type 0 where
   pub entries : TellRows entry_key older.entries newer.entries
   pub agents : TellRows agent_key older.agents newer.agents
   pub bundles : TellRows bundle_key older.bundles newer.bundles
+  pub tokens : TellRows token_key older.tokens newer.tokens

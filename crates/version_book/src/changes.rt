@@ -3,7 +3,7 @@
 ghost use Rattle.std.specs.Prelude.{◌≡◌, IfOk};
 ghost use Rattle.version_shelf.specs.Shelf.{ClonesEqual};
 
-use entry_book::{Agent, Bundle, Entry, Shared};
+use entry_book::{Agent, Bundle, Entry, KeptBatch, Op, OpReply, Sequence, Shared};
 use spiffe_name::{SpiffeId, TrustDomain};
 use std::alloc::{AllocError, Global};
 use std::marker::Model;
@@ -17,16 +17,55 @@ pub struct RowChange<K, T> {
     pub new: Option<T>,
 }
 
+/// What is kept of a batch under its token, where nothing was kept. The number of the book that the batch adds is left
+/// open: other batches may commit before it does, so the version that takes the write puts its own number.
+#[derive(Drop)]
+pub struct TokenWrite {
+    pub token: Uuid,
+    /// The batch's operations, in order.
+    pub ops: Shared<Sequence<Op>>,
+    /// The answers to the operations, in order.
+    pub replies: Shared<Sequence<OpReply>>,
+}
+
+impl TokenWrite {
+    ghost use Rattle.std.specs.Prelude.{◌≡◌, IfOk, None, Some};
+
+    /// The change of what is kept under the token, where the batch adds the book of this number. The error is that no more
+    /// owners can be counted.
+    pub(crate) fn at_place(&self, place: u64) -> Result<RowChange<Uuid, KeptBatch>, AllocError>
+        ensures { IfOk result (λ change. change ≡ record {
+          key = self.now.token;
+          old = None;
+          new = Some (record { token = self.now.token; ops = self.now.ops; place = place; replies = self.now.replies });
+        }) }
+    {
+        let kept = KeptBatch {
+            token: self.token,
+            ops: self.ops.clone()?,
+            place,
+            replies: self.replies.clone()?,
+        };
+        Ok(RowChange {
+            key: self.token,
+            old: None,
+            new: Some(kept),
+        })
+    }
+}
+
 /// The change of one row, of whichever kind.
 #[derive(Drop)]
 pub enum RowWrite {
     Entry(RowChange<Uuid, Entry>),
     Agent(RowChange<Shared<SpiffeId>, Agent>),
     Bundle(RowChange<Shared<TrustDomain>, Bundle>),
+    Token(TokenWrite),
 }
 
 /// The writes of a batch, in order. Each names the row that it finds on the book that the earlier ones left, if there is
-/// one, and the row that it puts there, if there is one.
+/// one, and the row that it puts there, if there is one. A contract sees a write of a token with the place 0, which is
+/// no commit's.
 #[derive(Drop)]
 pub struct Changes {
     writes: Vec<RowWrite>,
@@ -53,6 +92,18 @@ fn copy_of<T: Clone + Drop>(row: &Option<T>) -> Result<Option<T>, AllocError>
     }
 }
 
+impl Clone for TokenWrite {
+    ghost is_clone = { λ original copy. copy ≡ original };
+
+    fn clone(&self) -> Result<TokenWrite, AllocError> {
+        Ok(TokenWrite {
+            token: self.token,
+            ops: self.ops.clone()?,
+            replies: self.replies.clone()?,
+        })
+    }
+}
+
 /// A copy of a write counts one more owner of each of its parts, and copies no text. The error is that no more owners can
 /// be counted.
 impl Clone for RowWrite {
@@ -72,12 +123,14 @@ impl Clone for RowWrite {
                 let (key, old, new) = (key.clone()?, copy_of(old)?, copy_of(new)?);
                 RowWrite::Bundle(RowChange { key, old, new })
             }
+            RowWrite::Token(write) => RowWrite::Token(write.clone()?),
         })
     }
 }
 
 impl Changes {
-    ghost use Rattle.std.specs.Prelude.{◌≡◌, ◌++◌, ◌∷◌, [], OnOk, OnErr, map, length, ◌==◌};
+    ghost use Rattle.std.specs.Prelude.{◌≡◌, ◌++◌, ◌∷◌, [], OnOk, OnErr, Some, map, length, ◌==◌};
+    ghost use Rattle.entry_book.specs.History.{token_writes};
     ghost use Rattle.entry_book.specs.Writes.{wrote_agent, wrote_bundle, wrote_entry};
     ghost use Rattle.version_book.specs.Written.{write_of};
 
@@ -148,6 +201,26 @@ impl Changes {
         let key = domain;
         self.writes
             .push(RowWrite::Bundle(RowChange { key, old, new }))?;
+        Ok(())
+    }
+
+    /// Adds a write of what is kept of a batch under its token, whose place is left open. The error is want of memory, and
+    /// nothing has changed then.
+    pub fn put_token(
+        &mut self,
+        token: Uuid,
+        ops: Shared<Sequence<Op>>,
+        replies: Shared<Sequence<OpReply>>,
+    ) -> Result<(), AllocError>
+        ensures put { OnOk result (self.new ≡ self.old ++ token_writes (Some token) ops 0 replies) }
+        ensures err { OnErr result (self.new ≡ self.old) }
+    {
+        let write = TokenWrite {
+            token,
+            ops,
+            replies,
+        };
+        self.writes.push(RowWrite::Token(write))?;
         Ok(())
     }
 

@@ -48,8 +48,9 @@ impl Model for Entries {
 fn group_keys(alloc: Global, entry: &Entry) -> Result<Vec<GroupKey>, AllocError>
     ensures { IfOk result (λ keys. keys.items ≡ group_keys entry.now) }
 {
+    let parent = KeyPart::At(entry.parent().clone()?);
     let identity = KeyPart::At(entry.identity().clone()?);
-    let key = (entry.parent().clone()?, identity, KeyPart::At(*entry.id()));
+    let key = (parent, identity, KeyPart::At(*entry.id()));
     let mut keys = Vec::new(alloc);
     keys.push(key)?;
     Ok(keys)

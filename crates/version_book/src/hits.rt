@@ -2,10 +2,10 @@
 
 ghost use Rattle.std.specs.Prelude.{◌≡◌};
 ghost use Rattle.std.specs.List.{list_any};
-ghost use Rattle.version_book.specs.Marks.{hits, is_of_entry, passes};
+ghost use Rattle.version_book.specs.Marks.{hits, is_of_entry, is_of_token, passes};
 ghost use Rattle.version_book.specs.Written.{write_of};
 
-use crate::changes::{Changes, RowChange, RowWrite};
+use crate::changes::{Changes, RowChange, RowWrite, TokenWrite};
 use crate::mark::{Mark, MarkKind};
 use crate::row::BookRow;
 use uuid::Uuid;
@@ -20,18 +20,24 @@ fn is_passed<T: BookRow>(mark: &Mark, row: &Option<T>) -> bool
     }
 }
 
-/// Does the mark name the entry of an id?
+/// Does the mark name the entry of an id, or all entries?
 fn is_of_entry(id: &Uuid, mark: &Mark) -> bool
     ensures { result ≡ is_of_entry id.now mark.now }
 {
     match mark.kind() {
         MarkKind::Entry(other) => id == other,
-        MarkKind::Group(_, _)
-        | MarkKind::Children(_)
-        | MarkKind::Users(_)
-        | MarkKind::Expiring(_)
-        | MarkKind::Agent(_)
-        | MarkKind::Bundle(_) => false,
+        MarkKind::All => true,
+        _ => false,
+    }
+}
+
+/// Does the mark name what is kept under a token?
+fn is_of_token(token: &Uuid, mark: &Mark) -> bool
+    ensures { result ≡ is_of_token token.now mark.now }
+{
+    match mark.kind() {
+        MarkKind::Token(other) => token == other,
+        _ => false,
     }
 }
 
@@ -46,6 +52,7 @@ fn is_hit(write: &RowWrite, mark: &Mark) -> bool
         RowWrite::Agent(RowChange { old, new, .. }) => is_passed(mark, old) || is_passed(mark, new),
         RowWrite::Bundle(RowChange { old, new, .. }) => is_passed(mark, old)
             || is_passed(mark, new),
+        RowWrite::Token(TokenWrite { token, .. }) => is_of_token(token, mark),
     }
 }
 

@@ -1,7 +1,8 @@
 //! What are the keys of a version's indexes?
 //!
 //! An index has the rows of a question side by side: those of a parent, of a parent and an identity, of a trust domain,
-//! or those that expire before a moment. The last part of each key is the entry's id.
+//! or those that expire before a moment; the range of all parents has all entries. The last part of each key is the
+//! entry's id.
 
 use entry_book::Shared;
 use spiffe_name::{SpiffeId, TrustDomain};
@@ -17,7 +18,11 @@ pub(crate) enum KeyPart<T> {
 }
 
 /// Parent, identity and id of an entry.
-pub(crate) type GroupKey = (Shared<SpiffeId>, KeyPart<Shared<SpiffeId>>, KeyPart<Uuid>);
+pub(crate) type GroupKey = (
+    KeyPart<Shared<SpiffeId>>,
+    KeyPart<Shared<SpiffeId>>,
+    KeyPart<Uuid>,
+);
 
 /// A trust domain that an entry names, and the entry's id.
 pub(crate) type UserKey = (Shared<TrustDomain>, KeyPart<Uuid>);

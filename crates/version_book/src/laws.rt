@@ -3,7 +3,7 @@
 //! Each function does nothing. What it ensures is a law of the definitions, stated in `specs/Laws.antt`; a caller
 //! that calls it may rest on the law.
 
-ghost use Rattle.version_book.specs.Laws.{AgreeAfter, BatchCommits, BookAfter, BookAtPlace, BookReads, BooksFollow, BooksJoin, BooksLead, CommitsJoin, DomainStays, FollowsJoined, FollowsOne, FollowsParts, HitsInBooks, LastWritten, LawfulFollows, LimitsFollow, ReadsAfter, ReadsAgent, ReadsBundle, ReadsChildren, ReadsEntry, ReadsExpiring, ReadsGroup, ReadsUsers, RepliesCount, RepliesFollow, RepliesJoin, RoomInRun, RunMayApply, Unhit, UnhitHistory};
+ghost use Rattle.version_book.specs.Laws.{AgreeAfter, BatchCommits, BookAfter, BookAtPlace, BookReads, BooksFollow, BooksJoin, BooksLead, ChangedMarksHit, CommitsJoin, DomainStays, FollowsJoined, FollowsOne, FollowsParts, HitsAtAnyPlace, HitsInBooks, LastWritten, LawfulFollows, LimitsFollow, PlacesPut, ReadsAfter, ReadsAgent, ReadsAll, ReadsBundle, ReadsChildren, ReadsEntry, ReadsExpiring, ReadsGroup, ReadsToken, ReadsUsers, RepliesCount, RepliesFollow, RepliesJoin, RoomInRun, RunMayApply, Unhit, UnhitHistory, UnhitMarks};
 
 /// What each mark reads, in the words of the book's own questions.
 pub fn marks()
@@ -12,8 +12,10 @@ pub fn marks()
     ensures children { ReadsChildren }
     ensures users { ReadsUsers }
     ensures expiring { ReadsExpiring }
+    ensures all { ReadsAll }
     ensures agent { ReadsAgent }
     ensures bundle { ReadsBundle }
+    ensures token { ReadsToken }
 {}
 
 /// What a mark reads after writes.
@@ -21,6 +23,12 @@ pub fn reads_after_writes()
     ensures seen { ReadsAfter }
     ensures agree { AgreeAfter }
     ensures unhit { Unhit }
+{}
+
+/// What it comes to that the place of what a batch keeps under its token is left open until the batch commits.
+pub fn places()
+    ensures put { PlacesPut }
+    ensures hits { HitsAtAnyPlace }
 {}
 
 /// How the rows of a version stand for its book.
@@ -38,6 +46,8 @@ pub fn histories()
     ensures limits { LimitsFollow }
     ensures lawful { LawfulFollows }
     ensures unhit { UnhitHistory }
+    ensures unhit_marks { UnhitMarks }
+    ensures changed_marks { ChangedMarksHit }
 {}
 
 /// There is room for what a batch writes.

@@ -10,7 +10,7 @@
 //! | Call | Rows that it looks at | Owners that it counts | Memory |
 //! |---|---|---|---|
 //! | `clone` | none | one, of all that the version holds | none |
-//! | `number`, `domain`, `count` | none | none | none |
+//! | `number`, `domain`, `count`, `Changes::hits` | none | none | none |
 //! | `unchanged` | those that the mark names, up to the first difference, once they are found by bisection | none | none |
 //! | `read` | those that the mark names, once they are found by bisection | those of these rows | for a list of them, and for sorting it |
 //! | `read_after` | the same, and these again for each change | those of these rows, again for each change | for a list of them, again for each change |
@@ -21,14 +21,15 @@
 //!
 //! - [`Version`]: the rows of the book, each with the number of the commit that last wrote it. [`RowCounts`] tells how many there
 //!   are of each kind.
-//! - [`Mark`]: one thing that a batch can read, such as the entries of a parent; [`MarkKind`] says which. [`RowsRead`]: the rows
-//!   that it reads.
-//! - [`Changes`]: the writes of a batch, in order, which make the next version. Each is a [`RowWrite`], the [`RowChange`] of one row.
+//! - [`Mark`]: one thing that a batch can read, such as the entries of a parent, or what is kept under a token; [`MarkKind`]
+//!   says which. [`RowsRead`]: the rows that it reads.
+//! - [`Changes`]: the writes of a batch, in order, which make the next version. Each is a [`RowWrite`]: the [`RowChange`] of one
+//!   row, or the [`TokenWrite`] of what is kept under the batch's token, whose place the next version puts.
 //! - [`laws`]: what holds of marks, writes and histories of versions, such as that a mark that no write hits reads the same.
 //!
 //! The definitions stand in `specs/`: what marks read and which writes hit them in `Marks`, the rows of versions in `CommittedRows`,
-//! how versions follow one another in `History`, what there has to be room for in `Room`; the others are for this crate's
-//! own contracts. Nothing outside this crate knows how the rows are kept:
+//! how versions follow one another in `History`, what there has to be room for in `Room`, the writes of [`Changes`] and the
+//! places that are put into them in `Written`; the others are for this crate's own contracts. Nothing outside this crate knows how the rows are kept:
 //!
 //! - `store`: the sets of rows of a version; `entries` and `row_shelf`: the shelves of a set; `index` and `key`: how an index is
 //!   kept and ordered; `committed_row`: their rows.
@@ -50,7 +51,7 @@ mod rows_read;
 mod store;
 mod version;
 
-pub use changes::{Changes, RowChange, RowWrite};
+pub use changes::{Changes, RowChange, RowWrite, TokenWrite};
 pub use mark::{Mark, MarkKind};
 pub use rows_read::RowsRead;
 pub use version::{RowCounts, Version};

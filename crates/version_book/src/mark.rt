@@ -22,10 +22,14 @@ pub enum MarkKind {
     Users(Shared<TrustDomain>),
     /// The entries that expire before a moment, in seconds since the epoch; an expiry of 0 is none.
     Expiring(u64),
+    /// All entries.
+    All,
     /// The agent of an id, or its absence.
     Agent(Shared<SpiffeId>),
     /// The bundle of a trust domain, or its absence.
     Bundle(Shared<TrustDomain>),
+    /// What is kept under a token, or that nothing is.
+    Token(Uuid),
 }
 
 /// Where the rows lie that a mark names: the two bounds of a range of an index, where it is no single row.
@@ -77,12 +81,12 @@ impl Mark {
         ensures { IfOk result (λ made. made ≡ mark.Group parent.now identity.now) }
     {
         let low = (
-            parent.clone()?,
+            KeyPart::At(parent.clone()?),
             KeyPart::At(identity.clone()?),
             KeyPart::Start,
         );
         let high = (
-            parent.clone()?,
+            KeyPart::At(parent.clone()?),
             KeyPart::At(identity.clone()?),
             KeyPart::End,
         );
@@ -96,8 +100,8 @@ impl Mark {
     pub fn children(parent: &Shared<SpiffeId>) -> Result<Mark, AllocError>
         ensures { IfOk result (λ made. made ≡ mark.Children parent.now) }
     {
-        let low = (parent.clone()?, KeyPart::Start, KeyPart::Start);
-        let high = (parent.clone()?, KeyPart::End, KeyPart::End);
+        let low = (KeyPart::At(parent.clone()?), KeyPart::Start, KeyPart::Start);
+        let high = (KeyPart::At(parent.clone()?), KeyPart::End, KeyPart::End);
         Ok(Mark {
             kind: MarkKind::Children(parent.clone()?),
             index_range: IndexRange::Groups(low, high),
@@ -126,6 +130,18 @@ impl Mark {
         }
     }
 
+    /// All entries.
+    pub fn all() -> Mark
+        ensures { result ≡ mark.All }
+    {
+        let low = (KeyPart::Start, KeyPart::Start, KeyPart::Start);
+        let high = (KeyPart::End, KeyPart::End, KeyPart::End);
+        Mark {
+            kind: MarkKind::All,
+            index_range: IndexRange::Groups(low, high),
+        }
+    }
+
     /// The agent of an id, or its absence.
     pub fn agent(id: Shared<SpiffeId>) -> Mark
         ensures { result ≡ mark.Agent id }
@@ -142,6 +158,16 @@ impl Mark {
     {
         Mark {
             kind: MarkKind::Bundle(domain),
+            index_range: IndexRange::SingleRow,
+        }
+    }
+
+    /// What is kept under a token, or that nothing is.
+    pub fn token(token: Uuid) -> Mark
+        ensures { result ≡ mark.Token token }
+    {
+        Mark {
+            kind: MarkKind::Token(token),
             index_range: IndexRange::SingleRow,
         }
     }
@@ -172,8 +198,10 @@ impl Clone for Mark {
             MarkKind::Children(parent) => Mark::children(parent),
             MarkKind::Users(domain) => Mark::users(domain),
             MarkKind::Expiring(moment) => Ok(Mark::expiring(*moment)),
+            MarkKind::All => Ok(Mark::all()),
             MarkKind::Agent(id) => Ok(Mark::agent(id.clone()?)),
             MarkKind::Bundle(domain) => Ok(Mark::bundle(domain.clone()?)),
+            MarkKind::Token(token) => Ok(Mark::token(*token)),
         }
     }
 }
@@ -191,8 +219,10 @@ impl Clone for MarkKind {
             MarkKind::Children(parent) => MarkKind::Children(parent.clone()?),
             MarkKind::Users(domain) => MarkKind::Users(domain.clone()?),
             MarkKind::Expiring(moment) => MarkKind::Expiring(*moment),
+            MarkKind::All => MarkKind::All,
             MarkKind::Agent(id) => MarkKind::Agent(id.clone()?),
             MarkKind::Bundle(domain) => MarkKind::Bundle(domain.clone()?),
+            MarkKind::Token(token) => MarkKind::Token(*token),
         })
     }
 }

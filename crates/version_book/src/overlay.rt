@@ -1,15 +1,17 @@
 //! What does a mark read after some writes?
 
-ghost use Rattle.std.specs.Prelude.{◌≡◌, ◌++◌, IfOk, OnOk, filter, map};
+ghost use Rattle.std.specs.Prelude.{◌≡◌, ◌++◌, IfOk, OnOk, Some, filter, map};
 ghost use Rattle.entry_book.specs.Order.{is_before, with_row};
 ghost use Rattle.entry_book.specs.Writes.{after, after_write};
-ghost use Rattle.version_book.specs.Marks.{kept, seen};
+ghost use Rattle.entry_book.specs.Tokens.{token_key};
+ghost use Rattle.version_book.specs.Marks.{kept, names_token, seen};
 ghost use Rattle.version_book.specs.Written.{write_of};
 
-use crate::changes::{Changes, RowWrite};
+use crate::changes::{Changes, RowWrite, TokenWrite};
 use crate::mark::Mark;
 use crate::row::BookRow;
 use crate::rows_read::RowsRead;
+use entry_book::KeptBatch;
 use std::alloc::{AllocError, Global};
 
 /// Do these bytes stand before the others?
@@ -89,6 +91,25 @@ fn rows_after<T: BookRow>(
     with_row(alloc, rows, key, new)
 }
 
+/// What is kept under the token that a mark names, after a write whose place is left open. The error is want of memory.
+fn tokens_after(
+    alloc: Global,
+    tokens: &[KeptBatch],
+    mark: &Mark,
+    write: &TokenWrite,
+) -> Result<Vec<KeptBatch>, AllocError>
+    ensures { IfOk result (λ out. out.items ≡ with_row token_key write.now.token (kept (names_token mark.now) (Some (record {
+      token = write.now.token;
+      ops = write.now.ops;
+      place = 0;
+      replies = write.now.replies;
+    }))) tokens.now) }
+{
+    let change = write.at_place(0)?;
+    let key = change.key.as_bytes().as_slice();
+    rows_after(alloc, tokens, mark, key, &change.new)
+}
+
 /// What the mark reads after one write more. The error is want of memory.
 fn after_write(
     alloc: Global,
@@ -98,40 +119,29 @@ fn after_write(
 ) -> Result<RowsRead, AllocError>
     ensures { IfOk result (λ next. next ≡ after_write (seen mark.now (write_of write.now)) reading) }
 {
-    let RowsRead {
-        entries,
-        agents,
-        bundles,
-    } = reading;
+    let mut reading = reading;
     match write {
         RowWrite::Entry(change) => {
             let key = change.key.as_bytes().as_slice();
-            let entries = rows_after(alloc, entries.as_slice(), mark, key, &change.new)?;
-            Ok(RowsRead {
-                entries,
-                agents,
-                bundles,
-            })
+            let rows = reading.entries.as_slice();
+            reading.entries = rows_after(alloc, rows, mark, key, &change.new)?;
         }
         RowWrite::Agent(change) => {
             let key = change.key.get().as_str().as_bytes();
-            let agents = rows_after(alloc, agents.as_slice(), mark, key, &change.new)?;
-            Ok(RowsRead {
-                entries,
-                agents,
-                bundles,
-            })
+            let rows = reading.agents.as_slice();
+            reading.agents = rows_after(alloc, rows, mark, key, &change.new)?;
         }
         RowWrite::Bundle(change) => {
             let key = change.key.get().as_str().as_bytes();
-            let bundles = rows_after(alloc, bundles.as_slice(), mark, key, &change.new)?;
-            Ok(RowsRead {
-                entries,
-                agents,
-                bundles,
-            })
+            let rows = reading.bundles.as_slice();
+            reading.bundles = rows_after(alloc, rows, mark, key, &change.new)?;
+        }
+        RowWrite::Token(write) => {
+            let rows = reading.tokens.as_slice();
+            reading.tokens = tokens_after(alloc, rows, mark, write)?;
         }
     }
+    Ok(reading)
 }
 
 /// What the mark reads after these writes. The error is want of memory.

@@ -5,9 +5,10 @@ ghost use Rattle.std.specs.Cmp.Lexicographic.{slice_cmp};
 ghost use Rattle.std.specs.Ordering.{nat_cmp};
 
 use crate::mark::{Mark, MarkKind};
-use entry_book::{Agent, Bundle, Entry, Shared};
+use entry_book::{Agent, Bundle, Entry, KeptBatch, Shared};
 use spiffe_name::{SpiffeId, TrustDomain};
 use std::alloc::AllocError;
+use uuid::Uuid;
 
 /// A row of a book: it has a key, by whose bytes rows are ordered, and there are marks that name it.
 pub(crate) trait BookRow: Drop {
@@ -62,7 +63,8 @@ impl BookRow for Entry {
             MarkKind::Children(parent) => self.parent().get() == parent.get(),
             MarkKind::Users(domain) => self.names(domain.get()),
             MarkKind::Expiring(moment) => self.expires_before(*moment),
-            MarkKind::Agent(_) | MarkKind::Bundle(_) => false,
+            MarkKind::All => true,
+            MarkKind::Agent(_) | MarkKind::Bundle(_) | MarkKind::Token(_) => false,
         }
     }
 
@@ -85,12 +87,7 @@ impl BookRow for Agent {
     fn is_named(&self, mark: &Mark) -> bool {
         match mark.kind() {
             MarkKind::Agent(id) => self.id.get() == id.get(),
-            MarkKind::Entry(_)
-            | MarkKind::Group(_, _)
-            | MarkKind::Children(_)
-            | MarkKind::Users(_)
-            | MarkKind::Expiring(_)
-            | MarkKind::Bundle(_) => false,
+            _ => false,
         }
     }
 
@@ -126,12 +123,7 @@ impl BookRow for Bundle {
     fn is_named(&self, mark: &Mark) -> bool {
         match mark.kind() {
             MarkKind::Bundle(domain) => self.domain.get() == domain.get(),
-            MarkKind::Entry(_)
-            | MarkKind::Group(_, _)
-            | MarkKind::Children(_)
-            | MarkKind::Users(_)
-            | MarkKind::Expiring(_)
-            | MarkKind::Agent(_) => false,
+            _ => false,
         }
     }
 
@@ -148,6 +140,42 @@ impl KeyedRow<Shared<TrustDomain>> for Bundle {
     fn key_in(mark: &Mark) -> Option<&Shared<TrustDomain>> {
         match mark.kind() {
             MarkKind::Bundle(domain) => Some(domain),
+            _ => None,
+        }
+    }
+}
+
+impl BookRow for KeptBatch {
+    ghost use Rattle.version_book.specs.Marks.{names_token};
+
+    ghost key = { λ kept. kept.token };
+
+    ghost names = { names_token };
+
+    fn key(&self) -> &[u8] {
+        self.token.as_bytes().as_slice()
+    }
+
+    fn is_named(&self, mark: &Mark) -> bool {
+        match mark.kind() {
+            MarkKind::Token(token) => self.token == *token,
+            _ => false,
+        }
+    }
+
+    fn again(&self) -> Result<Self, AllocError> {
+        self.clone()
+    }
+}
+
+impl KeyedRow<Uuid> for KeptBatch {
+    ghost bytes = { λ token. token };
+
+    ghost by_bytes = { λ one other. refl };
+
+    fn key_in(mark: &Mark) -> Option<&Uuid> {
+        match mark.kind() {
+            MarkKind::Token(token) => Some(token),
             _ => None,
         }
     }

@@ -2,16 +2,17 @@
 
 ghost use Rattle.std.specs.Prelude.{◌≡◌};
 
-use entry_book::{Agent, Bundle, Entry};
+use entry_book::{Agent, Bundle, Entry, KeptBatch};
 use std::marker::Model;
 
-/// The rows that a mark reads, whole, in the order of their keys: entries, or an agent, or a bundle; perhaps none. A
-/// contract sees the part of the book that they are.
+/// The rows that a mark reads, whole, in the order of their keys: entries, or an agent, or a bundle, or what is kept under
+/// a token; perhaps none. A contract sees the part of the book that they are.
 #[derive(Drop)]
 pub struct RowsRead {
     pub(crate) entries: Vec<Entry>,
     pub(crate) agents: Vec<Agent>,
     pub(crate) bundles: Vec<Bundle>,
+    pub(crate) tokens: Vec<KeptBatch>,
 }
 
 impl Model for RowsRead {
@@ -23,6 +24,7 @@ impl Model for RowsRead {
       entries = reading.entries.items;
       agents = reading.agents.items;
       bundles = reading.bundles.items;
+      tokens = reading.tokens.items;
     } };
 }
 
@@ -50,6 +52,13 @@ impl RowsRead {
         self.bundles.as_slice()
     }
 
+    /// What was read that is kept under a token; at most one.
+    pub fn tokens(&self) -> &[KeptBatch]
+        ensures { result.now ≡ self.now.tokens }
+    {
+        self.tokens.as_slice()
+    }
+
     /// The entries that were read, in the order of their ids, to keep.
     pub fn into_entries(self) -> Vec<Entry>
         ensures { result.items ≡ self.entries }
@@ -72,5 +81,13 @@ impl RowsRead {
     {
         let RowsRead { bundles, .. } = self;
         bundles
+    }
+
+    /// What was read that is kept under a token, to keep; at most one.
+    pub fn into_tokens(self) -> Vec<KeptBatch>
+        ensures { result.items ≡ self.tokens }
+    {
+        let RowsRead { tokens, .. } = self;
+        tokens
     }
 }

@@ -2,22 +2,24 @@
 
 ghost use Rattle.std.specs.Prelude.{◌≡◌};
 
-use crate::changes::RowWrite;
+use crate::changes::{RowWrite, TokenWrite};
 use crate::entries::Entries;
 use crate::mark::Mark;
 use crate::row_shelf::RowShelf;
 use crate::rows_read::RowsRead;
-use entry_book::{Agent, Bundle, Shared};
+use entry_book::{Agent, Bundle, KeptBatch, Shared};
 use spiffe_name::{SpiffeId, TrustDomain};
 use std::alloc::{AllocError, Global};
 use std::marker::Model;
+use uuid::Uuid;
 
-/// The three sets of rows of a version. A contract sees the rows with their numbers, in the order of their keys.
+/// The four sets of rows of a version. A contract sees the rows with their numbers, in the order of their keys.
 #[derive(Drop)]
 pub(crate) struct Store {
     entries: Entries,
     agents: RowShelf<Shared<SpiffeId>, Agent>,
     bundles: RowShelf<Shared<TrustDomain>, Bundle>,
+    tokens: RowShelf<Uuid, KeptBatch>,
 }
 
 impl Model for Store {
@@ -29,6 +31,7 @@ impl Model for Store {
       entries = store.entries;
       agents = store.agents;
       bundles = store.bundles;
+      tokens = store.tokens;
     } };
 }
 
@@ -36,12 +39,14 @@ impl Store {
     ghost use Rattle.std.specs.Prelude.{◌≡◌, IfOk, IsTrue, map, length};
     ghost use Rattle.entry_book.specs.Order.{Ascending};
     ghost use Rattle.entry_book.specs.Rows.{entry_key, agent_key, bundle_key};
+    ghost use Rattle.entry_book.specs.Tokens.{token_key};
     ghost use Rattle.entry_book.specs.Writes.{FitAll, FitsBook};
     ghost use Rattle.version_book.specs.Marks.{reads};
     ghost use Rattle.version_book.specs.CommittedRows.{book_of, marked, no_rows, of_row, rows_after, rows_after_write};
     ghost use Rattle.version_book.specs.Room.{RoomAll, RoomFor};
     ghost use Rattle.version_book.specs.Stores.{NumbersTell};
-    ghost use Rattle.version_book.specs.Written.{write_of};
+    ghost use Rattle.version_book.specs.declared.changes.RowWrite.TheVariants as write;
+    ghost use Rattle.version_book.specs.Written.{placed, placed_write, write_of};
 
     /// No rows. Takes no memory.
     pub(crate) fn empty(alloc: Global) -> Store
@@ -51,6 +56,7 @@ impl Store {
             entries: Entries::empty(alloc),
             agents: RowShelf::empty(alloc),
             bundles: RowShelf::empty(alloc),
+            tokens: RowShelf::empty(alloc),
         }
     }
 
@@ -78,41 +84,55 @@ impl Store {
         self.bundles.len()
     }
 
-    /// The rows after one write, by this commit. The error is want of memory.
-    fn after_write(&self, alloc: Global, write: &RowWrite, commit: u64) -> Result<Store, AllocError>
-        requires fits { FitsBook (write_of write.now) (book_of self.now) }
-        requires room { RoomFor (write_of write.now) (book_of self.now) }
-        ensures { IfOk result (λ store. store ≡ rows_after_write commit (write_of write.now) self.now) }
+    /// Under how many tokens something is kept.
+    pub(crate) fn count_of_tokens(&self) -> usize
+        ensures count { result ≡ length self.now.tokens }
+        ensures order { Ascending (of_row token_key) self.now.tokens }
     {
-        match write {
-            RowWrite::Entry(change) => Ok(Store {
-                entries: self.entries.after(alloc, change, commit)?,
-                agents: self.agents.clone()?,
-                bundles: self.bundles.clone()?,
-            }),
-            RowWrite::Agent(change) => Ok(Store {
-                entries: self.entries.clone()?,
-                agents: self.agents.after(change, commit)?,
-                bundles: self.bundles.clone()?,
-            }),
-            RowWrite::Bundle(change) => Ok(Store {
-                entries: self.entries.clone()?,
-                agents: self.agents.clone()?,
-                bundles: self.bundles.after(change, commit)?,
-            }),
-        }
+        self.tokens.len()
     }
 
-    /// The rows after these writes, one after another, by this commit. The error is want of memory.
+    /// The rows after one write, by this commit, whose number is put where the place was left open. The error is want of
+    /// memory.
+    fn after_write(&self, alloc: Global, write: &RowWrite, commit: u64) -> Result<Store, AllocError>
+        requires fits { FitsBook (placed_write commit (write_of write.now)) (book_of self.now) }
+        requires room { RoomFor (placed_write commit (write_of write.now)) (book_of self.now) }
+        ensures { IfOk result (λ store. store ≡ rows_after_write commit (placed_write commit (write_of write.now)) self.now) }
+    {
+        let mut store = self.clone()?;
+        match write {
+            RowWrite::Entry(change) => store.entries = self.entries.after(alloc, change, commit)?,
+            RowWrite::Agent(change) => store.agents = self.agents.after(change, commit)?,
+            RowWrite::Bundle(change) => store.bundles = self.bundles.after(change, commit)?,
+            RowWrite::Token(token) => store.tokens = self.tokens_after(token, commit)?,
+        }
+        Ok(store)
+    }
+
+    /// What is kept under tokens after a write, by this commit. The error is want of memory.
+    fn tokens_after(
+        &self,
+        token: &TokenWrite,
+        commit: u64,
+    ) -> Result<RowShelf<Uuid, KeptBatch>, AllocError>
+        requires room { RoomFor (placed_write commit (write_of (write.Token token.now))) (book_of self.now) }
+        ensures { IfOk result (λ tokens. tokens ≡ (rows_after_write commit (placed_write commit (write_of (write.Token token.now))) self.now).tokens) }
+    {
+        let change = token.at_place(commit)?;
+        self.tokens.after(&change, commit)
+    }
+
+    /// The rows after these writes, one after another, by this commit, whose number is put where the place was left open.
+    /// The error is want of memory.
     pub(crate) fn after_writes(
         &self,
         alloc: Global,
         writes: &[RowWrite],
         commit: u64,
     ) -> Result<Store, AllocError>
-        requires fits { FitAll (map write_of writes.now) (book_of self.now) }
-        requires room { RoomAll (map write_of writes.now) (book_of self.now) }
-        ensures { IfOk result (λ store. store ≡ rows_after commit (map write_of writes.now) self.now) }
+        requires fits { FitAll (placed commit (map write_of writes.now)) (book_of self.now) }
+        requires room { RoomAll (placed commit (map write_of writes.now)) (book_of self.now) }
+        ensures { IfOk result (λ store. store ≡ rows_after commit (placed commit (map write_of writes.now)) self.now) }
     {
         let mut store = self.clone()?;
         for write in writes {
@@ -129,6 +149,7 @@ impl Store {
             entries: self.entries.at(alloc, mark)?,
             agents: self.agents.at(alloc, mark)?,
             bundles: self.bundles.at(alloc, mark)?,
+            tokens: self.tokens.at(alloc, mark)?,
         })
     }
 
@@ -140,6 +161,7 @@ impl Store {
         self.entries.is_same_at(&older.entries, mark)
             && self.agents.is_same_at(&older.agents, mark)
             && self.bundles.is_same_at(&older.bundles, mark)
+            && self.tokens.is_same_at(&older.tokens, mark)
     }
 }
 
@@ -151,6 +173,7 @@ impl Clone for Store {
             entries: self.entries.clone()?,
             agents: self.agents.clone()?,
             bundles: self.bundles.clone()?,
+            tokens: self.tokens.clone()?,
         })
     }
 }

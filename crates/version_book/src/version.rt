@@ -18,6 +18,7 @@ pub struct RowCounts {
     pub entries: usize,
     pub agents: usize,
     pub bundles: usize,
+    pub tokens: usize,
 }
 
 /// What all owners of a version share.
@@ -68,6 +69,7 @@ impl Version {
     ghost use Rattle.version_book.specs.History.{Follows, IsEarlier, any_hits};
     ghost use Rattle.version_book.specs.Marks.{Agree, reads};
     ghost use Rattle.version_book.specs.CommittedRows.{AllUpTo, book_of, marked, next_state, no_rows};
+    ghost use Rattle.version_book.specs.Written.{placed};
 
     /// The first version: no rows, at number 0. The error is want of memory.
     pub fn empty(alloc: Global, domain: TrustDomain) -> Result<Version, AllocError>
@@ -105,6 +107,7 @@ impl Version {
           entries = length self.now.rows.entries;
           agents = length self.now.rows.agents;
           bundles = length self.now.rows.bundles;
+          tokens = length self.now.rows.tokens;
         } }
     {
         let store = &self.body.get().store;
@@ -112,6 +115,7 @@ impl Version {
             entries: store.count_of_entries(),
             agents: store.count_of_agents(),
             bundles: store.count_of_bundles(),
+            tokens: store.count_of_tokens(),
         }
     }
 
@@ -122,7 +126,8 @@ impl Version {
         self.body.get().store.read(self.alloc, mark)
     }
 
-    /// What a mark reads on the book after these changes, none of which is applied. The error is want of memory.
+    /// What a mark reads on the book after these changes, none of which is applied. What they keep under a token has the
+    /// place 0 there. The error is want of memory.
     pub fn read_after(&self, mark: &Mark, changes: &Changes) -> Result<RowsRead, AllocError>
         ensures { IfOk result (λ reading. reading ≡ reads mark.now (after changes.now (book_of self.now.rows))) }
     {
@@ -130,14 +135,15 @@ impl Version {
         after_changes(self.alloc, reading, mark, changes)
     }
 
-    /// The next version: the book after these changes, whose rows get its number. The caller sees to it that the number is
-    /// the one after this version's, that each change in turn finds the row that it names and puts a row of its own key,
-    /// that the book that comes out is lawful, and that there is room for its rows: the law `applying` says so of what a
-    /// batch writes. The error is want of memory; this version stays as it is. That the next version's book is the book
-    /// after the changes is the law `books`, and that it is lawful is told by its `number`.
+    /// The next version: the book after these changes, whose rows get its number, and so does the place that is kept under a
+    /// token. The caller sees to it that the number is the one after this version's, that each change in turn finds the row
+    /// that it names and puts a row of its own key, that the book that comes out is lawful, and that there is room for its
+    /// rows: the law `applying` says so of what a batch writes. The error is want of memory; this version stays as it is.
+    /// That the next version's book is the book after the changes is the law `books`, and that it is lawful is told by its
+    /// `number`.
     pub fn apply(&self, changes: &Changes, number: u64) -> Result<Version, AllocError>
-        requires may { MayApply changes.now number self.now }
-        ensures { IfOk result (λ version. version ≡ next_state changes.now self.now) }
+        requires may { MayApply (placed number changes.now) number self.now }
+        ensures { IfOk result (λ version. version ≡ next_state (placed number changes.now) self.now) }
     {
         let body = self.body.get();
         let store = body

@@ -1,10 +1,11 @@
 //! Rows in plain lists, and what each mark names of them.
 
 use crate::playing::number_of;
-use entry_book::{Agent, Bundle, Entry};
+use entry_book::{Agent, Bundle, Entry, KeptBatch};
 use std::alloc::Global;
 use std::test::Fail;
-use version_book::{Changes, Mark, MarkKind, RowChange, RowWrite, RowsRead, Version};
+use uuid::Uuid;
+use version_book::{Changes, Mark, MarkKind, RowChange, RowWrite, RowsRead, TokenWrite, Version};
 
 /// All rows of a book, in no order.
 #[derive(Drop)]
@@ -12,6 +13,15 @@ pub struct Listed {
     entries: Vec<Entry>,
     agents: Vec<Agent>,
     bundles: Vec<Bundle>,
+    tokens: Vec<Kept>,
+}
+
+/// What is kept under a token.
+#[derive(Drop)]
+struct Kept {
+    token: Uuid,
+    ops: usize,
+    place: u64,
 }
 
 fn names_entry(named: &MarkKind, entry: &Entry) -> bool {
@@ -29,7 +39,8 @@ fn names_entry(named: &MarkKind, entry: &Entry) -> bool {
                 .any(|other| other.get() == domain.get())
         }
         MarkKind::Expiring(moment) => entry.expiry() != 0 && entry.expiry() < *moment,
-        MarkKind::Agent(_) | MarkKind::Bundle(_) => false,
+        MarkKind::All => true,
+        MarkKind::Agent(_) | MarkKind::Bundle(_) | MarkKind::Token(_) => false,
     }
 }
 
@@ -43,6 +54,13 @@ fn names_agent(named: &MarkKind, agent: &Agent) -> bool {
 fn names_bundle(named: &MarkKind, bundle: &Bundle) -> bool {
     match named {
         MarkKind::Bundle(domain) => bundle.domain.get() == domain.get(),
+        _ => false,
+    }
+}
+
+fn names_token(named: &MarkKind, token: &Uuid) -> bool {
+    match named {
+        MarkKind::Token(other) => token == other,
         _ => false,
     }
 }
@@ -80,6 +98,7 @@ fn is_hit(named: &MarkKind, write: &RowWrite) -> bool {
         RowWrite::Bundle(RowChange { old, new, .. }) => {
             names_some_bundle(named, old) || names_some_bundle(named, new)
         }
+        RowWrite::Token(TokenWrite { token, .. }) => names_token(named, token),
     }
 }
 
@@ -122,7 +141,18 @@ fn bundle_text(alloc: Global, bundle: &Bundle) -> Result<String, Fail> {
     Ok(format!(in alloc; " {domain} {sequence}")?)
 }
 
-/// What was read, row by row: all in which rows of these tests differ.
+/// What is kept under a token: its number, and how many operations.
+fn kept_text(alloc: Global, token: &Uuid, ops: usize) -> Result<String, Fail> {
+    let number = number_of(token);
+    Ok(format!(in alloc; " token {number} {ops}")?)
+}
+
+fn kept_batch_text(alloc: Global, kept: &KeptBatch) -> Result<String, Fail> {
+    kept_text(alloc, &kept.token, kept.ops.get().as_slice().len())
+}
+
+/// What was read, row by row: all in which rows of these tests differ but for the place of what is kept under a token,
+/// which is open in writes.
 pub fn reading_text(alloc: Global, reading: &RowsRead) -> Result<String, Fail> {
     let mut text = String::new(alloc);
     for entry in reading.entries() {
@@ -133,6 +163,9 @@ pub fn reading_text(alloc: Global, reading: &RowsRead) -> Result<String, Fail> {
     }
     for bundle in reading.bundles() {
         text.push_str(bundle_text(alloc, bundle)?.as_str())?;
+    }
+    for kept in reading.tokens() {
+        text.push_str(kept_batch_text(alloc, kept)?.as_str())?;
     }
     Ok(text)
 }
@@ -148,11 +181,12 @@ impl Listed {
             entries: Vec::new(alloc),
             agents: Vec::new(alloc),
             bundles: Vec::new(alloc),
+            tokens: Vec::new(alloc),
         }
     }
 
-    /// The row of the key is taken away, and the new one is added, where there is one.
-    fn write(&mut self, write: &RowWrite) -> Result<(), Fail> {
+    /// The row of the key is taken away, and the new one is added, where there is one; by the commit of this number.
+    fn write(&mut self, write: &RowWrite, place: u64) -> Result<(), Fail> {
         match write {
             RowWrite::Entry(RowChange { key, new, .. }) => {
                 self.entries.retain(|entry| entry.id() != key);
@@ -173,15 +207,30 @@ impl Listed {
                     self.bundles.push(bundle.clone()?)?;
                 }
             }
+            RowWrite::Token(TokenWrite { token, ops, .. }) => {
+                let (token, ops) = (*token, ops.get().as_slice().len());
+                self.tokens.push(Kept { token, ops, place })?;
+            }
         }
         Ok(())
     }
 
-    pub fn apply(&mut self, changes: &Changes) -> Result<(), Fail> {
+    pub fn apply(&mut self, changes: &Changes, place: u64) -> Result<(), Fail> {
         for write in changes.writes() {
-            self.write(write)?;
+            self.write(write, place)?;
         }
         Ok(())
+    }
+
+    /// Has all that this version keeps under tokens the place of its commit?
+    pub fn are_placed(&self, version: &Version) -> Result<bool, Fail> {
+        for kept in &self.tokens {
+            let reading = version.read(&Mark::token(kept.token))?;
+            if !reading.tokens().iter().all(|read| read.place == kept.place) {
+                return Ok(false);
+            }
+        }
+        Ok(true)
     }
 
     /// The rows that a mark names, told likewise, in the order of the numbers of ids, which are 1 to 6.
@@ -205,11 +254,21 @@ impl Listed {
                 text.push_str(bundle_text(alloc, bundle)?.as_str())?;
             }
         }
+        for kept in &self.tokens {
+            if names_token(named, &kept.token) {
+                text.push_str(kept_text(alloc, &kept.token, kept.ops)?.as_str())?;
+            }
+        }
         Ok(text)
     }
 
     /// How many rows of each kind there are.
-    pub fn counts(&self) -> (usize, usize, usize) {
-        (self.entries.len(), self.agents.len(), self.bundles.len())
+    pub fn counts(&self) -> (usize, usize, usize, usize) {
+        (
+            self.entries.len(),
+            self.agents.len(),
+            self.bundles.len(),
+            self.tokens.len(),
+        )
     }
 }

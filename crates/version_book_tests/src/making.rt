@@ -125,15 +125,35 @@ fn bundle_op(alloc: Global, words: &[&str], sets: bool) -> Result<Op, Fail> {
     Ok(Op::DropBundle(domain, mode(word(words, 2))))
 }
 
-/// The batch of the operations that lines tell, for a version's trust domain.
+/// The token that a line tells, `token 7`, if one does.
+fn token_of(alloc: Global, lines: &str) -> Result<Option<Uuid>, Fail> {
+    for line in lines.lines() {
+        let words = words(alloc, line)?;
+        if word(words.as_slice(), 0) == "token" {
+            return Ok(Some(uuid(words.as_slice(), 1)?));
+        }
+    }
+    Ok(None)
+}
+
+/// The operations that the other lines tell.
+fn ops_of(alloc: Global, lines: &str) -> Result<Sequence<Op>, Fail> {
+    let mut ops = Sequence::empty(alloc);
+    for line in lines.lines() {
+        if !line.starts_with("token") {
+            ops.push(op(alloc, words(alloc, line)?.as_slice())?)?;
+        }
+    }
+    Ok(ops)
+}
+
+/// The batch that lines tell, for a version's trust domain: its token, where it has one, and its operations.
 pub fn batch(alloc: Global, version: &Version, lines: &str) -> Result<Batch, Fail>
     ensures { IfOk result (λ batch. batch.domain ≡ version.now.domain) }
 {
-    let mut ops = Sequence::empty(alloc);
-    for line in lines.lines() {
-        ops.push(op(alloc, words(alloc, line)?.as_slice())?)?;
-    }
-    Ok(Batch::new(version.domain(), ops)?)
+    let token = token_of(alloc, lines)?;
+    let ops = ops_of(alloc, lines)?;
+    Ok(Batch::new(alloc, version.domain(), ops, 0, token)?)
 }
 
 /// The mark that a line tells.
@@ -144,6 +164,8 @@ pub fn mark_of(alloc: Global, line: &str) -> Result<Mark, Fail> {
 
 fn mark(alloc: Global, words: &[&str]) -> Result<Mark, Fail> {
     match word(words, 0) {
+        "all" => Ok(Mark::all()),
+        "token" => Ok(Mark::token(uuid(words, 1)?)),
         "entry" => Ok(Mark::entry(uuid(words, 1)?)),
         "expiring" => Ok(Mark::expiring(number(words, 1)?)),
         "users" => Ok(Mark::users(&domain(alloc, word(words, 1))?)?),

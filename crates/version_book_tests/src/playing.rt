@@ -2,7 +2,7 @@
 
 use crate::making::{batch, mark_of, number, trust_domain, word, words};
 use crate::running::{changes_of, next_of};
-use entry_book::Entry;
+use entry_book::{Entry, KeptBatch};
 use std::alloc::Global;
 use std::process::Abort;
 use std::test::Fail;
@@ -63,6 +63,12 @@ fn entry(alloc: Global, entry: &Entry) -> Result<String, Fail> {
     Ok(format!(in alloc; " {number}.{revision}")?)
 }
 
+/// What is kept under a token: how many operations, and at which place.
+fn kept_text(alloc: Global, kept: &KeptBatch) -> Result<String, Fail> {
+    let (ops, place) = (kept.ops.get().as_slice().len(), kept.place);
+    Ok(format!(in alloc; " {ops} ops at {place}")?)
+}
+
 /// What a version reads at a mark, row by row: an agent is told as the count of its selectors, a bundle as its sequence.
 fn told(alloc: Global, version: &Version, mark: &Mark) -> Result<String, Fail> {
     let reading = version.read(mark)?;
@@ -77,6 +83,9 @@ fn told(alloc: Global, version: &Version, mark: &Mark) -> Result<String, Fail> {
     for bundle in reading.bundles() {
         let sequence = bundle.sequence;
         text.push_str(format!(in alloc; " bundle {sequence}")?.as_str())?;
+    }
+    for kept in reading.tokens() {
+        text.push_str(kept_text(alloc, kept)?.as_str())?;
     }
     Ok(text)
 }
@@ -93,8 +102,8 @@ fn told_by_clone(alloc: Global, version: &Version, mark: &Mark) -> Result<String
 fn told_count(alloc: Global, version: &Version) -> Result<String, Fail> {
     let count = version.count();
     let (entries, agents, bundles) = (count.entries, count.agents, count.bundles);
-    let number = version.number();
-    Ok(format!(in alloc; " {entries} {agents} {bundles} at {number}")?)
+    let (tokens, number) = (count.tokens, version.number());
+    Ok(format!(in alloc; " {entries} {agents} {bundles} {tokens} at {number}")?)
 }
 
 fn version_at(steps: &[Step], number: u64) -> Result<&Version, Fail> {
@@ -142,13 +151,14 @@ fn plays_line(
         let got = answer(alloc, steps.as_slice(), question)?;
         assert_eq!(rt; got.as_str(), want, "{line}");
     } else if !line.is_empty() {
-        assert!(rt; go_on(alloc, steps, line)?, "refused: {line}");
+        let lines = line.replace(alloc, ";", "\n")?;
+        assert!(rt; go_on(alloc, steps, lines.as_str())?, "refused: {line}");
     }
     Ok(())
 }
 
 /// Plays a table: a question and its answer stand in a line with `=>` between them; each other line that isn't empty
-/// tells the operation that leads to the next version.
+/// tells the batch that leads to the next version: its token, where it has one, and its operations, with `;` between.
 pub fn plays(rt: &impl Abort, alloc: Global, table: &str) -> Result<(), Fail> {
     let mut steps = first_step(alloc)?;
     for line in table.lines() {

@@ -37,11 +37,16 @@ expiring 1
 expiring 2
 expiring 3
 expiring 4
+all
 agent /spire/agent/m
 agent /spire/agent/n
 bundle d1
 bundle d2
 bundle d3
+token 1
+token 2
+token 3
+token 101
 ";
 
 const NUMBERS: [&str; 6] = ["1", "2", "3", "4", "5", "6"];
@@ -122,9 +127,19 @@ fn line(alloc: Global, state: &mut u64) -> Result<String, Fail> {
     line_of(alloc, state, kind)
 }
 
-/// One to four random operations.
+/// A token in one batch of four, of which only the first that commits is kept.
+fn token_line(alloc: Global, state: &mut u64) -> Result<String, Fail> {
+    if below(state, 4) != 0 {
+        return Ok(String::new(alloc));
+    }
+    let number = below(state, 200);
+    Ok(format!(in alloc; "token {number}\n")?)
+}
+
+/// One to four random operations, and a token or none.
 fn lines(alloc: Global, state: &mut u64) -> Result<String, Fail> {
-    let mut lines = line(alloc, state)?;
+    let mut lines = token_line(alloc, state)?;
+    lines.push_str(line(alloc, state)?.as_str())?;
     for _ in 0..below(state, 4) {
         lines.push_str("\n")?;
         lines.push_str(line(alloc, state)?.as_str())?;
@@ -167,6 +182,14 @@ fn history(alloc: Global, seed: u64, count: usize) -> Result<Played, Fail> {
     Ok(Played { steps, batches })
 }
 
+/// The operations of a batch, without its token.
+fn without_token(batch: &str) -> &str {
+    match batch.split_once("\n") {
+        Some((first, ops)) if first.starts_with("token") => ops,
+        _ => batch,
+    }
+}
+
 /// How many batches were one operation that begins and ends with these words and wrote at least so many rows?
 fn count_of(played: &Played, (start, end): (&str, &str), least: usize) -> usize {
     played
@@ -174,9 +197,10 @@ fn count_of(played: &Played, (start, end): (&str, &str), least: usize) -> usize 
         .iter()
         .zip(&played.batches)
         .filter(|(step, batch)| {
-            !batch.contains('\n')
-                && batch.starts_with(start)
-                && batch.ends_with(end)
+            let ops = without_token(batch);
+            !ops.contains('\n')
+                && ops.starts_with(start)
+                && ops.ends_with(end)
                 && step.changes.len() >= least
         })
         .count()
@@ -217,7 +241,7 @@ fn are_read(
 fn are_counted(rt: &impl Abort, step: &Step, listed: &Listed) {
     let count = step.version.count();
     assert_eq!(rt;
-        (count.entries, count.agents, count.bundles),
+        (count.entries, count.agents, count.bundles, count.tokens),
         listed.counts()
     );
 }
@@ -232,10 +256,11 @@ fn are_as_listed(
     let mut listed = Listed::empty(alloc);
     let mut longest = 0;
     for step in steps {
-        listed.apply(&step.changes)?;
+        listed.apply(&step.changes, step.version.number())?;
         longest = step.changes.len().max(longest);
         are_read(rt, alloc, step, &listed, marks)?;
         are_counted(rt, step, &listed);
+        assert!(rt; listed.are_placed(&step.version)?);
     }
     Ok(longest)
 }

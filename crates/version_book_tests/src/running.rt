@@ -5,22 +5,22 @@ ghost use Rattle.spiffe_name.specs.SelectorSet.{set_eq};
 ghost use Rattle.version_shelf.specs.Shelf.{ClonesEqual};
 ghost use Rattle.entry_book.specs.Rows.{at_revision};
 ghost use Rattle.entry_book.specs.Order.{first};
-ghost use Rattle.entry_book.specs.Book.{agent_at, bundle_at, entry_at, expired_before, group_of, users_of};
+ghost use Rattle.entry_book.specs.Book.{agent_at, bundle_at, entry_at, expired_before, group_of, token_at, users_of};
 ghost use Rattle.entry_book.specs.Ops.{agent_dropped, agent_set, bundle_removed, bundle_set, create_over, delete_over, drop_in, drop_over, for_agent, freed, lacking, next_sequence, op_of, put, put_beside, removed, similar, update_over};
 ghost use Rattle.entry_book.specs.Writes.{FitAll, after};
 ghost use Rattle.entry_book.specs.Lawful.{Lawful};
 ghost use Rattle.entry_book.specs.Laws.{IsWithinLimits};
 ghost use Rattle.entry_book.specs.Runs.{run};
-ghost use Rattle.version_book.specs.History.{state_with};
+ghost use Rattle.entry_book.specs.History.{kept_under, token_writes};
 ghost use Rattle.version_book.specs.CommittedRows.{book_of, next_state};
 ghost use Rattle.version_book.specs.Room.{RoomAll};
-ghost use Rattle.version_book.specs.Written.{write_of};
+ghost use Rattle.version_book.specs.Written.{placed, write_of};
 
-use entry_book::{Agent, Batch, Bundle, DropMode, Entry, NewEntry, Op, Shared, Text};
+use entry_book::{Agent, Batch, Bundle, DropMode, Entry, NewEntry, Op, Sequence, Shared, Text};
 use spiffe_name::{SpiffeId, TrustDomain};
 use std::alloc::{AllocError, Global};
 use uuid::Uuid;
-use version_book::{Changes, Mark, RowChange, RowWrite, RowsRead, Version};
+use version_book::{Changes, Mark, RowChange, RowWrite, RowsRead, TokenWrite, Version};
 
 /// No revision of these tests gets there.
 const MOST: u64 = 1_000_000;
@@ -379,6 +379,13 @@ fn append_one(changes: &mut Changes, write: &RowWrite) -> Result<(), AllocError>
         RowWrite::Bundle(RowChange { key, old, new }) => {
             changes.put_bundle(key.clone()?, copy_of(old)?, copy_of(new)?)
         }
+        RowWrite::Token(
+            TokenWrite {
+                token,
+                ops,
+                replies,
+            },
+        ) => changes.put_token(*token, ops.clone()?, replies.clone()?),
     }
 }
 
@@ -394,13 +401,17 @@ fn append(changes: &mut Changes, others: &Changes) -> Result<(), AllocError>
 
 /// The next version after these writes; none where the version is larger than a book may be.
 fn applied(version: &Version, changes: &Changes) -> Result<Option<Version>, AllocError>
-    requires fits { FitAll changes.now (book_of version.now.rows) }
-    requires lawful { Lawful version.now.domain (64 * (version.now.number + 1)) (after changes.now (book_of version.now.rows)) }
-    requires room { IsWithinLimits (book_of version.now.rows) → RoomAll changes.now (book_of version.now.rows) }
-    ensures { IfOk result (λ found. IfSome found (λ next. next ≡ next_state changes.now version.now)) }
+    requires fits { FitAll (placed (version.now.number + 1) changes.now) (book_of version.now.rows) }
+    requires lawful { Lawful version.now.domain (64 * (version.now.number + 1)) (after (placed (version.now.number + 1) changes.now) (book_of version.now.rows)) }
+    requires room { IsWithinLimits (book_of version.now.rows) → RoomAll (placed (version.now.number + 1) changes.now) (book_of version.now.rows) }
+    ensures { IfOk result (λ found. IfSome found (λ next. next ≡ next_state (placed (version.now.number + 1) changes.now) version.now)) }
 {
     let count = version.count();
-    if count.entries > 16_384 || count.agents > 4_096 || count.bundles > 1_024 {
+    if count.entries > 16_384
+        || count.agents > 4_096
+        || count.bundles > 1_024
+        || count.tokens > 65_536
+    {
         return Ok(None);
     }
     let Some(number) = version.number().checked_add(1) else {
@@ -409,8 +420,8 @@ fn applied(version: &Version, changes: &Changes) -> Result<Option<Version>, Allo
     Ok(Some(version.apply(changes, number)?))
 }
 
-/// The writes of a batch; none where one of its operations has none.
-pub fn changes_of(
+/// The writes of a batch's operations; none where one of them has none.
+fn op_changes_of(
     alloc: Global,
     version: &Version,
     batch: &Batch,
@@ -436,6 +447,60 @@ pub fn changes_of(
     Ok(Some(changes))
 }
 
+/// Is something kept under the token, where there is one?
+fn is_kept(version: &Version, token: Option<Uuid>) -> Result<bool, AllocError>
+    ensures { IfOk result (λ is_kept. is_kept ≡ false → kept_under token (book_of version.now.rows) ≡ None) }
+{
+    match token {
+        Some(token) => has_token(version, token),
+        None => Ok(false),
+    }
+}
+
+fn has_token(version: &Version, token: Uuid) -> Result<bool, AllocError>
+    ensures { IfOk result (λ has. has ≡ false → token_at token (book_of version.now.rows) ≡ None) }
+{
+    let reading = version.read(&Mark::token(token))?;
+    Ok(!reading.tokens().is_empty())
+}
+
+/// Adds what is kept under the batch's token, where it carries one. Its replies are left out here: they matter to no mark.
+fn put_token(alloc: Global, changes: &mut Changes, batch: &Batch) -> Result<(), AllocError>
+    ensures { OnOk result (changes.new ≡ changes.old ++ token_writes batch.now.token batch.now.ops 0 []) }
+{
+    match batch.token() {
+        Some(token) => {
+            let replies = Shared::of(alloc, Sequence::empty(alloc))?;
+            changes.put_token(token, batch.shared_ops().clone()?, replies)
+        }
+        None => Ok(()),
+    }
+}
+
+/// The writes of a batch; none where one of its operations has none, or its token is kept already.
+pub fn changes_of(
+    alloc: Global,
+    version: &Version,
+    batch: &Batch,
+) -> Result<Option<Changes>, AllocError>
+    requires { batch.now.domain ≡ version.now.domain }
+    ensures writes { IfOk result (λ found. IfSome found (λ changes.
+        MatchResult (run batch.now.domain batch.now.ops (book_of version.now.rows))
+        (λ t. t.writes ++ token_writes batch.now.token batch.now.ops 0 [] ≡ changes) (λ s. ⊥))) }
+    ensures kept { IfOk result (λ found. IfSome found (λ changes. kept_under batch.now.token (book_of version.now.rows) ≡ None)) }
+{
+    if is_kept(version, batch.token())? {
+        return Ok(None);
+    }
+    match op_changes_of(alloc, version, batch)? {
+        Some(mut changes) => {
+            put_token(alloc, &mut changes, batch)?;
+            Ok(Some(changes))
+        }
+        None => Ok(None),
+    }
+}
+
 /// The version after a batch with these writes; none where the version is larger than a book may be.
 fn next_once(
     version: &Version,
@@ -444,8 +509,9 @@ fn next_once(
 ) -> Result<Option<Version>, AllocError>
     requires domain { batch.now.domain ≡ version.now.domain }
     requires writes { MatchResult (run batch.now.domain batch.now.ops (book_of version.now.rows))
-        (λ t. t.writes ≡ changes.now) (λ s. ⊥) }
-    ensures { IfOk result (λ found. IfSome found (λ next. next ≡ state_with batch.now version.now)) }
+        (λ t. t.writes ++ token_writes batch.now.token batch.now.ops 0 [] ≡ changes.now) (λ s. ⊥) }
+    requires kept { kept_under batch.now.token (book_of version.now.rows) ≡ None }
+    ensures { IfOk result (λ found. IfSome found (λ next. next ≡ next_state (placed (version.now.number + 1) changes.now) version.now)) }
 {
     let _ = batch.ops();
     let _ = version.number();
@@ -460,8 +526,9 @@ pub fn next_of(
 ) -> Result<Option<Version>, AllocError>
     requires domain { batch.now.domain ≡ version.now.domain }
     requires writes { MatchResult (run batch.now.domain batch.now.ops (book_of version.now.rows))
-        (λ t. t.writes ≡ changes.now) (λ s. ⊥) }
-    ensures { IfOk result (λ found. IfSome found (λ next. next ≡ state_with batch.now version.now)) }
+        (λ t. t.writes ++ token_writes batch.now.token batch.now.ops 0 [] ≡ changes.now) (λ s. ⊥) }
+    requires kept { kept_under batch.now.token (book_of version.now.rows) ≡ None }
+    ensures { IfOk result (λ found. IfSome found (λ next. next ≡ next_state (placed (version.now.number + 1) changes.now) version.now)) }
 {
     match next_once(version, batch, changes) {
         Ok(next) => Ok(next),

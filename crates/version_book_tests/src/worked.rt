@@ -20,16 +20,16 @@ READS 4: users d1 =>
 READS 4: users d2 => 1.1
 READS 4: expiring 6 =>
 READS 4: expiring 10 => 1.1
-COUNT 4 => 1 0 2 at 4
+COUNT 4 => 1 0 2 0 at 4
 delete 1
 READS 5: entry 1 =>
 READS 5: group /b /y =>
 READS 5: users d2 =>
 READS 5: expiring 10 =>
-COUNT 5 => 0 0 2 at 5
+COUNT 5 => 0 0 2 0 at 5
 drop_bundle d2 restrict
 READS 6: bundle d2 =>
-COUNT 6 => 0 0 1 at 6
+COUNT 6 => 0 0 1 0 at 6
 READS 4: group /b /y => 1.1
 CLONE 4: group /b /y => 1.1
 CLONE 5: group /b /y =>
@@ -40,8 +40,8 @@ READS 3: users d1 => 1.0
 READS 3: users d2 =>
 READS 3: expiring 6 => 1.0
 READS 2: entry 1 =>
-COUNT 2 => 0 0 2 at 2
-COUNT 0 => 0 0 0 at 0
+COUNT 2 => 0 0 2 0 at 2
+COUNT 0 => 0 0 0 0 at 0
 ";
 
 /// Two domains, an expiry of 0, the moment itself, children in the order of their ids, neighbouring parents.
@@ -65,6 +65,8 @@ READS 7: children /a => 1.0 2.0 3.0
 READS 7: children /ab => 5.0
 READS 7: children /a/b => 4.0
 READS 7: children /x =>
+READS 7: all => 1.0 2.0 3.0 4.0 5.0
+READS 1: all =>
 READS 7: group /a /x => 3.0
 READS 7: group /ab /x => 5.0
 prune 7
@@ -77,7 +79,9 @@ READS 9: bundle d2 =>
 READS 9: children /a => 2.1 3.1
 drop_bundle d1 delete
 READS 10: entry 3 =>
-COUNT 10 => 3 0 0 at 10
+READS 10: all => 2.1 4.0 5.0
+COUNT 10 => 3 0 0 0 at 10
+CLONE 7: all => 1.0 2.0 3.0 4.0 5.0
 CLONE 7: entry 3 => 3.0
 CLONE 7: children /a => 1.0 2.0 3.0
 CLONE 7: users d2 => 2.0 3.0
@@ -105,8 +109,8 @@ drop_agent /spire/agent/m
 READS 5: agent /spire/agent/m =>
 SAME 5 4: agent /spire/agent/m => no
 SAME 5 0: agent /spire/agent/m => yes
-COUNT 4 => 0 1 1 at 4
-COUNT 5 => 0 0 1 at 5
+COUNT 4 => 0 1 1 0 at 4
+COUNT 5 => 0 0 1 0 at 5
 CLONE 4: agent /spire/agent/m => agent 1
 CLONE 4: bundle d1 => bundle 1
 ";
@@ -122,6 +126,7 @@ SAME 3 2: group /a /y => no
 SAME 3 2: children /a => no
 SAME 3 2: users d1 => no
 SAME 3 2: expiring 7 => no
+SAME 3 2: all => no
 SAME 3 2: expiring 6 => yes
 SAME 3 2: entry 1 => yes
 SAME 3 2: group /a /x => yes
@@ -132,6 +137,8 @@ SAME 4 2: group /a /y => yes
 SAME 4 2: children /a => yes
 SAME 4 2: users d1 => yes
 SAME 4 2: expiring 7 => yes
+SAME 4 2: all => yes
+SAME 1 0: all => yes
 SAME 4 3: children /a => no
 update 1 /a /x 4
 SAME 5 4: entry 1 => no
@@ -147,6 +154,30 @@ SAME 7 2: children /a => no
 SAME 6 0: children /a => yes
 READS 3: children /a => 1.0 2.0
 READS 5: children /a => 1.1
+";
+
+/// What is kept under a token has the number of its batch's own version, and stays.
+const KEPT: &str = "
+token 7;set_agent /spire/agent/m 1
+set_bundle d1
+token 8;set_bundle d1;set_bundle d2
+READS 0: token 7 =>
+READS 1: token 7 => 1 ops at 1
+READS 1: token 8 =>
+READS 3: token 7 => 1 ops at 1
+READS 3: token 8 => 2 ops at 3
+READS 3: token 9 =>
+READS 1: agent /spire/agent/m => agent 1
+SAME 1 0: token 7 => no
+SAME 1 0: token 8 => yes
+SAME 2 1: token 7 => yes
+SAME 3 1: token 7 => yes
+SAME 3 2: token 8 => no
+SAME 3 2: all => yes
+COUNT 1 => 0 1 0 1 at 1
+COUNT 3 => 0 1 2 2 at 3
+CLONE 3: token 8 => 2 ops at 3
+CLONE 3: token 9 =>
 ";
 
 #[test]
@@ -167,4 +198,9 @@ fn agents_and_bundles_are_read_and_compared(rt: HostRuntime) -> Result<(), Fail>
 #[test]
 fn marks_are_unchanged_where_their_rows_are(rt: HostRuntime) -> Result<(), Fail> {
     plays(&rt, rt.alloc(), UNCHANGED)
+}
+
+#[test]
+fn a_token_is_kept_with_its_place(rt: HostRuntime) -> Result<(), Fail> {
+    plays(&rt, rt.alloc(), KEPT)
 }

@@ -1,5 +1,6 @@
 use Rattle.version_book.proofs.laws.histories.Goals as goal
 use Rattle.version_book.proofs.Histories.{batch_commits, books_follow, domain_stays, follows_on, lawful_follows, limits_follow, unhit_history}
+use Rattle.version_book.proofs.Unchanged.{changed_marks_hit, unhit_marks}
 
 pub returns-clause-commits : goal.returns-clause-commits
 returns-clause-commits c = batch_commits
@@ -21,3 +22,9 @@ returns-clause-lawful c = lawful_follows
 
 pub returns-clause-unhit : goal.returns-clause-unhit
 returns-clause-unhit c = unhit_history
+
+pub returns-clause-unhit_marks : goal.returns-clause-unhit_marks
+returns-clause-unhit_marks c = unhit_marks
+
+pub returns-clause-changed_marks : goal.returns-clause-changed_marks
+returns-clause-changed_marks c = changed_marks_hit

@@ -1,5 +1,5 @@
 use Rattle.version_book.proofs.laws.marks.Goals as goal
-use Rattle.version_book.proofs.NamedRows.{reads_agent, reads_bundle, reads_children, reads_entry, reads_expiring, reads_group, reads_users}
+use Rattle.version_book.proofs.NamedRows.{reads_agent, reads_all, reads_bundle, reads_children, reads_entry, reads_expiring, reads_group, reads_token, reads_users}
 
 pub returns-clause-entry : goal.returns-clause-entry
 returns-clause-entry c = reads_entry
@@ -21,3 +21,9 @@ returns-clause-agent c = reads_agent
 
 pub returns-clause-bundle : goal.returns-clause-bundle
 returns-clause-bundle c = reads_bundle
+
+pub returns-clause-all : goal.returns-clause-all
+returns-clause-all c = reads_all
+
+pub returns-clause-token : goal.returns-clause-token
+returns-clause-token c = reads_token

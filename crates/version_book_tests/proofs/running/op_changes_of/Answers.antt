@@ -1,6 +1,6 @@
 use Rattle.version_book.specs.CommittedRows.{book_of}
 use Rattle.version_book_tests.proofs.Tested.{step_along, step_may_apply}
-use Rattle.version_book_tests.proofs.running.changes_of.Goals as goal
+use Rattle.version_book_tests.proofs.running.op_changes_of.Goals as goal
 
 pub applied-requires-clause-fits : goal.applied-requires-clause-fits
 applied-requires-clause-fits c = (step_may_apply c.args.batch.now c.loop-op.scratch c.ops-op-items.result.now c.loop-op.op-index c.op-item.result c.in_ok-writes.field-0 c.in-Some.writes c.ops-op-items.ensures.ops c.ops-op-items.ensures.made c.loop-op.invariant.domain c.number.ensures.lawful c.loop-op-test.true c.op-item.is c.in_ok-writes.ensures c.in-Some.is).fits

@@ -1,0 +1,106 @@
+-- The place of what a batch keeps under its token is put into its writes alone, and no mark looks at it.
+use Rattle.std.proofs.Common.{◌≡◌, ℕ, List, [], ◌∷◌, ◌++◌, Option, Some, None, Ok, Err, refl, sym, ap, ◌∙◌, IfOk}
+use Rattle.std.specs.Prelude.{◌||◌, filter, map, option_map}
+use Rattle.std.specs.List.{list_any}
+use Rattle.entry_book.specs.declared.kept.KeptBatch.{KeptBatch}
+use Rattle.entry_book.specs.declared.op.Op.{Op}
+use Rattle.entry_book.specs.declared.op.Op.TheVariants.{Prune, DropBundle}
+use Rattle.entry_book.specs.declared.reply.OpReply.{OpReply}
+use Rattle.entry_book.specs.Rows.{Bytes, Entry}
+use Rattle.entry_book.specs.Book.{Book, users_of, expired_before}
+use Rattle.entry_book.specs.Writes.{RowWrite, wrote_entry, wrote_agent, wrote_bundle, wrote_token, after}
+use Rattle.entry_book.specs.NamedRows.{bundle_of, token_of, row_written, entry_name, rows_named}
+use Rattle.entry_book.specs.Ops.{OpEffect, OpResult, bundle_removed, op_of}
+use Rattle.entry_book.specs.Runs.{RunResult, onto, then_run, run}
+use Rattle.entry_book.specs.Batches.{Batch}
+use Rattle.entry_book.specs.History.{batch_writes, token_writes}
+use Rattle.entry_book.proofs.Changed.{rewritten}
+use Rattle.entry_book.proofs.Shapes.{Shape, nothing, one_row, entries, entries_then, by_shape}
+use Rattle.version_book.specs.declared.mark.MarkKind.{MarkKind}
+use Rattle.version_book.specs.Marks.{hits, names_token, passes}
+use Rattle.version_book.specs.Laws.{HitsAtAnyPlace, PlacesPut}
+use Rattle.version_book.specs.Written.{at_place, placed, placed_write}
+
+-- ---- no mark looks at a place
+
+passes_at_place : (m : MarkKind) (n : ℕ) (new : Option KeptBatch) → passes (names_token m) (option_map (at_place n) new) ≡ passes (names_token m) new
+passes_at_place m n None = refl
+passes_at_place m n (Some k) = refl
+
+write_hits : (n : ℕ) (w : RowWrite) (m : MarkKind) → hits (placed_write n w) m ≡ hits w m
+write_hits n (wrote_token c) m = ap (λ b. passes (names_token m) c.old || b) (passes_at_place m n c.new)
+write_hits n w m = refl
+
+pub hits_at_any_place : HitsAtAnyPlace
+hits_at_any_place n [] m = refl
+hits_at_any_place n (w ∷ ws) m = let here = write_hits n w m in let rest = hits_at_any_place n ws m in λ i. here i || rest i
+
+-- ---- operations write no row of a token
+
+abbrev pub Unplaced : List RowWrite → Type 0
+Unplaced ws = (n : ℕ) → placed n ws ≡ ws
+
+pub placed_append : (n : ℕ) (vs ws : List RowWrite) → placed n (vs ++ ws) ≡ placed n vs ++ placed n ws
+placed_append n [] ws = refl
+placed_append n (v ∷ vs) ws = ap (λ l. placed_write n v ∷ l) (placed_append n vs ws)
+
+unplaced_append : (vs ws : List RowWrite) → Unplaced vs → Unplaced ws → Unplaced (vs ++ ws)
+unplaced_append vs ws h k = λ n. let one = h n in let two = k n in placed_append n vs ws ∙ (λ i. one i ++ two i)
+
+not_entries : (k : Bytes) (es : List Entry) → map entry_name es ≡ token_of k ∷ [] → ⊥
+not_entries k [] h = cc
+not_entries k (e ∷ es) h = cc
+
+not_bundle : (k : Bytes) (es : List Entry) (d : Bytes) → map entry_name es ++ bundle_of d ∷ [] ≡ token_of k ∷ [] → ⊥
+not_bundle k [] d h = cc
+not_bundle k (e ∷ es) d h = cc
+
+names_no_token : (op : Op) (b : Book) (k : Bytes) → rows_named op b ≡ token_of k ∷ [] → ⊥
+names_no_token (Prune moment) b k h = not_entries k (expired_before moment b) h
+names_no_token (DropBundle domain mode) b k h = not_bundle k (users_of domain b) domain h
+names_no_token op b k h = cc
+
+row_unplaced : (op : Op) (b : Book) (w : RowWrite) → rows_named op b ≡ row_written w ∷ [] → Unplaced (w ∷ [])
+row_unplaced op b (wrote_token c) h = absurd (names_no_token op b c.key h)
+row_unplaced op b w h = λ n. refl
+
+rewritten_unplaced : (f : Entry → Option Entry) (es : List Entry) → Unplaced (map (rewritten f) es)
+rewritten_unplaced f [] = λ n. refl
+rewritten_unplaced f (e ∷ es) = λ n. ap (λ l. rewritten f e ∷ l) (rewritten_unplaced f es n)
+
+along : (vs ws : List RowWrite) → vs ≡ ws → Unplaced ws → Unplaced vs
+along vs ws e h = λ n. ap (placed n) e ∙ (h n ∙ sym e)
+
+shape_unplaced : (op : Op) (b : Book) (d : OpEffect) → Shape op b d → Unplaced d.writes
+shape_unplaced op b d (nothing h named) = along d.writes [] h (λ n. refl)
+shape_unplaced op b d (one_row w f h named) = along d.writes (w ∷ []) h (row_unplaced op b w named)
+shape_unplaced op b d (entries f k p h named) = along d.writes _ h (rewritten_unplaced f (filter p b.entries))
+shape_unplaced op b d (entries_then f k p x w h named) = along d.writes _ h (unplaced_append (map (rewritten f) (filter p b.entries)) (bundle_removed x ∷ []) (rewritten_unplaced f (filter p b.entries)) (λ n. refl))
+
+onto_unplaced : (d : OpEffect) (r : RunResult) → Unplaced d.writes → IfOk r (λ t. Unplaced t.writes) → IfOk (onto d r) (λ t. Unplaced t.writes)
+onto_unplaced d (Ok t) h k = unplaced_append d.writes t.writes h k
+onto_unplaced d (Err s) h k = tt
+
+then_unplaced : (o : OpResult) (f : OpEffect → RunResult) → IfOk o (λ d. Unplaced d.writes) → ((d : OpEffect) → IfOk (f d) (λ t. Unplaced t.writes)) → IfOk (then_run o f) (λ t. Unplaced t.writes)
+then_unplaced (Ok d) f h k = onto_unplaced d (f d) h (k d)
+then_unplaced (Err r) f h k = tt
+
+pub run_unplaced : (own : Bytes) (ops : List Op) (b : Book) → IfOk (run own ops b) (λ t. Unplaced t.writes)
+run_unplaced own [] b = λ n. refl
+run_unplaced own (op ∷ ops) b = then_unplaced (op_of own op b) (λ d. run own ops (after d.writes b)) (by_shape own op b (λ d. Unplaced d.writes) (λ d s. shape_unplaced op b d s)) (λ d. run_unplaced own ops (after d.writes b))
+
+-- ---- the writes of a batch
+
+pub token_placed : (token : Option Bytes) (ops : List Op) (m n : ℕ) (replies : List OpReply) → placed n (token_writes token ops m replies) ≡ token_writes token ops n replies
+token_placed None ops m n replies = refl
+token_placed (Some k) ops m n replies = refl
+
+all_placed : (batch : Batch) (m n : ℕ) (r : RunResult) → IfOk r (λ t. Unplaced t.writes) → IfOk r (λ t. placed n (batch_writes batch m t) ≡ batch_writes batch n t)
+all_placed batch m n (Ok t) h =
+    let own = h n in
+    let token = token_placed batch.token batch.ops m n t.replies in
+    placed_append n t.writes (token_writes batch.token batch.ops m t.replies) ∙ (λ i. own i ++ token i)
+all_placed batch m n (Err s) h = tt
+
+pub places_put : PlacesPut
+places_put batch b m n = all_placed batch m n (run batch.domain batch.ops b) (run_unplaced batch.domain batch.ops b)
