@@ -20,7 +20,7 @@ use Rattle.entry_book.specs.declared.reply.OpRefusal.TheVariants as refused
 use Rattle.entry_book.specs.declared.reply.Outcome.{Outcome}
 use Rattle.entry_book.specs.declared.reply.Outcome.TheVariants as outcome
 use Rattle.entry_book.specs.declared.reply.Refusal.{Refusal}
-use Rattle.entry_book.specs.declared.reply.Refusal.TheVariants.{Full, OfOp}
+use Rattle.entry_book.specs.declared.reply.Refusal.TheVariants.{Full, NotYet, OfOp, TokenReused}
 use Rattle.entry_book.specs.declared.reply.Reply.{Reply}
 use Rattle.entry_book.specs.declared.reply.OpReply.{OpReply}
 use Rattle.entry_book.specs.declared.reply.OpReply.TheVariants as replied
@@ -225,6 +225,8 @@ refused_json-pieces call place r = left-right (codes "{\"call\":") (refused_piec
 
 refused_json-is : (call place : ℕ) (r : Refusal) → refused_json call place r ≡ compact_text (refused_data call place r)
 unfolding serde_json_on_literals
+refused_json-is call place NotYet = refused_json-pieces call place NotYet ∙ simp (append_assoc, text_json-is) refl
+refused_json-is call place TokenReused = refused_json-pieces call place TokenReused ∙ simp (append_assoc, text_json-is) refl
 refused_json-is call place (OfOp n refused.IdTaken) = refused_json-pieces call place (OfOp n refused.IdTaken) ∙ simp (append_assoc, text_json-is) refl
 refused_json-is call place (OfOp n (refused.Similar id)) = refused_json-pieces call place (OfOp n (refused.Similar id)) ∙ simp (append_assoc, text_json-is) refl
 refused_json-is call place (OfOp n refused.NoEntry) = refused_json-pieces call place (OfOp n refused.NoEntry) ∙ simp (append_assoc, text_json-is) refl
@@ -232,14 +234,17 @@ refused_json-is call place (OfOp n refused.StaleRevision) = refused_json-pieces 
 refused_json-is call place (OfOp n (refused.NoBundle domain)) = refused_json-pieces call place (OfOp n (refused.NoBundle domain)) ∙ simp (append_assoc, text_json-is) refl
 refused_json-is call place (OfOp n refused.BundleInUse) = refused_json-pieces call place (OfOp n refused.BundleInUse) ∙ simp (append_assoc, text_json-is) refl
 refused_json-is call place (OfOp n refused.NoAgent) = refused_json-pieces call place (OfOp n refused.NoAgent) ∙ simp (append_assoc, text_json-is) refl
+refused_json-is call place (OfOp n refused.VersionGone) = refused_json-pieces call place (OfOp n refused.VersionGone) ∙ simp (append_assoc, text_json-is) refl
 refused_json-is call place (Full limit.History) = refused_json-pieces call place (Full limit.History) ∙ simp (append_assoc, text_json-is) refl
 refused_json-is call place (Full limit.Entries) = refused_json-pieces call place (Full limit.Entries) ∙ simp (append_assoc, text_json-is) refl
 refused_json-is call place (Full limit.Agents) = refused_json-pieces call place (Full limit.Agents) ∙ simp (append_assoc, text_json-is) refl
 refused_json-is call place (Full limit.Bundles) = refused_json-pieces call place (Full limit.Bundles) ∙ simp (append_assoc, text_json-is) refl
+refused_json-is call place (Full limit.Tokens) = refused_json-pieces call place (Full limit.Tokens) ∙ simp (append_assoc, text_json-is) refl
 
 outcome_json-is : (call place : ℕ) (o : Outcome) → outcome_json call place o ≡ compact_text (outcome_data call place o)
 outcome_json-is call place (outcome.Committed rs) = done_json-is call place rs (codes "committed")
 outcome_json-is call place (outcome.Answered rs) = done_json-is call place rs (codes "answered")
+outcome_json-is call place (outcome.Repeated rs) = done_json-is call place rs (codes "repeated")
 outcome_json-is call place (outcome.Refused r) = refused_json-is call place r
 
 pub reply_json-is : (call : ℕ) (reply : Reply) → reply_json call reply ≡ compact_text (reply_data call reply)
@@ -322,6 +327,9 @@ replies-no_float rs = list-no_float op_reply_data op_reply-no_float rs
 outcome-no_float : (call place : ℕ) (o : Outcome) → has_float (outcome_data call place o) ≡ false
 outcome-no_float call place (outcome.Committed rs) = simp replies-no_float refl
 outcome-no_float call place (outcome.Answered rs) = simp replies-no_float refl
+outcome-no_float call place (outcome.Repeated rs) = simp replies-no_float refl
+outcome-no_float call place (outcome.Refused NotYet) = refl
+outcome-no_float call place (outcome.Refused TokenReused) = refl
 outcome-no_float call place (outcome.Refused (OfOp n refused.IdTaken)) = refl
 outcome-no_float call place (outcome.Refused (OfOp n (refused.Similar id))) = refl
 outcome-no_float call place (outcome.Refused (OfOp n refused.NoEntry)) = refl
@@ -329,10 +337,12 @@ outcome-no_float call place (outcome.Refused (OfOp n refused.StaleRevision)) = r
 outcome-no_float call place (outcome.Refused (OfOp n (refused.NoBundle domain))) = refl
 outcome-no_float call place (outcome.Refused (OfOp n refused.BundleInUse)) = refl
 outcome-no_float call place (outcome.Refused (OfOp n refused.NoAgent)) = refl
+outcome-no_float call place (outcome.Refused (OfOp n refused.VersionGone)) = refl
 outcome-no_float call place (outcome.Refused (Full limit.History)) = refl
 outcome-no_float call place (outcome.Refused (Full limit.Entries)) = refl
 outcome-no_float call place (outcome.Refused (Full limit.Agents)) = refl
 outcome-no_float call place (outcome.Refused (Full limit.Bundles)) = refl
+outcome-no_float call place (outcome.Refused (Full limit.Tokens)) = refl
 
 pub reply-no_float : (call : ℕ) (reply : Reply) → has_float (reply_data call reply) ≡ false
 reply-no_float call reply = outcome-no_float call reply.place reply.outcome

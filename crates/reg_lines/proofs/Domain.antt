@@ -5,12 +5,13 @@ use Rattle.rand_chacha.specs.ChaCha.{ChaCha}
 use Rattle.entry_book.specs.Batches.{Batch, batch_refusal}
 use Rattle.entry_book.specs.declared.fault.BatchRefusal.{BatchRefusal}
 use Rattle.entry_book.specs.declared.op.Op.{Op}
-use Rattle.serde_json.specs.Data.{Data, Items, Members}
+use Rattle.serde_json.specs.Data.{Data, Members}
 use Rattle.serde_json.specs.Find.{as_object}
 use Rattle.reg_lines.specs.declared.fault.Fault.{Fault}
 use Rattle.reg_lines.specs.declared.reading.request.Request.{Request}
+use Rattle.reg_lines.specs.declared.fault.Key.{Key}
 use Rattle.reg_lines.specs.declared.fault.Key.TheVariants as key
-use Rattle.reg_lines.specs.Batches.{unless_refused, batch_of, items_at, batch_in}
+use Rattle.reg_lines.specs.Batches.{Listed, unless_refused, batch_of, listed_in, missing_beside, batch_in}
 use Rattle.reg_lines.specs.Fields.{◌>>=◌, tries_at, no_others}
 use Rattle.reg_lines.specs.Operations.{ops_in}
 use Rattle.reg_lines.specs.Requests.{request_in, framed, value_in, object_in, spelled}
@@ -37,16 +38,16 @@ batch_made domain read = read.0.domain ≡ domain
 abbrev batch_and : ChaCha → Batch → ReadBatch
 batch_and ids batch = Ok (batch, ids)
 
-unless_refused-domain : (domain : List ℕ) (o : Option BatchRefusal) (ops : List Op) (ids : ChaCha)
-    → IfOk (unless_refused o (record { domain = domain; ops = ops }) >>= batch_and ids) (batch_made domain)
-unless_refused-domain domain None ops ids = refl
-unless_refused-domain domain (Some r) ops ids = tt
+unless_refused-domain : (o : Option BatchRefusal) (batch : Batch) (ids : ChaCha) → IfOk (unless_refused o batch >>= batch_and ids) (batch_made batch.domain)
+unless_refused-domain None batch ids = refl
+unless_refused-domain (Some r) batch ids = tt
 
-batch_in-domain : (domain : List ℕ) (ids : ChaCha) (items : Items) → IfOk (batch_in domain ids items) (batch_made domain)
+batch_in-domain : (domain : List ℕ) (ids : ChaCha) (listed : Listed) → IfOk (batch_in domain ids listed) (batch_made domain)
 unfolding batch_in
-batch_in-domain domain ids items =
-    let from_ops : List Op × ChaCha → ReadBatch = λ ops. batch_of domain ops.0 >>= batch_and ops.1 in
-    then_ok (batch_made domain) (ops_in 0 ids items) from_ops (λ ops. unless_refused-domain domain (batch_refusal domain ops.0) ops.0 ops.1)
+batch_in-domain domain ids listed =
+    let batch : List Op → Batch = λ ops. record { domain = domain; ops = ops; after = listed.after; token = listed.token } in
+    let from_ops : List Op × ChaCha → ReadBatch = λ ops. batch_of domain ops.0 listed.after listed.token >>= batch_and ops.1 in
+    then_ok (batch_made domain) (ops_in 0 (missing_beside listed.token) ids listed.items) from_ops (λ ops. unless_refused-domain (batch_refusal domain ops.0 listed.token) (batch ops.0) ops.1)
 
 -- ---- a request
 
@@ -61,13 +62,14 @@ request_of tries batch = Ok (record { batch = batch.0; tries = tries }, batch.1)
 request_in-domain : (domain : List ℕ) (ids : ChaCha) (d : Data) (ms : Members) → IfOk (request_in domain ids d ms) (made domain)
 unfolding request_in
 request_in-domain domain ids d ms =
-    let from_keys : Items → ℕ → ⊤ → Read = λ items tries none. batch_in domain ids items >>= request_of tries in
-    let from_tries : Items → ℕ → Read = λ items tries. no_others (key.Ops ∷ key.Tries ∷ []) ms >>= from_keys items tries in
-    let from_items : Items → Read = λ items. tries_at key.Tries d >>= from_tries items in
-    then_ok (made domain) (items_at d) from_items (λ items.
-    then_ok (made domain) (tries_at key.Tries d) (from_tries items) (λ tries.
-    then_ok (made domain) (no_others (key.Ops ∷ key.Tries ∷ []) ms) (from_keys items tries) (λ none.
-    both_ok (batch_made domain) (made domain) (batch_in domain ids items) (request_of tries) (batch_in-domain domain ids items) (λ batch e. e))))
+    let keys : List Key = key.Ops ∷ key.After ∷ key.Token ∷ key.Tries ∷ [] in
+    let from_keys : Listed → ℕ → ⊤ → Read = λ listed tries none. batch_in domain ids listed >>= request_of tries in
+    let from_tries : Listed → ℕ → Read = λ listed tries. no_others keys ms >>= from_keys listed tries in
+    let from_listed : Listed → Read = λ listed. tries_at key.Tries d >>= from_tries listed in
+    then_ok (made domain) (listed_in d) from_listed (λ listed.
+    then_ok (made domain) (tries_at key.Tries d) (from_tries listed) (λ tries.
+    then_ok (made domain) (no_others keys ms) (from_keys listed tries) (λ none.
+    both_ok (batch_made domain) (made domain) (batch_in domain ids listed) (request_of tries) (batch_in-domain domain ids listed) (λ batch e. e))))
 
 -- ---- a line
 

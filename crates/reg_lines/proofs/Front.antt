@@ -9,6 +9,7 @@ use Rattle.spiffe_name.specs.declared.refusals.Failure.{Failure}
 use Rattle.spiffe_name.specs.declared.refusals.Failure.TheVariants.{NoMemory, Refused}
 use Rattle.entry_book.specs.declared.op.Op.{Op}
 use Rattle.reg_lines.specs.declared.fault.Fault.{Fault}
+use Rattle.reg_lines.specs.declared.reading.ids.MissingId.{MissingId}
 use Rattle.reg_lines.specs.Fields.{Fails, ◌>>=◌}
 use Rattle.reg_lines.specs.Operations.{at_op, op_in, ops_in}
 
@@ -63,29 +64,31 @@ with_ops-more : (front : List Op) (op : Op) (read : Result (List Op × ChaCha) F
 with_ops-more front op (Ok r) = ap (λ l. Ok (l, r.1)) (sym (append_assoc front (op ∷ []) r.0))
 with_ops-more front op (Err e) = refl
 
--- the operations from this one on
-abbrev ops_from : ℕ → List Value → Result (Op × ChaCha) Fault → Result (List Op × ChaCha) Fault
-ops_from i vs read = read >>= (λ o. ops_in (i + 1) o.1 (items_view (drop (i + 1) vs)) >>= (λ r. Ok (o.0 ∷ r.0, r.1)))
+-- what becomes of a create without an id is the same for all
+module _ (missing : MissingId) where
+  -- the operations from this one on
+  abbrev ops_from : ℕ → List Value → Result (Op × ChaCha) Fault → Result (List Op × ChaCha) Fault
+  ops_from i vs read = read >>= (λ o. ops_in (i + 1) missing o.1 (items_view (drop (i + 1) vs)) >>= (λ r. Ok (o.0 ∷ r.0, r.1)))
 
-ops_in-next : (vs : List Value) (i : ℕ) (ids : ChaCha) (v : Value) → i < length vs → v ≡ get_or vs i v
-    → ops_in i ids (items_view (drop i vs)) ≡ ops_from i vs (at_op i (op_in ids (view v)))
-ops_in-next vs i ids v l e = at_drop_more (λ ws. ops_in i ids (items_view ws)) vs i v l ∙ ap (λ w. ops_in i ids (items_view (w ∷ drop (i + 1) vs))) (sym e)
+  ops_in-next : (vs : List Value) (i : ℕ) (ids : ChaCha) (v : Value) → i < length vs → v ≡ get_or vs i v
+      → ops_in i missing ids (items_view (drop i vs)) ≡ ops_from i vs (at_op i (op_in missing ids (view v)))
+  ops_in-next vs i ids v l e = at_drop_more (λ ws. ops_in i missing ids (items_view ws)) vs i v l ∙ ap (λ w. ops_in i missing ids (items_view (w ∷ drop (i + 1) vs))) (sym e)
 
-pub ops_in-more : (vs : List Value) (i : ℕ) (ids after : ChaCha) (v : Value) (front new : List Op) (op : Op) → i < length vs → v ≡ get_or vs i v → at_op i (op_in ids (view v)) ≡ Ok (op, after) → new ≡ front ++ op ∷ []
-    → with_ops front (ops_in i ids (items_view (drop i vs))) ≡ with_ops new (ops_in (i + 1) after (items_view (drop (i + 1) vs)))
-ops_in-more vs i ids after v front new op l e a n =
-    ap (with_ops front) (ops_in-next vs i ids v l e ∙ ap (ops_from i vs) a)
-    ∙ (with_ops-more front op (ops_in (i + 1) after (items_view (drop (i + 1) vs)))
-    ∙ ap (λ l. with_ops l (ops_in (i + 1) after (items_view (drop (i + 1) vs)))) (sym n))
+  pub ops_in-more : (vs : List Value) (i : ℕ) (ids after : ChaCha) (v : Value) (front new : List Op) (op : Op) → i < length vs → v ≡ get_or vs i v → at_op i (op_in missing ids (view v)) ≡ Ok (op, after) → new ≡ front ++ op ∷ []
+      → with_ops front (ops_in i missing ids (items_view (drop i vs))) ≡ with_ops new (ops_in (i + 1) missing after (items_view (drop (i + 1) vs)))
+  ops_in-more vs i ids after v front new op l e a n =
+      ap (with_ops front) (ops_in-next vs i ids v l e ∙ ap (ops_from i vs) a)
+      ∙ (with_ops-more front op (ops_in (i + 1) missing after (items_view (drop (i + 1) vs)))
+      ∙ ap (λ l. with_ops l (ops_in (i + 1) missing after (items_view (drop (i + 1) vs)))) (sym n))
 
-ops_in-stop : (vs : List Value) (i : ℕ) (ids : ChaCha) (v : Value) (front : List Op) (f : Fault) → i < length vs → v ≡ get_or vs i v → at_op i (op_in ids (view v)) ≡ Err f
-    → with_ops front (ops_in i ids (items_view (drop i vs))) ≡ Err f
-ops_in-stop vs i ids v front f l e a = ap (with_ops front) (ops_in-next vs i ids v l e ∙ ap (ops_from i vs) a)
+  ops_in-stop : (vs : List Value) (i : ℕ) (ids : ChaCha) (v : Value) (front : List Op) (f : Fault) → i < length vs → v ≡ get_or vs i v → at_op i (op_in missing ids (view v)) ≡ Err f
+      → with_ops front (ops_in i missing ids (items_view (drop i vs))) ≡ Err f
+  ops_in-stop vs i ids v front f l e a = ap (with_ops front) (ops_in-next vs i ids v l e ∙ ap (ops_from i vs) a)
 
-pub ops_in-refused : (vs : List Value) (i : ℕ) (ids : ChaCha) (v : Value) (front : List Op) (e : Failure Fault) (whole : Result (List Op × ChaCha) Fault) → i < length vs → v ≡ get_or vs i v → Fails e (at_op i (op_in ids (view v)))
-    → with_ops front (ops_in i ids (items_view (drop i vs))) ≡ whole → Fails e whole
-ops_in-refused vs i ids v front NoMemory whole l e f k = tt
-ops_in-refused vs i ids v front (Refused r) whole l e f k = sym k ∙ ops_in-stop vs i ids v front r l e f
+  pub ops_in-refused : (vs : List Value) (i : ℕ) (ids : ChaCha) (v : Value) (front : List Op) (e : Failure Fault) (whole : Result (List Op × ChaCha) Fault) → i < length vs → v ≡ get_or vs i v → Fails e (at_op i (op_in missing ids (view v)))
+      → with_ops front (ops_in i missing ids (items_view (drop i vs))) ≡ whole → Fails e whole
+  ops_in-refused vs i ids v front NoMemory whole l e f k = tt
+  ops_in-refused vs i ids v front (Refused r) whole l e f k = sym k ∙ ops_in-stop vs i ids v front r l e f
 
-pub ops_in-all : (vs : List Value) (i : ℕ) (ids : ChaCha) (front : List Op) → length vs ≤ i → with_ops front (ops_in i ids (items_view (drop i vs))) ≡ Ok (front, ids)
-ops_in-all vs i ids front l = ap (with_ops front) (at_drop_all (λ ws. ops_in i ids (items_view ws)) vs i l) ∙ ap (λ l. Ok (l, ids)) (append-nil front)
+  pub ops_in-all : (vs : List Value) (i : ℕ) (ids : ChaCha) (front : List Op) → length vs ≤ i → with_ops front (ops_in i missing ids (items_view (drop i vs))) ≡ Ok (front, ids)
+  ops_in-all vs i ids front l = ap (with_ops front) (at_drop_all (λ ws. ops_in i missing ids (items_view ws)) vs i l) ∙ ap (λ l. Ok (l, ids)) (append-nil front)

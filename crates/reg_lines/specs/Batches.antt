@@ -1,5 +1,5 @@
--- Which batch an object spells. An object that holds a batch has its operations at one key; a line that has keys of its own beside it looks at them after that key and before the operations.
-use Rattle.std.specs.Prelude.{ℕ, List, Option, Some, None, Result, Ok, Err, option_and_then}
+-- Which batch an object spells. An object that holds a batch has keys of the batch's own; a line that has further keys beside them looks at those next, and then come the operations.
+use Rattle.std.specs.Prelude.{ℕ, List, Option, Some, None, Result, Ok, Err, option_and_then, unwrap_or}
 use Rattle.serde_json.specs.Data.{Data, Items}
 use Rattle.serde_json.specs.Find.{get, as_array}
 use Rattle.rand_chacha.specs.ChaCha.{ChaCha}
@@ -10,25 +10,49 @@ use Rattle.entry_book.specs.declared.op.Op.{Op}
 use Rattle.reg_lines.specs.declared.fault.Code.TheVariants as code
 use Rattle.reg_lines.specs.declared.fault.Fault.{Fault}
 use Rattle.reg_lines.specs.declared.fault.Key.TheVariants as key
+use Rattle.reg_lines.specs.declared.reading.ids.MissingId.{MissingId}
+use Rattle.reg_lines.specs.declared.reading.ids.MissingId.TheVariants.{Drawn, Refused}
 use Rattle.reg_lines.specs.Codes.{key_name}
-use Rattle.reg_lines.specs.Fields.{◌>>=◌, required}
+use Rattle.reg_lines.specs.Fields.{◌>>=◌, required, optional_number_at, optional_uuid_at}
 use Rattle.reg_lines.specs.Operations.{ops_in}
+
+-- ---- a batch's own keys
+
+-- What stands there: the operations, as they are listed, the least place at which the batch may run, and its token, where it carries one.
+pub record Listed : Type 0 where
+  pub items : Items
+  pub after : ℕ
+  pub token : Option (List ℕ)
+
+unfoldable pub items_at : Data → Result Items Fault
+items_at d = required key.Ops (option_and_then as_array (get (key_name key.Ops) d))
+
+-- it may run at every place by default
+unfoldable pub listed_in : Data → Result Listed Fault
+listed_in d = do
+  items ← items_at d
+  after ← optional_number_at key.After d
+  token ← optional_uuid_at key.Token d
+  Ok (record { items = items; after = unwrap_or after 0; token = token })
+
+-- ---- the batch
 
 abbrev pub unless_refused : Option BatchRefusal → Batch → Result Batch Fault
 unless_refused None batch = Ok batch
 unless_refused (Some refusal) batch = Err (record { code = code.Batch refusal; field = None; op = batch_op refusal })
 
 -- the batch of these operations for a trust domain
-abbrev pub batch_of : List ℕ → List Op → Result Batch Fault
-batch_of domain ops = unless_refused (batch_refusal domain ops) (record { domain = domain; ops = ops })
+abbrev pub batch_of : List ℕ → List Op → ℕ → Option (List ℕ) → Result Batch Fault
+batch_of domain ops after token = unless_refused (batch_refusal domain ops token) (record { domain = domain; ops = ops; after = after; token = token })
 
--- the operations, as they are listed
-unfoldable pub items_at : Data → Result Items Fault
-items_at d = required key.Ops (option_and_then as_array (get (key_name key.Ops) d))
+-- a batch with a token can be sent again as it stands only where each new entry has its id
+abbrev pub missing_beside : Option (List ℕ) → MissingId
+missing_beside None = Drawn
+missing_beside (Some token) = Refused
 
--- the batch of the operations that are listed, for a trust domain; beside it stands what is left of the ids
-unfoldable pub batch_in : List ℕ → ChaCha → Items → Result (Batch × ChaCha) Fault
-batch_in domain ids items = do
-  ops ← ops_in 0 ids items
-  batch ← batch_of domain ops.0
+-- the batch of what is listed, for a trust domain; beside it stands what is left of the ids
+unfoldable pub batch_in : List ℕ → ChaCha → Listed → Result (Batch × ChaCha) Fault
+batch_in domain ids listed = do
+  ops ← ops_in 0 (missing_beside listed.token) ids listed.items
+  batch ← batch_of domain ops.0 listed.after listed.token
   Ok (batch, ops.1)

@@ -11,6 +11,8 @@ use Rattle.reg_lines.specs.declared.fault.Code.TheVariants as code
 
 abbrev pub key_name : Key → List ℕ
 key_name key.Ops = codes "ops"
+key_name key.After = codes "after"
+key_name key.Token = codes "token"
 key_name key.Tries = codes "tries"
 key_name key.Op = codes "op"
 key_name key.Id = codes "id"
@@ -29,6 +31,7 @@ key_name key.Before = codes "before"
 key_name key.Text = codes "text"
 key_name key.Mode = codes "mode"
 key_name key.Size = codes "size"
+key_name key.At = codes "at"
 key_name key.From = codes "from"
 key_name key.Match = codes "match"
 

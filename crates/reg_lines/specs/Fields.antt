@@ -22,6 +22,8 @@ use Rattle.reg_lines.specs.declared.fault.Code.TheVariants as code
 use Rattle.reg_lines.specs.declared.fault.Fault.{Fault}
 use Rattle.reg_lines.specs.declared.fault.Field.TheVariants.{Known, Unknown}
 use Rattle.reg_lines.specs.declared.fault.Key.{Key}
+use Rattle.reg_lines.specs.declared.reading.ids.MissingId.{MissingId}
+use Rattle.reg_lines.specs.declared.reading.ids.MissingId.TheVariants as missing
 use Rattle.reg_lines.specs.Codes.{key_name}
 use Rattle.reg_lines.specs.Ids.{given_or_drawn}
 
@@ -175,10 +177,20 @@ unfoldable pub optional_uuid_at : Key → Data → Result (Option (List ℕ)) Fa
 optional_uuid_at key d = optional (uuid_in key) (given_at key d)
 
 -- the id at the key, or one that is drawn, and what is left of the ids
-unfoldable pub new_uuid_at : ChaCha → Key → Data → Result (List ℕ × ChaCha) Fault
-new_uuid_at ids key d = do
+unfoldable pub uuid_or_drawn_at : ChaCha → Key → Data → Result (List ℕ × ChaCha) Fault
+uuid_or_drawn_at ids key d = do
   given ← optional (uuid_in key) (given_at key d)
   Ok (given_or_drawn given ids)
+
+-- beside what a reader that draws no id gives stand all the ids
+abbrev pub beside : {A : Type 0} → ChaCha → Result A Fault → Result (A × ChaCha) Fault
+beside ids (Ok x) = Ok (x, ids)
+beside ids (Err fault) = Err fault
+
+-- the id at the key of something new: where it is missing it is drawn, or refused
+abbrev pub new_uuid_at : MissingId → ChaCha → Key → Data → Result (List ℕ × ChaCha) Fault
+new_uuid_at missing.Drawn ids key d = uuid_or_drawn_at ids key d
+new_uuid_at missing.Refused ids key d = beside ids (uuid_at key d)
 
 -- ---- lists are looked at item by item
 

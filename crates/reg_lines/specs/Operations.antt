@@ -15,7 +15,8 @@ use Rattle.entry_book.specs.declared.op.Op.TheVariants.{Create, Update, Delete, 
 use Rattle.reg_lines.specs.declared.fault.Code.TheVariants as code
 use Rattle.reg_lines.specs.declared.fault.Fault.{Fault}
 use Rattle.reg_lines.specs.declared.fault.Key.TheVariants as key
-use Rattle.reg_lines.specs.Fields.{◌>>=◌, at_key, required, text_at, optional_text_at, optional_mode_at, number_at, optional_number_at, id_at, optional_id_at, domain_at, optional_domain_at, uuid_at, optional_uuid_at, new_uuid_at, selectors_at, optional_selectors_at, optional_match_at, optional_domains_at, no_others}
+use Rattle.reg_lines.specs.declared.reading.ids.MissingId.{MissingId}
+use Rattle.reg_lines.specs.Fields.{◌>>=◌, at_key, beside, required, text_at, optional_text_at, optional_mode_at, number_at, optional_number_at, id_at, optional_id_at, domain_at, optional_domain_at, uuid_at, optional_uuid_at, new_uuid_at, selectors_at, optional_selectors_at, optional_match_at, optional_domains_at, no_others}
 
 -- ---- entries
 
@@ -32,10 +33,10 @@ entry_in id d = do
   jwt ← optional_number_at key.JwtSvidTtl d
   Ok (record { id = id; parent = parent; identity = identity; selectors = selectors; hint = unwrap_or hint []; domains = unwrap_or domains []; expiry = unwrap_or expiry 0; x509_svid_ttl = unwrap_or x509 0; jwt_svid_ttl = unwrap_or jwt 0 })
 
--- an entry that comes without an id draws one; beside the operation stands what is left of the ids
-unfoldable pub create_in : ChaCha → Data → Members → Result (Op × ChaCha) Fault
-create_in ids d ms = do
-  id ← new_uuid_at ids key.Id d
+-- an entry that comes without an id draws one, or is refused; beside the operation stands what is left of the ids
+unfoldable pub create_in : MissingId → ChaCha → Data → Members → Result (Op × ChaCha) Fault
+create_in missing ids d ms = do
+  id ← new_uuid_at missing ids key.Id d
   entry ← entry_in id.0 d
   none ← no_others (key.Op ∷ key.Id ∷ key.Parent ∷ key.Identity ∷ key.Selectors ∷ key.Hint ∷ key.Domains ∷ key.Expiry ∷ key.X509SvidTtl ∷ key.JwtSvidTtl ∷ []) ms
   Ok (Create entry, id.1)
@@ -86,10 +87,11 @@ filter_in d = do
 unfoldable pub page_in : Data → Members → Result Op Fault
 page_in d ms = do
   size ← number_at key.Size d
+  at ← optional_number_at key.At d
   from ← optional_uuid_at key.From d
   filter ← filter_in d
-  none ← no_others (key.Op ∷ key.Size ∷ key.From ∷ key.Parent ∷ key.Identity ∷ key.Domain ∷ key.Selectors ∷ key.Match ∷ []) ms
-  Ok (Page (record { size = size; from = from; filter = filter }))
+  none ← no_others (key.Op ∷ key.Size ∷ key.At ∷ key.From ∷ key.Parent ∷ key.Identity ∷ key.Domain ∷ key.Selectors ∷ key.Match ∷ []) ms
+  Ok (Page (record { size = size; at = at; from = from; filter = filter }))
 
 unfoldable pub prune_in : Data → Members → Result Op Fault
 prune_in d ms = do
@@ -177,28 +179,25 @@ undrawn_in name d ms =
     if bytes_eq name (codes "drop_bundle") then drop_bundle_in d ms else
     at_key code.Field key.Op)))))))))))))
 
-abbrev pub beside : {A : Type 0} → ChaCha → Result A Fault → Result (A × ChaCha) Fault
-beside ids (Ok x) = Ok (x, ids)
-beside ids (Err fault) = Err fault
+abbrev pub named_op : MissingId → ChaCha → List ℕ → Data → Members → Result (Op × ChaCha) Fault
+named_op missing ids name d ms = if bytes_eq name (codes "create") then create_in missing ids d ms else beside ids (undrawn_in name d ms)
 
-abbrev pub named_op : ChaCha → List ℕ → Data → Members → Result (Op × ChaCha) Fault
-named_op ids name d ms = if bytes_eq name (codes "create") then create_in ids d ms else beside ids (undrawn_in name d ms)
-
-unfoldable pub op_in : ChaCha → Data → Result (Op × ChaCha) Fault
-op_in ids d = do
+unfoldable pub op_in : MissingId → ChaCha → Data → Result (Op × ChaCha) Fault
+op_in missing ids d = do
   ms ← required key.Ops (as_object d)
   name ← text_at key.Op d
-  named_op ids name d ms
+  named_op missing ids name d ms
 
 -- a fault in the operation of this index
 abbrev pub at_op : {A : Type 0} → ℕ → Result A Fault → Result A Fault
 at_op index (Ok x) = Ok x
 at_op index (Err fault) = Err (record { code = fault.code; field = fault.field; op = Some index })
 
--- operation by operation, counted from this index; what one leaves of the ids is there for the next
-abbrev pub ops_in : ℕ → ChaCha → Items → Result (List Op × ChaCha) Fault
-ops_in index ids no_items = Ok ([], ids)
-ops_in index ids (item d ds) = do
-  op ← at_op index (op_in ids d)
-  ops ← ops_in (index + 1) op.1 ds
+-- operation by operation, counted from this index: what becomes of a create without an id, and the ids, of which what one
+-- leaves is there for the next
+abbrev pub ops_in : ℕ → MissingId → ChaCha → Items → Result (List Op × ChaCha) Fault
+ops_in index missing ids no_items = Ok ([], ids)
+ops_in index missing ids (item d ds) = do
+  op ← at_op index (op_in missing ids d)
+  ops ← ops_in (index + 1) missing op.1 ds
   Ok (op.0 ∷ ops.0, ops.1)

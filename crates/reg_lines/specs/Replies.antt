@@ -13,7 +13,7 @@ use Rattle.entry_book.specs.declared.reply.OpReply.TheVariants as replied
 use Rattle.entry_book.specs.declared.reply.Outcome.{Outcome}
 use Rattle.entry_book.specs.declared.reply.Outcome.TheVariants as outcome
 use Rattle.entry_book.specs.declared.reply.Refusal.{Refusal}
-use Rattle.entry_book.specs.declared.reply.Refusal.TheVariants.{Full, OfOp}
+use Rattle.entry_book.specs.declared.reply.Refusal.TheVariants.{Full, NotYet, OfOp, TokenReused}
 use Rattle.entry_book.specs.declared.reply.Reply.{Reply}
 use Rattle.reg_lines.specs.Json.{list_json, option_json, text_json}
 use Rattle.reg_lines.specs.Refusals.{op_member}
@@ -119,12 +119,15 @@ op_detail_member refused.StaleRevision = []
 op_detail_member (refused.NoBundle domain) = codes ",\"detail\":" ++ text_json domain
 op_detail_member refused.BundleInUse = []
 op_detail_member refused.NoAgent = []
+op_detail_member refused.VersionGone = []
 
 abbrev pub detail_member : Refusal → List ℕ
+detail_member NotYet = []
+detail_member TokenReused = []
 detail_member (OfOp n r) = op_detail_member r
 detail_member (Full limit) = []
 
--- where a limit is passed it belongs to no single operation: neither `detail` nor `op`
+-- a refusal of the whole batch belongs to no single operation: neither `detail` nor `op`
 unfoldable pub refused_json : ℕ → ℕ → Refusal → List ℕ
 refused_json call place r =
     codes "{\"call\":" ++ decimal call
@@ -137,6 +140,7 @@ refused_json call place r =
 abbrev pub outcome_json : ℕ → ℕ → Outcome → List ℕ
 outcome_json call place (outcome.Committed replies) = done_json call place replies (codes "committed")
 outcome_json call place (outcome.Answered replies) = done_json call place replies (codes "answered")
+outcome_json call place (outcome.Repeated replies) = done_json call place replies (codes "repeated")
 outcome_json call place (outcome.Refused refusal) = refused_json call place refusal
 
 abbrev pub reply_json : ℕ → Reply → List ℕ

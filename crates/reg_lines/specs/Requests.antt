@@ -10,7 +10,7 @@ use Rattle.reg_lines.specs.declared.fault.Code.TheVariants as code
 use Rattle.reg_lines.specs.declared.fault.Fault.{Fault}
 use Rattle.reg_lines.specs.declared.fault.Key.TheVariants as key
 use Rattle.reg_lines.specs.declared.reading.request.Request.{Request}
-use Rattle.reg_lines.specs.Batches.{items_at, batch_in}
+use Rattle.reg_lines.specs.Batches.{listed_in, batch_in}
 use Rattle.reg_lines.specs.Fields.{◌>>=◌, at_line, tries_at, no_others}
 
 -- ---- a request
@@ -18,10 +18,10 @@ use Rattle.reg_lines.specs.Fields.{◌>>=◌, at_line, tries_at, no_others}
 -- Beside the request stands what is left of the ids.
 unfoldable pub request_in : List ℕ → ChaCha → Data → Members → Result (Request × ChaCha) Fault
 request_in domain ids d ms = do
-  items ← items_at d
+  listed ← listed_in d
   tries ← tries_at key.Tries d
-  none ← no_others (key.Ops ∷ key.Tries ∷ []) ms
-  batch ← batch_in domain ids items
+  none ← no_others (key.Ops ∷ key.After ∷ key.Token ∷ key.Tries ∷ []) ms
+  batch ← batch_in domain ids listed
   Ok (record { batch = batch.0; tries = tries }, batch.1)
 
 -- ---- a line

@@ -17,7 +17,7 @@ use Rattle.entry_book.specs.declared.reply.OpReply.TheVariants as replied
 use Rattle.entry_book.specs.declared.reply.Outcome.{Outcome}
 use Rattle.entry_book.specs.declared.reply.Outcome.TheVariants as outcome
 use Rattle.entry_book.specs.declared.reply.Refusal.{Refusal}
-use Rattle.entry_book.specs.declared.reply.Refusal.TheVariants.{Full, OfOp}
+use Rattle.entry_book.specs.declared.reply.Refusal.TheVariants.{Full, NotYet, OfOp, TokenReused}
 use Rattle.entry_book.specs.declared.reply.Reply.{Reply}
 use Rattle.reg_lines.specs.declared.fault.Fault.{Fault}
 use Rattle.reg_lines.specs.declared.fault.Field.{Field}
@@ -116,8 +116,11 @@ op_detail refused.StaleRevision = None
 op_detail (refused.NoBundle domain) = Some domain
 op_detail refused.BundleInUse = None
 op_detail refused.NoAgent = None
+op_detail refused.VersionGone = None
 
 abbrev pub detail : Refusal → Option (List ℕ)
+detail NotYet = None
+detail TokenReused = None
 detail (OfOp n r) = op_detail r
 detail (Full limit) = None
 
@@ -134,6 +137,7 @@ refused_data call place r = object (
 abbrev pub outcome_data : ℕ → ℕ → Outcome → Data
 outcome_data call place (outcome.Committed replies) = done_data call place replies (codes "committed")
 outcome_data call place (outcome.Answered replies) = done_data call place replies (codes "answered")
+outcome_data call place (outcome.Repeated replies) = done_data call place replies (codes "repeated")
 outcome_data call place (outcome.Refused refusal) = refused_data call place refusal
 
 abbrev pub reply_data : ℕ → Reply → Data

@@ -11,6 +11,10 @@ use spiffe_name::{IdRefusal, SelectorRefusal};
 pub enum Key {
     /// The operations of a batch.
     Ops,
+    /// The least place at which a batch may run.
+    After,
+    /// The token under which a batch's commit is kept.
+    Token,
     /// How often a batch may be tried.
     Tries,
     /// Which operation an object is.
@@ -47,6 +51,8 @@ pub enum Key {
     Mode,
     /// How many entries a page lists at most.
     Size,
+    /// The number of the book that a page reads.
+    At,
     /// The id after which a page begins.
     From,
     /// How an entry's selectors have to stand to those of a filter.
@@ -60,6 +66,8 @@ impl Key {
     {
         match self {
             Key::Ops => "ops",
+            Key::After => "after",
+            Key::Token => "token",
             Key::Tries => "tries",
             Key::Op => "op",
             Key::Id => "id",
@@ -78,6 +86,7 @@ impl Key {
             Key::Text => "text",
             Key::Mode => "mode",
             Key::Size => "size",
+            Key::At => "at",
             Key::From => "from",
             Key::Match => "match",
         }

@@ -3,7 +3,7 @@
 //! The crate has tests alone, over the public calls of `reg_lines`: what their clauses leave open, and each call once where
 //! it succeeds. Runs over devices that are slow or fail are tests of `regd`.
 //!
-//! - `frames`, `requests`, `operations` and `ids`: what lines spell, told in the words of `spelled`.
+//! - `frames`, `requests`, `operations`, `pages`, `tokens` and `ids`: what lines spell, told in the words of `spelled`.
 //! - `texts` and `replies`: what is printed, by `answers`, which runs a plain book on lines.
 //! - `bytes`: lines of memory, of devices that are interrupted, and of one that is full, by the engine of `engine`. What it
 //!   answers stands in `specs/Numbered.antt`.
@@ -31,3 +31,5 @@ mod requests;
 mod spelled;
 #[cfg(test)]
 mod texts;
+#[cfg(test)]
+mod tokens;

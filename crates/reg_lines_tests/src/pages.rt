@@ -19,7 +19,21 @@ const PAGES: &str = r#"
 {"ops":[{"op":"page","size":2,"selectors":["u:1"],"match":null}]} => 1; page 2 - - - - ["u:1"] Superset
 {"ops":[{"op":"page","size":2,"from":"{00000000-0000-0000-0000-000000000002}"}]} => 1; page 2 "00000000-0000-0000-0000-000000000002" - - - -
 {"ops":[{"op":"page","size":100,"from":"00000000-0000-0000-0000-000000000001","parent":"spiffe://ex.org/spire/agent/n1","identity":"spiffe://ex.org/web","domain":"b.org","selectors":["unix:uid:1000"],"match":"superset"}]} => 1; page 100 "00000000-0000-0000-0000-000000000001" "spiffe://ex.org/spire/agent/n1" "spiffe://ex.org/web" "b.org" ["unix:uid:1000"] Superset
+# the number of the book that it asks for
+{"ops":[{"op":"page","size":2,"at":1}]} => 1; page 2 at 1 - - - - -
+{"ops":[{"op":"page","size":2,"at":0}]} => 1; page 2 at 0 - - - - -
+{"ops":[{"op":"page","at":18446744073709551615,"size":2}]} => 1; page 2 at 18446744073709551615 - - - - -
+{"ops":[{"op":"page","size":2,"at":null}]} => 1; page 2 - - - - -
+{"ops":[{"op":"page","size":2,"at":1,"from":"00000000-0000-0000-0000-000000000002","parent":"spiffe://ex.org/a","selectors":["u:1"],"match":"any"}]} => 1; page 2 at 1 "00000000-0000-0000-0000-000000000002" "spiffe://ex.org/a" - - ["u:1"] Any
 # the keys in their order
+{"ops":[{"op":"page","size":"1","at":-1}]} => {"code":"L5","field":"size","line":1,"op":0}
+{"ops":[{"op":"page","at":1}]} => {"code":"L5","field":"size","line":1,"op":0}
+{"ops":[{"op":"page","size":1,"at":-1,"from":7}]} => {"code":"L5","field":"at","line":1,"op":0}
+{"ops":[{"op":"page","size":1,"at":1.0,"from":7}]} => {"code":"L5","field":"at","line":1,"op":0}
+{"ops":[{"op":"page","size":1,"at":"1","from":7}]} => {"code":"L5","field":"at","line":1,"op":0}
+{"ops":[{"op":"page","size":1,"at":18446744073709551616,"from":7}]} => {"code":"L5","field":"at","line":1,"op":0}
+{"ops":[{"op":"page","size":1,"at":[],"zz":1}]} => {"code":"L5","field":"at","line":1,"op":0}
+{"ops":[{"op":"page","size":1,"at":1,"from":7,"parent":7}]} => {"code":"L5","field":"from","line":1,"op":0}
 {"ops":[{"op":"page","from":7,"parent":7}]} => {"code":"L5","field":"size","line":1,"op":0}
 {"ops":[{"op":"page","size":null,"from":7}]} => {"code":"L5","field":"size","line":1,"op":0}
 {"ops":[{"op":"page","size":-1,"from":7}]} => {"code":"L5","field":"size","line":1,"op":0}
@@ -45,6 +59,12 @@ const PAGES: &str = r#"
 {"ops":[{"op":"page","size":1,"match":"any"}]} => {"code":"L5","field":"match","line":1,"op":0}
 {"ops":[{"op":"page","size":1,"selectors":null,"match":"any","zz":1}]} => {"code":"L5","field":"match","line":1,"op":0}
 {"ops":[{"op":"page","size":1,"match":7}]} => {"code":"L5","field":"match","line":1,"op":0}
+# a page of an earlier book stands alone; what is at fault with an operation comes first
+{"ops":[{"op":"page","size":1,"at":0},{"op":"show","id":"00000000-0000-0000-0000-000000000001"}]} => {"code":"B13","line":1,"op":0}
+{"ops":[{"op":"show","id":"00000000-0000-0000-0000-000000000001"},{"op":"page","size":1},{"op":"page","size":1,"at":3},{"op":"page","size":1,"at":3}]} => {"code":"B13","line":1,"op":2}
+{"ops":[{"op":"page","size":1,"at":0},{"op":"page","size":0}]} => {"code":"B9","line":1,"op":1}
+{"ops":[{"op":"page","size":1,"at":0},{"op":"prune","before":1}]} => {"code":"B13","line":1,"op":0}
+{"ops":[{"op":"page","size":1},{"op":"page","size":1,"at":null}]} => 1; page 1 - - - - -; page 1 - - - - -
 # pages that no batch can have
 {"ops":[{"op":"page","size":0}]} => {"code":"B9","line":1,"op":0}
 {"ops":[{"op":"page","size":501}]} => {"code":"B9","line":1,"op":0}

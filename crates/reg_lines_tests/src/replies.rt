@@ -1,7 +1,8 @@
 //! What is printed for each reply and each refusal?
 
 use crate::answers::{
-    answer, answers, answers_in_a_row, is_answered, new_book, prints, trust_domain, without_memory,
+    answer, answers, answers_in_a_row, is_answered, new_book, printed, prints, trust_domain,
+    without_memory,
 };
 use entry_book::{
     Batch, DomainSet, Limit, NewEntry, Op, OpRefusal, Outcome, Refusal, Reply, Sequence, Shared,
@@ -49,9 +50,22 @@ const ANSWERS: &str = r#"
 {"ops":[{"op":"create","id":"00000000-0000-0000-0000-000000000001","parent":"spiffe://ex.org/spire/agent/n1","identity":"spiffe://ex.org/web","selectors":["u:1"],"jwt_svid_ttl":0,"x509_svid_ttl":0}]} => {"call":1,"place":1,"replies":[{"entry":{"domains":[],"expiry":0,"hint":"","id":"00000000-0000-0000-0000-000000000001","identity":"spiffe://ex.org/web","parent":"spiffe://ex.org/spire/agent/n1","revision":0,"selectors":["u:1"]}}],"result":"committed"}
 "#;
 
+/// The lines of one run with tokens, places and earlier books, each with the line that answers it.
+const PLACES: &str = r#"
+{"ops":[{"op":"page","size":1,"at":0}],"after":0} => {"call":1,"place":0,"replies":[{"entries":[],"next":null}],"result":"answered"}
+{"ops":[{"op":"page","size":1,"at":1}]} => {"call":2,"code":"O8","op":0,"place":0,"result":"refused"}
+{"ops":[{"op":"set_agent","agent":"spiffe://ex.org/spire/agent/n1","selectors":["x:1"]}],"after":1,"token":"00000000-0000-0000-0000-000000000009"} => {"call":3,"code":"W1","place":0,"result":"refused"}
+{"ops":[{"op":"set_agent","agent":"spiffe://ex.org/spire/agent/n1","selectors":["x:1"]}],"token":"00000000-0000-0000-0000-000000000009"} => {"call":4,"place":1,"replies":[{"agent":{"id":"spiffe://ex.org/spire/agent/n1","selectors":["x:1"]}}],"result":"committed"}
+{"ops":[{"op":"prune","before":7}],"after":1} => {"call":5,"place":2,"replies":[{"pruned":[]}],"result":"committed"}
+{"ops":[{"agent":"spiffe://ex.org/spire/agent/n1","op":"set_agent","selectors":["x:1","x:1"]}],"after":2,"token":"{00000000-0000-0000-0000-000000000009}"} => {"call":6,"place":1,"replies":[{"agent":{"id":"spiffe://ex.org/spire/agent/n1","selectors":["x:1"]}}],"result":"repeated"}
+{"ops":[{"op":"set_agent","agent":"spiffe://ex.org/spire/agent/n1","selectors":["x:2"]}],"token":"00000000-0000-0000-0000-000000000009"} => {"call":7,"code":"O9","place":2,"result":"refused"}
+{"ops":[{"op":"page","size":1,"at":2}],"after":2} => {"call":8,"place":2,"replies":[{"entries":[],"next":null}],"result":"answered"}
+"#;
+
 #[test]
 fn batches_are_answered_by_the_book(rt: HostRuntime) -> Result<(), Fail> {
     answers_in_a_row(&rt, rt.alloc(), RUN)?;
+    answers_in_a_row(&rt, rt.alloc(), PLACES)?;
     answers(&rt, rt.alloc(), ANSWERS)
 }
 
@@ -211,7 +225,7 @@ fn reply_with_hint(alloc: Global) -> Result<Reply, Fail> {
     let mut book = new_book(alloc)?;
     let mut ops = Sequence::empty(alloc);
     ops.push(Op::Create(Shared::of(alloc, new)?))?;
-    let batch = Batch::new(book.domain(), ops)?;
+    let batch = Batch::new(alloc, book.domain(), ops, 0, None)?;
     Ok(book.run(&batch)?)
 }
 
@@ -268,16 +282,55 @@ fn domains_and_want_of_memory_are_printed(rt: HostRuntime) -> Result<(), Fail> {
     )
 }
 
-#[test]
-fn a_full_history_is_told(rt: HostRuntime) -> Result<(), Fail> {
+/// The third call's line, where it is refused so at this place.
+fn refused_text(alloc: Global, place: u64, refusal: Refusal) -> Result<String, Fail> {
     let reply = Reply {
-        place: 1 << 48,
-        outcome: Outcome::Refused(Refusal::Full(Limit::History)),
+        place,
+        outcome: Outcome::Refused(refusal),
     };
-    let line = CallReply {
-        call: 3,
-        reply: &reply,
-    };
-    let want = r#"{"call":3,"code":"W2","place":281474976710656,"result":"refused"}"#;
-    prints(&rt, rt.alloc(), &line, want)
+    printed(
+        alloc,
+        &CallReply {
+            call: 3,
+            reply: &reply,
+        },
+    )
+}
+
+#[test]
+fn a_refusal_of_the_whole_batch_names_no_operation(rt: HostRuntime) -> Result<(), Fail> {
+    for (place, refusal, want) in [
+        (
+            1 << 48,
+            Refusal::Full(Limit::History),
+            r#"{"call":3,"code":"W2","place":281474976710656,"result":"refused"}"#,
+        ),
+        (
+            70_000,
+            Refusal::Full(Limit::Tokens),
+            r#"{"call":3,"code":"W6","place":70000,"result":"refused"}"#,
+        ),
+        (
+            5,
+            Refusal::NotYet,
+            r#"{"call":3,"code":"W1","place":5,"result":"refused"}"#,
+        ),
+        (
+            5,
+            Refusal::TokenReused,
+            r#"{"call":3,"code":"O9","place":5,"result":"refused"}"#,
+        ),
+    ] {
+        let got = refused_text(rt.alloc(), place, refusal)?;
+        assert_eq!(rt; got.as_str(), want);
+    }
+    Ok(())
+}
+
+#[test]
+fn a_book_that_is_gone_is_told_of_its_page(rt: HostRuntime) -> Result<(), Fail> {
+    let got = refused_text(rt.alloc(), 70, Refusal::OfOp(0, OpRefusal::VersionGone))?;
+    let want = r#"{"call":3,"code":"O8","op":0,"place":70,"result":"refused"}"#;
+    assert_eq!(rt; got.as_str(), want);
+    Ok(())
 }

@@ -54,21 +54,21 @@ true => {"code":"L4","line":1}
 {"ops":[7],"tries":true,"zz":1} => {"code":"L5","field":"tries","line":1}
 {"ops":[7],"tries":false,"zz":1} => {"code":"L5","field":"tries","line":1}
 {"ops":[7],"tries":1,"zz":1} => {"code":"L5","field":"zz","line":1}
-{"ops":[],"tries":16,"after":0,"at":0} => {"code":"L5","field":"after","line":1}
+{"ops":[],"tries":16,"before":0,"at":0} => {"code":"L5","field":"at","line":1}
 {"ops":[],"tries":0,"tries":1} => {"code":"B1","line":1}
 {"ops":[],"tries":0,"tries":null} => {"code":"B1","line":1}
 {"ops":7,"\u006fps":[]} => {"code":"B1","line":1}
 {"ops":[],"\u006fps":7} => {"code":"L5","field":"ops","line":1}
 
-# keys that aren't known, or not yet: in the order of their bytes, before the operations, whatever their value
+# keys that aren't known: in the order of their bytes, before the operations, whatever their value
 {"ops":[],"zz":1} => {"code":"L5","field":"zz","line":1}
 {"ops":[],"zz":1,"aa":1} => {"code":"L5","field":"aa","line":1}
 {"zz":1,"Zz":1,"ops":[7]} => {"code":"L5","field":"Zz","line":1}
 {"ops":[7],"zz":null} => {"code":"L5","field":"zz","line":1}
 {"ops":[],"":1} => {"code":"L5","field":"","line":1}
 {"ops":[],"～":1,"𐀀":1} => {"code":"L5","field":"～","line":1}
-{"ops":[],"after":0} => {"code":"L5","field":"after","line":1}
-{"ops":[],"token":null} => {"code":"L5","field":"token","line":1}
+{"ops":[],"at":0} => {"code":"L5","field":"at","line":1}
+{"ops":[],"After":0,"Token":null} => {"code":"L5","field":"After","line":1}
 
 # keys are compared with their escapes read, and the last value of a key stays
 {"\u006fp\u0073":[]} => {"code":"B1","line":1}

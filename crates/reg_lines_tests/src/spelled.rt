@@ -37,9 +37,17 @@ fn entry_text(alloc: Global, new: &NewEntry) -> Result<String, Fail> {
     Ok(text)
 }
 
+/// How many entries a page lists, and the book that it asks for, where it isn't the last one.
+fn size_text(alloc: Global, query: &PageQuery) -> Result<String, Fail> {
+    match query.at {
+        Some(at) => Ok(format!(in alloc; "{} at {at}", query.size)?),
+        None => Ok(format!(in alloc; "{}", query.size)?),
+    }
+}
+
 /// What was read of each key of a page; `-` where it isn't there.
 fn page_text(alloc: Global, query: &PageQuery) -> Result<String, Fail> {
-    let mut text = number_text(alloc, Some(query.size))?;
+    let mut text = size_text(alloc, query)?;
     let filter = &query.filter;
     for field in [
         given_text(alloc, &query.from)?,
@@ -115,9 +123,23 @@ fn op_text(alloc: Global, op: &Op) -> Result<String, Fail> {
     Ok(format!(in alloc; "{name} {fields}")?)
 }
 
-/// How often a request may be tried, and its operations.
-fn request_text(alloc: Global, request: &Request) -> Result<String, Fail> {
+/// How often a request may be tried, after which place it may run, where it may not at every one, and its token.
+fn keys_text(alloc: Global, request: &Request) -> Result<String, Fail> {
     let mut text = number_text(alloc, Some(request.tries.count()))?;
+    let after = request.batch.after();
+    if after != 0 {
+        text.push_str(format!(in alloc; " after {after}")?.as_str())?;
+    }
+    if let Some(token) = &request.batch.token() {
+        text.push_str(" token ")?;
+        text.push_str(printed(alloc, token)?.as_str())?;
+    }
+    Ok(text)
+}
+
+/// The keys of a request, and its operations.
+fn request_text(alloc: Global, request: &Request) -> Result<String, Fail> {
+    let mut text = keys_text(alloc, request)?;
     for op in request.batch.ops() {
         text.push_str("; ")?;
         text.push_str(op_text(alloc, op)?.as_str())?;
@@ -125,8 +147,7 @@ fn request_text(alloc: Global, request: &Request) -> Result<String, Fail> {
     Ok(text)
 }
 
-/// What a line spells in the trust domain `ex.org`: how often it may be tried, and its operations; or the printed
-/// refusal. Want of memory is an error, so that no table has to know of it.
+/// What a line spells in the trust domain `ex.org`: its keys and its operations; or the printed refusal. Want of memory is an error, so that no table has to know of it.
 pub(crate) fn spelled(
     alloc: Global,
     ids: &mut Ids,

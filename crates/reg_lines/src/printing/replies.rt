@@ -101,6 +101,15 @@ impl PrintJson for CallReply<'_> {
                     output,
                 );
             }
+            Outcome::Repeated(replies) => {
+                print_done(
+                    self.call,
+                    place,
+                    replies.get().as_slice(),
+                    "repeated",
+                    output,
+                );
+            }
             Outcome::Refused(refusal) => print_refused(self.call, place, refusal, output),
         }
     }
@@ -147,6 +156,8 @@ fn put_detail<S: Sink>(refusal: &Refusal, output: &mut Output<S>)
     ensures { Puts output.old output.new (detail_member refusal.now) }
 {
     match refusal {
+        Refusal::NotYet => {}
+        Refusal::TokenReused => {}
         Refusal::OfOp(_, refusal) => put_op_detail(refusal, output),
         Refusal::Full(_) => {}
     }
@@ -164,6 +175,7 @@ fn put_op_detail<S: Sink>(refusal: &OpRefusal, output: &mut Output<S>)
         OpRefusal::NoBundle(domain) => put_detail_of(domain, output),
         OpRefusal::BundleInUse => {}
         OpRefusal::NoAgent => {}
+        OpRefusal::VersionGone => {}
     }
 }
 

@@ -1,24 +1,37 @@
 //! Which batch does an object spell?
 //!
-//! An object that holds a batch has its operations at one key, which [`items_at`] finds and [`batch_in`] reads. A line that
-//! has keys of its own beside it looks at them in between.
+//! An object that holds a batch has keys of the batch's own, which [`listed_in`] reads; [`batch_in`] then reads the
+//! operations. A line that has further keys looks at them in between.
 
+ghost use Rattle.std.specs.Prelude.{◌≡◌};
 ghost use Rattle.serde_json.specs.View.{items_view, view};
-ghost use Rattle.reg_lines.specs.Batches.{batch_in, batch_of, items_at};
+ghost use Rattle.reg_lines.specs.Batches.{batch_in, batch_of, items_at, listed_in, missing_beside};
 ghost use Rattle.reg_lines.specs.Fields.{Gives};
 
 use crate::fault::{Code, Fault, Key};
-use crate::reading::fields::{at_key, value_at};
-use crate::reading::ids::Ids;
+use crate::reading::fields::{at_key, optional_number_at, optional_uuid_at, value_at};
+use crate::reading::ids::{Ids, MissingId};
 use crate::reading::ops::ops_in;
 use entry_book::{Batch, Op, Sequence};
 use serde_json::Value;
 use spiffe_name::{Failure, TrustDomain};
 use std::alloc::Global;
+use uuid::Uuid;
+
+/// What stands at a batch's own keys.
+#[derive(Drop)]
+pub(crate) struct Listed<'a> {
+    /// The operations, as they are listed.
+    items: &'a [Value],
+    /// The least place at which the batch may run.
+    after: u64,
+    /// The token under which its commit is kept, where it carries one.
+    token: Option<Uuid>,
+}
 
 /// The operations, as an object lists them.
 #[tactic(auto, unfolding(crate::specs::Batches::items_at))]
-pub(crate) fn items_at(object: &Value) -> Result<&[Value], Failure<Fault>>
+fn items_at(object: &Value) -> Result<&[Value], Failure<Fault>>
     ensures { Gives (λ items. items_view items.now) result (items_at (view object.now)) }
 {
     match value_at(object, Key::Ops).and_then(Value::as_array) {
@@ -27,11 +40,36 @@ pub(crate) fn items_at(object: &Value) -> Result<&[Value], Failure<Fault>>
     }
 }
 
-/// The batch of these operations.
-fn batch_of(domain: &TrustDomain, ops: Sequence<Op>) -> Result<Batch, Failure<Fault>>
-    ensures { Gives (λ batch. batch) result (batch_of domain.now ops) }
+/// What an object has at a batch's own keys: the batch may run at every place by default.
+#[tactic(auto, unfolding(crate::specs::Batches::listed_in))]
+pub(crate) fn listed_in(object: &Value) -> Result<Listed<'_>, Failure<Fault>>
+    ensures { Gives (λ listed. record {
+      items = items_view listed.items.now;
+      after = listed.after;
+      token = listed.token;
+    }) result (listed_in (view object.now)) }
 {
-    match Batch::new(domain, ops) {
+    let items = items_at(object)?;
+    let after = optional_number_at(object, Key::After)?;
+    let token = optional_uuid_at(object, Key::Token)?;
+    Ok(Listed {
+        items,
+        after: after.unwrap_or(0),
+        token,
+    })
+}
+
+/// The batch of these operations.
+fn batch_of(
+    alloc: Global,
+    domain: &TrustDomain,
+    ops: Sequence<Op>,
+    after: u64,
+    token: Option<Uuid>,
+) -> Result<Batch, Failure<Fault>>
+    ensures { Gives (λ batch. batch) result (batch_of domain.now ops after token) }
+{
+    match Batch::new(alloc, domain, ops, after, token) {
         Ok(batch) => Ok(batch),
         Err(Failure::NoMemory) => Err(Failure::NoMemory),
         Err(Failure::Refused(refusal)) => Err(Failure::Refused(Fault {
@@ -42,17 +80,32 @@ fn batch_of(domain: &TrustDomain, ops: Sequence<Op>) -> Result<Batch, Failure<Fa
     }
 }
 
-/// The batch of the operations that are listed, for a trust domain.
+/// What becomes of a create without an id in a batch with this token, or with none.
+fn missing_beside(token: &Option<Uuid>) -> MissingId
+    ensures { result ≡ missing_beside token.now }
+{
+    match token {
+        None => MissingId::Drawn,
+        Some(_) => MissingId::Refused,
+    }
+}
+
+/// The batch of what is listed, for a trust domain.
 #[tactic(auto, unfolding(crate::specs::Batches::batch_in))]
 pub(crate) fn batch_in(
     alloc: Global,
     domain: &TrustDomain,
     ids: &mut Ids,
-    items: &[Value],
+    listed: &Listed<'_>,
 ) -> Result<Batch, Failure<Fault>>
     ensures { Gives (λ batch. (batch, ids.new)) result
-        (batch_in domain.now ids.old (items_view items.now)) }
+        (batch_in domain.now ids.old (record {
+          items = items_view listed.now.items.now;
+          after = listed.now.after;
+          token = listed.now.token;
+        })) }
 {
-    let ops = ops_in(alloc, ids, items)?;
-    batch_of(domain, ops)
+    let missing = missing_beside(&listed.token);
+    let ops = ops_in(alloc, missing, ids, listed.items)?;
+    batch_of(alloc, domain, ops, listed.after, listed.token)
 }

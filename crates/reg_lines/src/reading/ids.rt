@@ -11,6 +11,15 @@ use std::alloc::AllocError;
 use std::marker::Model;
 use uuid::{Builder, Uuid};
 
+/// What becomes of a new entry that comes without an id?
+#[derive(Clone, Copy, Debug, PartialEq, Eq, Drop)]
+pub enum MissingId {
+    /// It draws one.
+    Drawn,
+    /// It is refused.
+    Refused,
+}
+
 /// The ids that a server gives to entries that come without one: version 4 UUIDs of the words of a ChaCha20 stream.
 /// A contract sees the generator: its key, its stream and the place of the next word.
 #[derive(Drop)]

@@ -12,7 +12,7 @@ mod pages;
 
 use crate::fault::{Code, Fault, Key};
 use crate::reading::fields::{at_key, text_at};
-use crate::reading::ids::Ids;
+use crate::reading::ids::{Ids, MissingId};
 use agents::{authorised_in, drop_agent_in, set_agent_in, show_agent_in, trust_in};
 use bundles::{drop_bundle_in, set_bundle_in, show_bundle_in};
 use entries::{children_in, create_in, delete_in, prune_in, show_in, update_in};
@@ -80,36 +80,49 @@ fn undrawn_in(
 /// The operation of this name.
 fn named_op(
     alloc: Global,
+    missing: MissingId,
     ids: &mut Ids,
     name: &str,
     object: &Value,
     members: &Map<String, Value>,
 ) -> Result<Op, Failure<Fault>>
     ensures { Gives (λ op. (op, ids.new)) result
-        (named_op ids.old name.now (view object.now) (members_view members.now.entries)) }
+        (named_op missing ids.old name.now (view object.now) (members_view members.now.entries)) }
 {
     if name == "create" {
-        return create_in(alloc, ids, object, members);
+        return create_in(alloc, missing, ids, object, members);
     }
     undrawn_in(alloc, name, object, members)
 }
 
 #[tactic(auto, unfolding(crate::specs::Operations::op_in))]
-fn op_in(alloc: Global, ids: &mut Ids, object: &Value) -> Result<Op, Failure<Fault>>
-    ensures { Gives (λ op. (op, ids.new)) result (op_in ids.old (view object.now)) }
+fn op_in(
+    alloc: Global,
+    missing: MissingId,
+    ids: &mut Ids,
+    object: &Value,
+) -> Result<Op, Failure<Fault>>
+    ensures { Gives (λ op. (op, ids.new)) result (op_in missing ids.old (view object.now)) }
 {
     let Some(members) = object.as_object() else {
         return Err(at_key(Code::Field, Key::Ops));
     };
     let name = text_at(object, Key::Op)?;
-    named_op(alloc, ids, name, object, members)
+    named_op(alloc, missing, ids, name, object, members)
 }
 
 /// The operation of this index.
-fn op_at(alloc: Global, ids: &mut Ids, index: usize, object: &Value) -> Result<Op, Failure<Fault>>
-    ensures { Gives (λ op. (op, ids.new)) result (at_op index (op_in ids.old (view object.now))) }
+fn op_at(
+    alloc: Global,
+    missing: MissingId,
+    ids: &mut Ids,
+    index: usize,
+    object: &Value,
+) -> Result<Op, Failure<Fault>>
+    ensures { Gives (λ op. (op, ids.new)) result
+        (at_op index (op_in missing ids.old (view object.now))) }
 {
-    match op_in(alloc, ids, object) {
+    match op_in(alloc, missing, ids, object) {
         Ok(op) => Ok(op),
         Err(Failure::NoMemory) => Err(Failure::NoMemory),
         Err(Failure::Refused(Fault { code, field, op: _ })) => Err(Failure::Refused(Fault {
@@ -123,14 +136,15 @@ fn op_at(alloc: Global, ids: &mut Ids, index: usize, object: &Value) -> Result<O
 /// The operations of a list, in order.
 pub(crate) fn ops_in(
     alloc: Global,
+    missing: MissingId,
     ids: &mut Ids,
     items: &[Value],
 ) -> Result<Sequence<Op>, Failure<Fault>>
-    ensures { Gives (λ ops. (ops, ids.new)) result (ops_in 0 ids.old (items_view items.now)) }
+    ensures { Gives (λ ops. (ops, ids.new)) result (ops_in 0 missing ids.old (items_view items.now)) }
 {
     let mut ops = Sequence::empty(alloc);
     for (index, item) in items.iter().enumerate() {
-        ops.push(op_at(alloc, ids, index, item)?)?;
+        ops.push(op_at(alloc, missing, ids, index, item)?)?;
     }
     Ok(ops)
 }

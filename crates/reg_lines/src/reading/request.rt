@@ -9,7 +9,7 @@ ghost use Rattle.reg_lines.specs.Requests.{framed, object_in, request_in, spelle
 
 use crate::fault::{Code, Fault, Key};
 use crate::printing::refusal::LineRefusal;
-use crate::reading::batch::{batch_in, items_at};
+use crate::reading::batch::{batch_in, listed_in};
 use crate::reading::fields::{at_line, no_others, tries_at};
 use crate::reading::ids::Ids;
 use crate::reading::tries::Tries;
@@ -100,10 +100,10 @@ fn request_in(
     ensures { Gives (λ request. (request, ids.new)) result
         (request_in domain.now ids.old (view object.now) (members_view members.now.entries)) }
 {
-    let items = items_at(object)?;
+    let listed = listed_in(object)?;
     let tries = tries_at(object, Key::Tries)?;
-    no_others(members, &[Key::Ops, Key::Tries])?;
-    let batch = batch_in(alloc, domain, ids, items)?;
+    no_others(members, &[Key::Ops, Key::After, Key::Token, Key::Tries])?;
+    let batch = batch_in(alloc, domain, ids, &listed)?;
     Ok(Request { batch, tries })
 }
 
@@ -140,8 +140,9 @@ fn drawn(
 }
 
 /// Reads a request line: its bytes with its LF where it has one (of a line over the limit the first 1,048,577 bytes
-/// are enough), and its number from 1. Each entry that comes without an id gets the next of the ids. The error is the
-/// first fault found, or want of memory, with the line's number; the ids are then as before.
+/// are enough), and its number from 1. Each entry that comes without an id gets the next of the ids, unless its batch
+/// carries a token: then it is refused. The error is the first fault found, or want of memory, with the line's number;
+/// the ids are then as before.
 pub fn read_request(
     alloc: Global,
     domain: &TrustDomain,

@@ -1,13 +1,13 @@
 //! SPIFFE IDs, trust domains and UUIDs.
 
 ghost use Rattle.serde_json.specs.View.{view};
-ghost use Rattle.reg_lines.specs.Fields.{Gives, domain_at, domain_of, id_at, id_in, new_uuid_at, optional_id_at, optional_uuid_at, uuid_at, uuid_in, uuid_of};
+ghost use Rattle.reg_lines.specs.Fields.{Gives, domain_at, domain_of, id_at, id_in, new_uuid_at, optional_id_at, optional_uuid_at, uuid_at, uuid_in, uuid_of, uuid_or_drawn_at};
 ghost use Rattle.uuid.specs.Text.{parsed};
 
 use super::texts::{text_at, text_in};
 use super::{at_key, given_at};
 use crate::fault::{Code, Fault, Key};
-use crate::reading::ids::Ids;
+use crate::reading::ids::{Ids, MissingId};
 use serde_json::Value;
 use spiffe_name::{Failure, SpiffeId, TrustDomain};
 use std::alloc::Global;
@@ -118,12 +118,28 @@ pub(crate) fn optional_uuid_at(object: &Value, key: Key) -> Result<Option<Uuid>,
 }
 
 /// The UUID at an optional key, or else one that is drawn.
-#[tactic(auto, unfolding(crate::specs::Fields::new_uuid_at))]
-pub(crate) fn new_uuid_at(ids: &mut Ids, object: &Value, key: Key) -> Result<Uuid, Failure<Fault>>
-    ensures { Gives (λ id. (id, ids.new)) result (new_uuid_at ids.old key (view object.now)) }
+#[tactic(auto, unfolding(crate::specs::Fields::uuid_or_drawn_at))]
+fn uuid_or_drawn_at(ids: &mut Ids, object: &Value, key: Key) -> Result<Uuid, Failure<Fault>>
+    ensures { Gives (λ id. (id, ids.new)) result (uuid_or_drawn_at ids.old key (view object.now)) }
 {
     match given_at(object, key) {
         Some(value) => Ok(uuid_in(value, key)?),
         None => Ok(ids.draw()),
+    }
+}
+
+/// The UUID at the key of something new: where it is missing, it is drawn, or refused.
+pub(crate) fn new_uuid_at(
+    missing: MissingId,
+    ids: &mut Ids,
+    object: &Value,
+    key: Key,
+) -> Result<Uuid, Failure<Fault>>
+    ensures { Gives (λ id. (id, ids.new)) result
+        (new_uuid_at missing ids.old key (view object.now)) }
+{
+    match missing {
+        MissingId::Drawn => uuid_or_drawn_at(ids, object, key),
+        MissingId::Refused => uuid_at(object, key),
     }
 }

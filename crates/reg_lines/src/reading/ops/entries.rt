@@ -9,7 +9,7 @@ use crate::reading::fields::{
     id_at, new_uuid_at, no_others, number_at, optional_domains_at, optional_number_at,
     optional_text_at, selectors_at, uuid_at,
 };
-use crate::reading::ids::Ids;
+use crate::reading::ids::{Ids, MissingId};
 use entry_book::{DomainSet, NewEntry, Op, Shared, Text};
 use serde_json::{Map, Value};
 use spiffe_name::Failure;
@@ -43,18 +43,19 @@ fn entry_in(alloc: Global, id: Uuid, object: &Value) -> Result<NewEntry, Failure
     })
 }
 
-/// An entry that comes without an id draws one.
+/// An entry that comes without an id draws one, or is refused.
 #[tactic(auto, unfolding(crate::specs::Operations::create_in))]
 pub(super) fn create_in(
     alloc: Global,
+    missing: MissingId,
     ids: &mut Ids,
     object: &Value,
     members: &Map<String, Value>,
 ) -> Result<Op, Failure<Fault>>
     ensures { Gives (λ op. (op, ids.new)) result
-        (create_in ids.old (view object.now) (members_view members.now.entries)) }
+        (create_in missing ids.old (view object.now) (members_view members.now.entries)) }
 {
-    let id = new_uuid_at(ids, object, Key::Id)?;
+    let id = new_uuid_at(missing, ids, object, Key::Id)?;
     let entry = entry_in(alloc, id, object)?;
     no_others(
         members,

@@ -8,7 +8,7 @@ ghost use Rattle.reg_lines.specs.Operations.{filter_in, page_in, selector_match}
 use crate::fault::{Code, Fault, Key};
 use crate::reading::fields::{
     at_key, no_others, number_at, optional_domain_at, optional_id_at, optional_match_at,
-    optional_selectors_at, optional_uuid_at,
+    optional_number_at, optional_selectors_at, optional_uuid_at,
 };
 use entry_book::{Filter, MatchMode, Op, PageQuery, SelectorMatch, Shared};
 use serde_json::{Map, Value};
@@ -85,6 +85,7 @@ pub(super) fn page_in(
         (page_in (view object.now) (members_view members.now.entries)) }
 {
     let size = number_at(object, Key::Size)?;
+    let at = optional_number_at(object, Key::At)?;
     let from = optional_uuid_at(object, Key::From)?;
     let filter = filter_in(alloc, object)?;
     no_others(
@@ -92,6 +93,7 @@ pub(super) fn page_in(
         &[
             Key::Op,
             Key::Size,
+            Key::At,
             Key::From,
             Key::Parent,
             Key::Identity,
@@ -100,5 +102,13 @@ pub(super) fn page_in(
             Key::Match,
         ],
     )?;
-    Ok(Op::Page(Shared::of(alloc, PageQuery { size, from, filter })?))
+    Ok(Op::Page(Shared::of(
+        alloc,
+        PageQuery {
+            size,
+            at,
+            from,
+            filter,
+        },
+    )?))
 }

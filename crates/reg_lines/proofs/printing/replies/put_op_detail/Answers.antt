@@ -15,3 +15,6 @@ returns-in-BundleInUse g c = rw c.in-BundleInUse.is (Puts-nil _)
 
 pub returns-in-NoAgent : goal.returns-in-NoAgent
 returns-in-NoAgent g c = rw c.in-NoAgent.is (Puts-nil _)
+
+pub returns-in-VersionGone : goal.returns-in-VersionGone
+returns-in-VersionGone g c = rw c.in-VersionGone.is (Puts-nil _)

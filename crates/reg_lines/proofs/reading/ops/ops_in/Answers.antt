@@ -9,10 +9,10 @@ loop-index-init c = rw c.empty-ops.ensures (with_ops-nil _)
 pub returns-in_err-op_at : goal.returns-in_err-op_at
 returns-in_err-op_at c =
     let p = err_from_is_err_and c.from_residual.result c.from_residual.ensures.1 in
-    rw (p.1, p.2) (ops_in-refused _ _ _ _ _ _ _ c.loop-index-test.true c.index-items-index.is c.in_err-op_at.ensures c.loop-index.invariant)
+    rw (p.1, p.2) (ops_in-refused _ _ _ _ _ _ _ _ c.loop-index-test.true c.index-items-index.is c.in_err-op_at.ensures c.loop-index.invariant)
 
 pub loop-index-preserved : goal.loop-index-preserved
-loop-index-preserved c = sym (ops_in-more _ _ _ _ _ _ _ _ c.loop-index-test.true c.index-items-index.is c.in_ok-op_at.ensures c.in_ok-push.ensures.ok) ∙ c.loop-index.invariant
+loop-index-preserved c = sym (ops_in-more _ _ _ _ _ _ _ _ _ c.loop-index-test.true c.index-items-index.is c.in_ok-op_at.ensures c.in_ok-push.ensures.ok) ∙ c.loop-index.invariant
 
 pub returns : goal.returns
-returns c = sym c.loop-index.invariant ∙ ops_in-all _ _ _ _ c.loop-index-test.false
+returns c = sym c.loop-index.invariant ∙ ops_in-all _ _ _ _ _ c.loop-index-test.false

@@ -6,4 +6,4 @@ use Rattle.reg_lines.proofs.reading.ops.ops_in.Given as goal
 
 abbrev pub invariant-loop-index : goal.invariant-loop-index
 invariant-loop-index l =
-    with_ops l.ops (ops_in l.index l.ids (items_view (drop l.index l.items))) ≡ ops_in 0 l.fn.ids (items_view l.items)
+    with_ops l.ops (ops_in l.index l.fn.missing l.ids (items_view (drop l.index l.items))) ≡ ops_in 0 l.fn.missing l.fn.ids (items_view l.items)
