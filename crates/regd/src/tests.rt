@@ -5,9 +5,11 @@ mod ids;
 mod limits;
 mod operations;
 mod pages;
+mod places;
 mod refusals;
 mod runs;
 mod story;
+mod tokens;
 
 use crate::{CommandLineFault, Ended, RunFault, Settings, a_line_gives_its_domain};
 use spiffe_name::IdRefusal;

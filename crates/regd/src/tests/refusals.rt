@@ -7,15 +7,15 @@ use std::test::Fail;
 
 /// A number in a reply is that of its line, or of its call.
 const REFUSED: &str = r#"
-operations and keys that aren't there (yet)
+operations and keys that aren't there
 {"ops":[{"op":"mint"}]}
 {"code":"L5","field":"op","line":1,"op":0}
 {"ops":[{"op":"pages","size":1}]}
 {"code":"L5","field":"op","line":2,"op":0}
-{"after":0,"ops":[{"op":"show","id":"00000000-0000-0000-0000-000000000001"}]}
-{"code":"L5","field":"after","line":3}
-{"ops":[{"op":"show","id":"00000000-0000-0000-0000-000000000001"}],"token":"00000000-0000-0000-0000-000000000009"}
-{"code":"L5","field":"token","line":4}
+{"at":0,"ops":[{"op":"show","id":"00000000-0000-0000-0000-000000000001"}]}
+{"code":"L5","field":"at","line":3}
+{"ops":[{"op":"show","id":"00000000-0000-0000-0000-000000000001"}],"seat":1}
+{"code":"L5","field":"seat","line":4}
 {"ops":[{"op":"create","id":"00000000-0000-0000-0000-000000000001","parent":"spiffe://ex.org/spire/agent/n1","identity":"spiffe://ex.org/web","selectors":["u:1"],"downstream":true}]}
 {"code":"L5","field":"downstream","line":5,"op":0}
 tries is a whole number from 1 to 16
