@@ -101,7 +101,7 @@ may_apply batch s ws m e l k h =
     let fits = of_ok (λ t. FitAll (batch_writes batch n t) b) (run batch.domain batch.ops b) t r.1 (all_fit batch n b l.ascending k) in
     record {
       fits = subst (λ ws. FitAll ws b) same (with_replies batch.token batch.ops n t.replies [] t.writes b fits);
-      lawful = subst (λ ws. Lawful s.domain (64 * n) (after ws b)) same (writes_keep s.domain (64 * n) n batch (record t { replies = [] }) b (omega arith) (run_lawful s.domain batch s.number b t made l r.1));
+      lawful = subst (λ ws. Lawful s.domain (64 * n) (after ws b)) same (writes_keep s.domain (64 * n) n batch (record t { replies = [] }) b made (omega arith) (omega arith) (run_lawful s.domain batch s.number b t made l r.1));
       room = λ w. subst (λ ws. RoomAll ws b) same (room_with s.domain (64 * s.number) batch n [] b t made l w (ap (λ own. run own batch.ops b) (sym e) ∙ r.1));
     }
 
