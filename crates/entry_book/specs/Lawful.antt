@@ -1,5 +1,5 @@
--- The lawful books of a trust domain.
-use Rattle.std.specs.Prelude.{◌≡◌, ℕ, ◌*◌, ◌<◌, ◌≤◌, Some, None}
+-- The lawful books of a trust domain, and those whose counts have room to grow.
+use Rattle.std.specs.Prelude.{◌≡◌, ℕ, ◌*◌, ◌^◌, ◌<◌, ◌≤◌, Some, None}
 use Rattle.spiffe_name.specs.Domain.{IsDomain}
 use Rattle.entry_book.specs.declared.agent.Agent.{Agent}
 use Rattle.entry_book.specs.declared.bundle.Bundle.{Bundle}
@@ -33,3 +33,8 @@ pub record Lawful (own : Bytes) (most : ℕ) (b : Book) : Type 0 where
   pub proper_tokens : (k : KeptBatch) → Within b.tokens k → IsMadeFor own (record { domain = own; ops = k.ops; after = 0; token = Some k.token })
   -- and was committed: its place isn't 0, nor above the book's number
   pub places : (k : KeptBatch) → Within b.tokens k → (0 < k.place) × (64 * k.place ≤ most)
+
+-- No revision and no sequence is above 2^63, so that the next one of each has room in 64 bits. So it is in each lawful book of a history.
+pub record CanGrow (b : Book) : Type 0 where
+  pub revisions : (e : Entry) → Within b.entries e → e.revision ≤ 2 ^ 63
+  pub sequences : (d : Bundle) → Within b.bundles d → d.sequence ≤ 2 ^ 63

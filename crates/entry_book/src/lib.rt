@@ -31,6 +31,7 @@ mod fault;
 mod kept;
 pub mod laws;
 mod limit;
+mod listing;
 mod mode;
 mod op;
 mod page;

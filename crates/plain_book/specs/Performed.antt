@@ -1,14 +1,11 @@
 -- What the code of an operation, of a batch's run and of its verdict hands on: the plain op's and the run's answer, with the book after the writes in their place, and the plain verdict.
-use Rattle.std.specs.Prelude.{Bool, true, false, ℕ, ◌+◌, ◌≤◌, ◌^◌, List, ◌++◌, Result, Ok, Err}
-use Rattle.entry_book.specs.declared.bundle.Bundle.{Bundle}
+use Rattle.std.specs.Prelude.{Bool, true, false, ℕ, ◌+◌, List, ◌++◌, Result, Ok, Err}
 use Rattle.entry_book.specs.declared.reply.OpReply.{OpReply}
 use Rattle.entry_book.specs.declared.reply.OpRefusal.{OpRefusal}
 use Rattle.plain_book.specs.declared.run.BatchRun.{BatchRun}
 use Rattle.plain_book.specs.declared.run.BatchRun.TheVariants.{Accepted, RefusedAt}
 use Rattle.plain_book.specs.declared.verdict.Verdict.{Verdict as CodeVerdict}
 use Rattle.plain_book.specs.declared.verdict.Verdict.TheVariants.{Refuses, Answers, Adds, Repeats}
-use Rattle.entry_book.specs.Rows.{Entry}
-use Rattle.entry_book.specs.Order.{Within}
 use Rattle.entry_book.specs.Book.{Book}
 use Rattle.entry_book.specs.Writes.{after}
 use Rattle.entry_book.specs.Ops.{OpResult}
@@ -40,8 +37,3 @@ told (Repeats n replies) = repeats n replies
 abbrev pub verdict_accepted : Bool → Batch → ℕ → List OpReply → Book → Verdict
 verdict_accepted true batch place replies b = answers replies
 verdict_accepted false batch place replies b = adds_within (limit_passed place (after (token_writes batch.token batch.ops (place + 1) replies) b)) replies (after (token_writes batch.token batch.ops (place + 1) replies) b)
-
--- No revision and no sequence is above 2^63, so that the next one of each has room in 64 bits.
-pub record CanGrow (b : Book) : Type 0 where
-  pub revisions : (e : Entry) → Within b.entries e → e.revision ≤ 2 ^ 63
-  pub sequences : (d : Bundle) → Within b.bundles d → d.sequence ≤ 2 ^ 63

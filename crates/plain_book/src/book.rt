@@ -6,7 +6,6 @@ mod counts;
 
 use crate::expired::{expired_ids, unexpired};
 use crate::find::{agent_of, bundle_of, children_of, entry_of, kept_of, similar_to};
-use crate::listing::page_of;
 use crate::row::{with_row, without_row};
 use crate::users::{freed, named_bundles, non_users, user_ids, user_of};
 use crate::worklist::authorised_of;
@@ -155,7 +154,7 @@ impl Book {
     ) -> Result<(Sequence<Entry>, Option<Uuid>), AllocError>
         ensures { IfOk result (λ page. page ≡ (listed query.now self.now, next_of query.now self.now)) }
     {
-        let (found, next) = page_of(alloc, self.entries.get().as_slice(), query)?;
+        let (found, next) = query.page_of(alloc, self.entries.get().as_slice())?;
         Ok((Sequence::of(found), next))
     }
 
@@ -193,8 +192,8 @@ impl Book {
     ghost use Rattle.entry_book.specs.Tokens.{token_key};
     ghost use Rattle.entry_book.specs.Order.{Ascending, with_row};
     ghost use Rattle.entry_book.specs.Book.{AscendingBook, empty_book, expires_before, names};
+    ghost use Rattle.entry_book.specs.Lawful.{CanGrow};
     ghost use Rattle.entry_book.specs.Ops.{dissociated};
-    ghost use Rattle.plain_book.specs.Performed.{CanGrow};
 
     /// The book with no rows.
     pub(crate) fn empty(alloc: Global) -> Result<Book, AllocError>

@@ -21,7 +21,6 @@ mod book;
 mod expired;
 mod find;
 pub mod laws;
-mod listing;
 mod older;
 mod ops;
 mod plain_book;

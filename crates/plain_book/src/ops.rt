@@ -1,8 +1,9 @@
 //! What does one operation do to the book that it finds?
 
 ghost use Rattle.std.specs.Prelude.{◌≡◌, IfOk};
+ghost use Rattle.entry_book.specs.Lawful.{CanGrow};
 ghost use Rattle.entry_book.specs.Ops.{op_of};
-ghost use Rattle.plain_book.specs.Performed.{CanGrow, performed};
+ghost use Rattle.plain_book.specs.Performed.{performed};
 
 mod authorised;
 mod children;

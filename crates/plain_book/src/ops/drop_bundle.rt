@@ -2,8 +2,9 @@
 
 ghost use Rattle.std.specs.Prelude.{◌≡◌, IfOk};
 ghost use Rattle.entry_book.specs.Book.{bundle_at, users_of};
+ghost use Rattle.entry_book.specs.Lawful.{CanGrow};
 ghost use Rattle.entry_book.specs.Ops.{drop_in, drop_over};
-ghost use Rattle.plain_book.specs.Performed.{CanGrow, performed};
+ghost use Rattle.plain_book.specs.Performed.{performed};
 
 use crate::book::Book;
 use entry_book::{Bundle, DropMode, OpRefusal, OpReply, Sequence, Shared};

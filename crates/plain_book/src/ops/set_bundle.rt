@@ -2,8 +2,9 @@
 
 ghost use Rattle.std.specs.Prelude.{◌≡◌, IfOk};
 ghost use Rattle.entry_book.specs.Book.{bundle_at};
+ghost use Rattle.entry_book.specs.Lawful.{CanGrow};
 ghost use Rattle.entry_book.specs.Ops.{bundle_set};
-ghost use Rattle.plain_book.specs.Performed.{CanGrow, performed};
+ghost use Rattle.plain_book.specs.Performed.{performed};
 
 use crate::book::Book;
 use entry_book::{Bundle, OpRefusal, OpReply, Shared, Text};
