@@ -1,0 +1,96 @@
+-- The laws of what batches read. Each is a clause of a function of the module `laws`.
+use Rattle.std.specs.Prelude.{◌≡◌, ◌↔◌, ◌+◌, ◌*◌, ◌≤◌, true, false, List, [], ◌∷◌, ◌++◌, Some, None, Ok}
+use Rattle.std.specs.List.{AllByRecursion, list_any}
+use Rattle.entry_book.specs.declared.limit.Limit.{Limit}
+use Rattle.entry_book.specs.declared.op.Op.{Op}
+use Rattle.entry_book.specs.declared.reply.Outcome.TheVariants.{Refused}
+use Rattle.entry_book.specs.declared.reply.Refusal.TheVariants.{Full}
+use Rattle.entry_book.specs.Rows.{Bytes}
+use Rattle.entry_book.specs.Book.{Book, AscendingBook}
+use Rattle.entry_book.specs.Writes.{after}
+use Rattle.entry_book.specs.Runs.{RunEffect, run}
+use Rattle.entry_book.specs.Batches.{Batch, IsMadeFor, is_query, past_place}
+use Rattle.entry_book.specs.Limits.{limit_passed}
+use Rattle.entry_book.specs.Lawful.{Lawful}
+use Rattle.entry_book.specs.Laws.{IsWithinLimits}
+use Rattle.entry_book.specs.History.{batch_writes, kept_under, verdict, adds, refuses, last_book, place_of, reply_to, commits}
+use Rattle.version_book.specs.Applying.{MayApply}
+use Rattle.version_book.specs.Marks.{Agree}
+use Rattle.version_book.specs.CommittedRows.{State, book_of, next_state}
+use Rattle.version_book.specs.History.{Commits, Follows, IsLast, any_hits, state_with}
+use Rattle.batch_work.specs.Reads.{marks_of_ops, footprint_on, awaits_on, footprint_of, awaits_commit}
+use Rattle.batch_work.specs.Windows.{Window, IsNext, StandsFor, book_in, pushed}
+use Rattle.batch_work.specs.Working.{base_in, footprint_there, awaits_there, reply_there}
+
+-- ---- what is read decides
+
+-- Where two books read the same at each mark that operations read on the first, they have the same run on both, and the same reads.
+abbrev pub ReadsDecide : Type 0
+ReadsDecide = (own : Bytes) (ops : List Op) (b c : Book) → AscendingBook b → AscendingBook c → AllByRecursion (Agree b c) (marks_of_ops own ops b) → (run own ops b ≡ run own ops c) × (marks_of_ops own ops b ≡ marks_of_ops own ops c)
+
+-- Two books are one to a batch: the same is kept under its token, it has the same reads, where nothing is kept its operations have the same run, and it awaits a commit on both or on neither.
+pub record AreOneTo (batch : Batch) (b c : Book) : Type 0 where
+  pub kept : kept_under batch.token b ≡ kept_under batch.token c
+  pub marks : footprint_on batch (Some b) ≡ footprint_on batch (Some c)
+  pub runs : kept_under batch.token b ≡ None → run batch.domain batch.ops b ≡ run batch.domain batch.ops c
+  pub wait : awaits_on batch (Some b) ≡ awaits_on batch (Some c)
+
+-- where two books read the same at each mark that a batch reads on the first, they are one to it
+abbrev pub BatchReadsDecide : Type 0
+BatchReadsDecide = (batch : Batch) (b c : Book) → AscendingBook b → AscendingBook c → AllByRecursion (Agree b c) (footprint_on batch (Some b)) → AreOneTo batch b c
+
+-- where no batch since an older version makes a write that hits one of the marks that a batch reads there, the newer version's book is one to it with the older one's
+abbrev pub UnhitStays : Type 0
+UnhitStays = (batch : Batch) (batches : List Batch) (older newer : State) → AscendingBook (book_of older.rows) → Follows older batches newer → list_any (λ m. any_hits m older batches) (footprint_on batch (Some (book_of older.rows))) ≡ false → AreOneTo batch (book_of older.rows) (book_of newer.rows)
+
+-- ---- the commit check
+
+-- What becomes of a batch of changes with this run on the newest version: its writes may be applied, and the plain book adds the book of the version after it, or refuses it for the first limit that is passed.
+pub record ComesTo (batch : Batch) (s : State) (t : RunEffect) : Type 0 where
+  pub ran : run batch.domain batch.ops (book_of s.rows) ≡ Ok t
+  pub may : MayApply (batch_writes batch (s.number + 1) t) (s.number + 1) s
+  pub commits : limit_passed s.number (after (batch_writes batch (s.number + 1) t) (book_of s.rows)) ≡ None → Commits batch s × (state_with batch s ≡ next_state (batch_writes batch (s.number + 1) t) s) × (verdict batch s.number (Some (book_of s.rows)) ≡ adds t.replies (book_of (state_with batch s).rows))
+  pub is_full : (limit : Limit) → limit_passed s.number (after (batch_writes batch (s.number + 1) t) (book_of s.rows)) ≡ Some limit → verdict batch s.number (Some (book_of s.rows)) ≡ refuses (Full limit)
+
+-- a batch that awaits its commit on an older version, and finds the same at each mark that it read on the newest one, comes there to what it came to on the older one
+abbrev pub CommitCheck : Type 0
+CommitCheck = (batch : Batch) (base newest : State) (t : RunEffect) → IsMadeFor newest.domain batch → batch.after ≤ newest.number → Lawful newest.domain (64 * newest.number) (book_of newest.rows) → IsWithinLimits (book_of newest.rows) → AscendingBook (book_of base.rows) → AllByRecursion (Agree (book_of base.rows) (book_of newest.rows)) (footprint_on batch (Some (book_of base.rows))) → awaits_on batch (Some (book_of base.rows)) ≡ true → run batch.domain batch.ops (book_of base.rows) ≡ Ok t → ComesTo batch newest t
+
+-- The batch has changes that await their commit: it may run, and on the last book; nothing is kept there under its token; it doesn't only ask; and its operations are accepted.
+pub record HasChanges (batch : Batch) (books : List Book) : Type 0 where
+  pub in_time : batch.after ≤ place_of books
+  pub newest : past_place batch.ops ≡ None
+  pub unkept : kept_under batch.token (last_book books) ≡ None
+  pub changes : is_query batch.ops ≡ false
+  pub effect : RunEffect
+  pub ran : run batch.domain batch.ops (last_book books) ≡ Ok effect
+
+abbrev pub AwaitsAsSaid : Type 0
+AwaitsAsSaid = (own : Bytes) (batch : Batch) (books : List Book) → IsMadeFor own batch → (awaits_commit batch books ≡ true) ↔ HasChanges batch books
+
+-- one that doesn't await its commit isn't committed, and no limit refuses it
+abbrev pub OthersDontCommit : Type 0
+OthersDontCommit = (batch : Batch) (books : List Book) → awaits_commit batch books ≡ false → (commits batch books ≡ false) × ((limit : Limit) → (reply_to batch books).outcome ≡ Refused (Full limit) → ⊥)
+
+-- ---- windows
+
+-- A work that begins on a window reads, awaits its commit and answers as the batch does on the list of all books for which the window stands.
+pub record OnBooks (batch : Batch) (w : Window) (books : List Book) : Type 0 where
+  pub reads : footprint_there batch (base_in batch w) ≡ footprint_of batch books
+  pub wait : awaits_there batch (base_in batch w) ≡ awaits_commit batch books
+  pub reply : reply_there batch (base_in batch w) ≡ reply_to batch books
+
+abbrev pub WindowStands : Type 0
+WindowStands = (batch : Batch) (w : Window) (books : List Book) → StandsFor w books → OnBooks batch w books
+
+-- A history begins with one version, at number 0: the window of this version alone stands for the list of its book.
+abbrev pub WindowBegins : Type 0
+WindowBegins = (s : State) → s.number ≡ 0 → StandsFor (record { older = []; newest = s }) (book_in s ∷ [])
+
+-- Where a window stands for a list of books, and the next version is pushed, it stands for the list with that version's book behind.
+abbrev pub WindowGoesOn : Type 0
+WindowGoesOn = (w : Window) (s : State) (books : List Book) → StandsFor w books → IsNext w.newest s → StandsFor (pushed s w) (books ++ book_in s ∷ [])
+
+-- its newest version stands for the last book
+abbrev pub WindowLast : Type 0
+WindowLast = (w : Window) (books : List Book) → StandsFor w books → IsLast w.newest books

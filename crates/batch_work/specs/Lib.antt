@@ -1,0 +1,11 @@
+pub mod Bounds
+pub mod Laws
+pub mod Places
+pub mod Reads
+pub mod Standing
+pub mod Steps
+pub mod Walked
+pub mod WalkStates
+pub mod WindowPlaces
+pub mod Windows
+pub mod Working

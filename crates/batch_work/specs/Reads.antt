@@ -1,0 +1,169 @@
+-- The table of reads: which marks an operation reads on the book that it finds, in their order, up to the one that shows its refusal; and the footprint of a batch, which is its reads, one operation after another.
+use Rattle.std.specs.Prelude.{ℕ, zero, suc, ◌+◌, Bool, true, false, not, List, [], ◌∷◌, ◌++◌, filter, map, flat_map, length, nat_lt, Option, Some, None, Ok, Err, is_some, bytes_eq, if◌then◌else◌}
+use Rattle.std.specs.List.{list_any}
+use Rattle.spiffe_name.specs.Id.{server_text}
+use Rattle.entry_book.specs.declared.agent.Agent.{Agent}
+use Rattle.entry_book.specs.declared.bundle.Bundle.{Bundle}
+use Rattle.entry_book.specs.declared.entry.NewEntry.{NewEntry}
+use Rattle.entry_book.specs.declared.kept.KeptBatch.{KeptBatch}
+use Rattle.entry_book.specs.declared.op.Op.{Op}
+use Rattle.entry_book.specs.declared.op.Op.TheVariants.{Create, Update, Delete, Show, ShowAgent, ShowBundle, Children, Page, Authorised, Trust, Prune, SetAgent, DropAgent, SetBundle, DropBundle}
+use Rattle.entry_book.specs.Rows.{Bytes, Entry, at_revision}
+use Rattle.entry_book.specs.Order.{first, with_row}
+use Rattle.entry_book.specs.Book.{Book, entry_at, agent_at, bundle_at, children_of}
+use Rattle.entry_book.specs.Writes.{after}
+use Rattle.entry_book.specs.Authorised.{holds, authorised}
+use Rattle.entry_book.specs.Ops.{OpEffect, OpResult, similar, is_stale, op_of}
+use Rattle.entry_book.specs.Runs.{RunResult, run}
+use Rattle.entry_book.specs.Batches.{Batch, is_query, past_place}
+use Rattle.entry_book.specs.History.{place_of, book_for, kept_under}
+use Rattle.version_book.specs.declared.mark.MarkKind.{MarkKind}
+use Rattle.version_book.specs.declared.mark.MarkKind.TheVariants as mark
+
+-- each text once, in the order of their bytes
+abbrev pub text_set : List Bytes → List Bytes
+text_set [] = []
+text_set (x ∷ xs) = with_row (λ t. t) x (Some x) (text_set xs)
+
+-- ---- an entry that is put: its group, and where none is similar the bundles of its domains, to the first that is missing
+
+abbrev pub bundle_marks : List Bytes → Book → List MarkKind
+bundle_marks [] b = []
+bundle_marks (d ∷ ds) b = mark.Bundle d ∷ (if is_some (bundle_at d b) then bundle_marks ds b else [])
+
+abbrev pub marks_beside : Option Entry → Entry → Book → List MarkKind
+marks_beside (Some o) e b = []
+marks_beside None e b = bundle_marks e.domains b
+
+abbrev pub put_marks : Entry → Book → List MarkKind
+put_marks e b = mark.Group e.parent e.identity ∷ marks_beside (similar e b) e b
+
+abbrev pub create_marks : Option Entry → Entry → Book → List MarkKind
+create_marks (Some o) e b = []
+create_marks None e b = put_marks e b
+
+abbrev pub update_marks_when : Bool → Entry → Book → List MarkKind
+update_marks_when true e b = []
+update_marks_when false e b = put_marks e b
+
+abbrev pub update_marks : Option Entry → NewEntry → Option ℕ → Book → List MarkKind
+update_marks None e expected b = []
+update_marks (Some old) e expected b = update_marks_when (is_stale expected old) (at_revision (old.revision + 1) e) b
+
+-- ---- authorised entries: the children of the server and of the agent, and then of the identities found, each once, the least first
+
+-- what has been found once the children of these identities were read: the held aliases, the agent's own children, and the entries under these identities
+abbrev pub found : Bytes → Agent → List Bytes → Book → List Entry
+found server a [] b = filter (holds server a) (children_of server b) ++ children_of a.id b
+found server a (i ∷ is) b = found server a is b ++ children_of i b
+
+abbrev pub is_one_of : Bytes → List Bytes → Bool
+is_one_of x xs = list_any (λ y. bytes_eq y x) xs
+
+-- the identities of these entries whose children weren't read yet, in the order of their bytes; the agent's children were. (The server's ID is the identity of no entry.)
+abbrev pub unread : Agent → List Bytes → List Entry → List Bytes
+unread a read es = text_set (filter (λ i. not (is_one_of i (a.id ∷ read))) (map (λ e. e.identity) es))
+
+abbrev pub least_then : Option Bytes → (Bytes → List Bytes) → List Bytes
+least_then None f = []
+least_then (Some i) f = i ∷ f i
+
+-- the identities whose children are read from here on, in turn; each is read once, so as many turns as the book has entries are enough
+abbrev pub walk : ℕ → Bytes → Agent → List Bytes → Book → List Bytes
+walk zero server a read b = []
+walk (suc n) server a read b = least_then (first (unread a read (found server a read b))) (λ i. walk n server a (i ∷ read) b)
+
+abbrev pub walk_marks : Bytes → Agent → Book → List MarkKind
+walk_marks server a b = mark.Children server ∷ mark.Children a.id ∷ map mark.Children (walk (length b.entries) server a [] b)
+
+abbrev pub for_agent_marks : Option Agent → (Agent → List MarkKind) → List MarkKind
+for_agent_marks None f = []
+for_agent_marks (Some a) f = f a
+
+-- the domains that these entries name, each once, in the order of their bytes
+abbrev pub domains_of : List Entry → List Bytes
+domains_of es = text_set (flat_map (λ e. e.domains) es)
+
+abbrev pub trust_marks : Bytes → Agent → Book → List MarkKind
+trust_marks server a b = walk_marks server a b ++ map mark.Bundle (domains_of (authorised server a b))
+
+-- ---- the bundle that is dropped: where there is one, its users
+
+abbrev pub drop_marks : Option Bundle → Bytes → List MarkKind
+drop_marks None domain = []
+drop_marks (Some d) domain = mark.Users domain ∷ []
+
+-- ---- the table
+
+abbrev pub marks_of : Bytes → Op → Book → List MarkKind
+marks_of own (Create e) b = mark.Entry e.id ∷ create_marks (entry_at e.id b) (at_revision 0 e) b
+marks_of own (Update e expected) b = mark.Entry e.id ∷ update_marks (entry_at e.id b) e expected b
+marks_of own (Delete k expected) b = mark.Entry k ∷ []
+marks_of own (Show k) b = mark.Entry k ∷ []
+marks_of own (ShowAgent k) b = mark.Agent k ∷ []
+marks_of own (ShowBundle d) b = mark.Bundle d ∷ []
+marks_of own (Children p) b = mark.Children p ∷ []
+marks_of own (Page q) b = mark.All ∷ []
+marks_of own (Authorised k) b = mark.Agent k ∷ for_agent_marks (agent_at k b) (λ a. walk_marks (server_text own) a b)
+marks_of own (Trust k) b = mark.Agent k ∷ for_agent_marks (agent_at k b) (λ a. trust_marks (server_text own) a b)
+marks_of own (Prune moment) b = mark.Expiring moment ∷ []
+marks_of own (SetAgent a) b = mark.Agent a.id ∷ []
+marks_of own (DropAgent k) b = mark.Agent k ∷ []
+marks_of own (SetBundle d text) b = mark.Bundle d ∷ []
+marks_of own (DropBundle d mode) b = mark.Bundle d ∷ drop_marks (bundle_at d b) d
+
+-- ---- the reads of operations on a book: those of each one on the book that the earlier ones left, to the first refusal; what is read twice stands twice
+
+abbrev pub marks_after : OpResult → (OpEffect → List MarkKind) → List MarkKind
+marks_after (Err r) f = []
+marks_after (Ok d) f = f d
+
+abbrev pub marks_of_ops : Bytes → List Op → Book → List MarkKind
+marks_of_ops own [] b = []
+marks_of_ops own (op ∷ ops) b = marks_of own op b ++ marks_after (op_of own op b) (λ d. marks_of_ops own ops (after d.writes b))
+
+-- ---- the footprint of a batch: its reads, at a place, on the book that it runs on
+
+-- what is kept under its token comes first, where it carries one; where a batch was committed with it, nothing else is read
+abbrev pub token_marks : Option Bytes → List MarkKind
+token_marks None = []
+token_marks (Some k) = mark.Token k ∷ []
+
+abbrev pub footprint_over : Option KeptBatch → Batch → Book → List MarkKind
+footprint_over (Some k) batch b = []
+footprint_over None batch b = marks_of_ops batch.domain batch.ops b
+
+-- the page of a book that is gone, or not there yet, still makes its one read, which shows that
+abbrev pub footprint_on : Batch → Option Book → List MarkKind
+footprint_on batch None = mark.All ∷ []
+footprint_on batch (Some b) = token_marks batch.token ++ footprint_over (kept_under batch.token b) batch b
+
+-- a batch that may not run yet reads nothing
+abbrev pub footprint_at : Batch → ℕ → Option Book → List MarkKind
+footprint_at batch place b = if nat_lt place batch.after then [] else footprint_on batch b
+
+-- ---- whether a batch has changes that await their commit: it may run, nothing is kept under its token, no operation is refused, and it doesn't only ask
+
+abbrev pub awaits_when : Bool → RunResult → Bool
+awaits_when query (Err s) = false
+awaits_when true (Ok t) = false
+awaits_when false (Ok t) = true
+
+abbrev pub awaits_over : Option KeptBatch → Batch → Book → Bool
+awaits_over (Some k) batch b = false
+awaits_over None batch b = awaits_when (is_query batch.ops) (run batch.domain batch.ops b)
+
+abbrev pub awaits_on : Batch → Option Book → Bool
+awaits_on batch None = false
+awaits_on batch (Some b) = awaits_over (kept_under batch.token b) batch b
+
+abbrev pub awaits_at : Batch → ℕ → Option Book → Bool
+awaits_at batch place b = if nat_lt place batch.after then false else awaits_on batch b
+
+-- ---- the same, of a batch and the list of all books
+
+abbrev pub footprint_of : Batch → List Book → List MarkKind
+footprint_of batch books = footprint_at batch (place_of books) (book_for (past_place batch.ops) books)
+
+abbrev pub awaits_commit : Batch → List Book → Bool
+awaits_commit batch books = awaits_at batch (place_of books) (book_for (past_place batch.ops) books)

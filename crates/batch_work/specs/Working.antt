@@ -1,0 +1,119 @@
+-- What a work is: its batch, what it began on, and how many reads it has made. All else follows from these.
+use Rattle.std.specs.Prelude.{◌≡◌, ◌≤◌, ◌^◌, slice_get, ℕ, Bool, true, false, List, [], take, length, nat_lt, Option, Some, None, Ok, option_map, if◌then◌else◌}
+use Rattle.entry_book.specs.declared.reply.OpReply.{OpReply}
+use Rattle.entry_book.specs.declared.reply.Reply.{Reply}
+use Rattle.entry_book.specs.Book.{Book}
+use Rattle.entry_book.specs.Writes.{RowWrite}
+use Rattle.entry_book.specs.Runs.{RunEffect, run}
+use Rattle.entry_book.specs.Batches.{Batch, past_place}
+use Rattle.entry_book.specs.History.{verdict, reply_with, batch_writes}
+use Rattle.version_book.specs.declared.mark.MarkKind.{MarkKind}
+use Rattle.version_book.specs.CommittedRows.{State}
+use Rattle.batch_work.specs.declared.status.Status.{Status}
+use Rattle.batch_work.specs.declared.status.Status.TheVariants.{New, Running, Ready, Settled}
+use Rattle.batch_work.specs.Reads.{footprint_at, awaits_at}
+use Rattle.batch_work.specs.Windows.{Window, book_in, version_at}
+
+-- What a work began on: the newest version of its window, and where its batch asks for an earlier book the version of that one, which may be gone, or not there yet.
+pub record Base : Type 0 where
+  pub newest : State
+  pub earlier : Option State
+
+abbrev pub earlier_in : Option ℕ → Window → Option State
+earlier_in None w = None
+earlier_in (Some n) w = version_at n w
+
+abbrev pub base_in : Batch → Window → Base
+base_in batch w = record { newest = w.newest; earlier = earlier_in (past_place batch.ops) w }
+
+-- the version that a batch reads there
+abbrev pub version_read : Option ℕ → Base → Option State
+version_read None base = Some base.newest
+version_read (Some n) base = base.earlier
+
+pub record Work : Type 0 where
+  pub batch : Batch
+  pub base : Option Base
+  pub steps : ℕ
+
+-- ---- the reads of a batch on what it began on, and what it comes to there
+
+abbrev pub book_read : Batch → Base → Option Book
+book_read batch base = option_map book_in (version_read (past_place batch.ops) base)
+
+abbrev pub footprint_there : Batch → Base → List MarkKind
+footprint_there batch base = footprint_at batch base.newest.number (book_read batch base)
+
+abbrev pub awaits_there : Batch → Base → Bool
+awaits_there batch base = awaits_at batch base.newest.number (book_read batch base)
+
+-- the plain book's reply there; where the batch awaits no commit, no limit has a say in it
+abbrev pub reply_there : Batch → Base → Reply
+reply_there batch base = reply_with base.newest.number (verdict batch base.newest.number (book_read batch base))
+
+-- ---- what the work waits for
+
+abbrev pub end_status : Bool → Status
+end_status true = Ready
+end_status false = Settled
+
+abbrev pub status_on : Batch → Base → ℕ → Status
+status_on batch base n = if nat_lt n (length (footprint_there batch base)) then Running else end_status (awaits_there batch base)
+
+abbrev pub status_from : Option Base → Batch → ℕ → Status
+status_from None batch n = New
+status_from (Some base) batch n = status_on batch base n
+
+abbrev pub status_of : Work → Status
+status_of w = status_from w.base w.batch w.steps
+
+-- ---- what a work begins on, and what its next step reads
+
+-- The window can be begun on: the batch was made for its trust domain, and its number is within the limit on commits, so that no revision and no sequence passes 64 bits.
+pub record MayBegin (batch : Batch) (w : Window) : Type 0 where
+  pub domain : batch.domain ≡ w.newest.domain
+  pub low : w.newest.number ≤ 2 ^ 48
+
+abbrev pub IsNextReadOn : Option Base → Batch → ℕ → MarkKind → Type 0
+IsNextReadOn None batch n m = ⊥
+IsNextReadOn (Some base) batch n m = slice_get (footprint_there batch base) n ≡ Some m
+
+-- the mark that the next step reads
+abbrev pub IsNextRead : Work → MarkKind → Type 0
+IsNextRead w m = IsNextReadOn w.base w.batch w.steps m
+
+abbrev pub marks_from : Option Base → Batch → ℕ → List MarkKind
+marks_from None batch n = []
+marks_from (Some base) batch n = take n (footprint_there batch base)
+
+-- the marks read so far
+abbrev pub marks_so_far : Work → List MarkKind
+marks_so_far w = marks_from w.base w.batch w.steps
+
+-- ---- the end
+
+-- The batch was accepted on the book that it read, with these replies and these writes; the place of what is kept under its token is left open.
+pub record IsAccepted (batch : Batch) (b : Book) (replies : List OpReply) (writes : List RowWrite) : Type 0 where
+  pub effect : RunEffect
+  pub ran : run batch.domain batch.ops b ≡ Ok effect
+  pub replies_are : replies ≡ effect.replies
+  pub writes_are : writes ≡ batch_writes batch 0 effect
+
+abbrev pub IsAcceptedOn : Option Base → Batch → List OpReply → List RowWrite → Type 0
+IsAcceptedOn None batch replies writes = ⊥
+IsAcceptedOn (Some base) batch replies writes = IsAccepted batch (book_in base.newest) replies writes
+
+-- the replies, and the writes, of a work that is ready
+abbrev pub HasReplies : Work → List OpReply → Type 0
+HasReplies w replies = (writes : List RowWrite) × IsAcceptedOn w.base w.batch replies writes
+
+abbrev pub HasWrites : Work → List RowWrite → Type 0
+HasWrites w writes = (replies : List OpReply) × IsAcceptedOn w.base w.batch replies writes
+
+abbrev pub IsReplyOn : Option Base → Batch → Reply → Type 0
+IsReplyOn None batch reply = ⊥
+IsReplyOn (Some base) batch reply = reply ≡ reply_there batch base
+
+-- what a work that is settled answers
+abbrev pub IsAnswer : Work → Reply → Type 0
+IsAnswer w reply = IsReplyOn w.base w.batch reply

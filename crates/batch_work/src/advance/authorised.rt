@@ -1,0 +1,203 @@
+//! What comes after a read on the way to an agent's authorised entries, and to their bundles?
+
+ghost use Rattle.std.specs.Prelude.{◌≡◌, ◌<◌, ◌+◌, ◌^◌, ◌++◌, [], true, false, filter, slice_get, IfErr, IfOk, IfSome};
+ghost use Rattle.entry_book.specs.Authorised.{holds};
+ghost use Rattle.batch_work.specs.Steps.{next_trusted, trusted_next, walk_next};
+ghost use Rattle.batch_work.specs.WalkStates.{first_walk, is_over, walked};
+
+use crate::advance::answered;
+use crate::domains::domains_of;
+use crate::phase::{Asked, Next, Phase};
+use crate::rows::held;
+use crate::walk::Walk;
+use entry_book::{Agent, Bundle, Entry, OpReply, Sequence, Shared};
+use spiffe_name::{SpiffeId, TrustDomain};
+use std::alloc::{AllocError, Global};
+
+/// The agent's own children are read next; the walk begins with the aliases that the agent holds. The error is want of
+/// memory.
+pub(crate) fn held_next(
+    alloc: Global,
+    server: &SpiffeId,
+    asked: Asked,
+    agent: &Agent,
+    entries: &[Entry],
+) -> Result<Next, AllocError>
+    ensures { IfOk result (λ next. next ≡ Next.Goes (Phase.Own asked
+        (walked (filter (holds server.now agent.now) entries.now) (first_walk agent.now)))) }
+{
+    let mut walk = Walk::new(alloc, agent.clone()?)?;
+    walk.goes_on(alloc, held(alloc, server, agent, entries)?)?;
+    Ok(Next::Goes(Phase::Own(asked, walk)))
+}
+
+/// After the read of the agent's own children. The error is want of memory, and gives the phase back as it was.
+pub(crate) fn own_next(
+    alloc: Global,
+    asked: Asked,
+    walk: Walk,
+    entries: Vec<Entry>,
+) -> Result<Next, Phase>
+    ensures next { IfOk result (λ next. next ≡ walk_next asked (walked entries.items walk)) }
+    ensures back { IfErr result (λ back. back ≡ Phase.Own asked walk) }
+{
+    match walk_next(alloc, asked, walk, entries) {
+        Ok(next) => Ok(next),
+        Err(walk) => Err(Phase::Own(asked, walk)),
+    }
+}
+
+/// After the read of the children of an identity. The error is want of memory, and gives the phase back as it was.
+pub(crate) fn identity_next(
+    alloc: Global,
+    asked: Asked,
+    walk: Walk,
+    identity: Shared<SpiffeId>,
+    entries: Vec<Entry>,
+) -> Result<Next, Phase>
+    ensures next { IfOk result (λ next. next ≡ walk_next asked (walked entries.items walk)) }
+    ensures back { IfErr result (λ back. back ≡ Phase.Identity asked walk identity) }
+{
+    match walk_next(alloc, asked, walk, entries) {
+        Ok(next) => Ok(next),
+        Err(walk) => Err(Phase::Identity(asked, walk, identity)),
+    }
+}
+
+/// The children of the least identity that waits are read next, once the walk has taken in the entries of a read; where
+/// none waits it is over. The error is want of memory, and gives the walk back as it was.
+fn walk_next(alloc: Global, asked: Asked, walk: Walk, entries: Vec<Entry>) -> Result<Next, Walk>
+    ensures next { IfOk result (λ next. next ≡ walk_next asked (walked entries.items walk)) }
+    ensures back { IfErr result (λ back. back ≡ walk) }
+{
+    match asked {
+        Asked::Entries => entries_next(alloc, walk, entries),
+        Asked::Bundles => {
+            if !walk.ends_with(entries.as_slice()) {
+                return bundles_walk(alloc, walk, entries);
+            }
+            match bundles_end(alloc, &walk, entries) {
+                Ok(next) => Ok(next),
+                Err(AllocError) => Err(walk),
+            }
+        }
+    }
+}
+
+/// The walk of `authorised` goes on, or ends with the entries found. The error is want of memory, and gives the walk back
+/// as it was.
+fn entries_next(alloc: Global, walk: Walk, entries: Vec<Entry>) -> Result<Next, Walk>
+    ensures next { IfOk result (λ next. next ≡ walk_next Asked.Entries (walked entries.items walk)) }
+    ensures back { IfErr result (λ back. back ≡ walk) }
+{
+    let mut walk = walk;
+    let Ok(()) = walk.goes_on(alloc, entries) else {
+        return Err(walk);
+    };
+    match walk.take_least() {
+        Some(least) => Ok(Next::Goes(Phase::Identity(Asked::Entries, walk, least))),
+        None => {
+            let found = Sequence::of(walk.into_found());
+            Ok(answered(alloc, OpReply::Entries(found)))
+        }
+    }
+}
+
+/// The walk of `trust` goes on. The error is want of memory, and gives the walk back as it was.
+fn bundles_walk(alloc: Global, walk: Walk, entries: Vec<Entry>) -> Result<Next, Walk>
+    requires goes_on { is_over (walked entries.items walk) ≡ false }
+    ensures next { IfOk result (λ next. next ≡ walk_next Asked.Bundles (walked entries.items walk)) }
+    ensures back { IfErr result (λ back. back ≡ walk) }
+{
+    let mut walk = walk;
+    let Ok(()) = walk.goes_on(alloc, entries) else {
+        return Err(walk);
+    };
+    let Some(least) = walk.take_least() else {
+        unreachable!();
+    };
+    Ok(Next::Goes(Phase::Identity(Asked::Bundles, walk, least)))
+}
+
+/// The walk of `trust` is over with these entries: the bundle of the first domain that an entry found names is read next.
+/// The walk stays as it is, so that the step can be made again. The error is want of memory.
+fn bundles_end(alloc: Global, walk: &Walk, entries: Vec<Entry>) -> Result<Next, AllocError>
+    requires over { is_over (walked entries.items walk.now) ≡ true }
+    ensures { IfOk result (λ next. next ≡ walk_next Asked.Bundles (walked entries.items walk.now)) }
+{
+    let mut last = walk.clone()?;
+    last.goes_on(alloc, entries)?;
+    let domains = Sequence::of(domains_of(alloc, last.into_found().as_slice())?);
+    let next = domain_at(&domains, 0)?;
+    Ok(trusted_next(alloc, next, domains, 0, Sequence::empty(alloc)))
+}
+
+/// The domain at the index, where there is one. The error is that no more owners can be counted.
+fn domain_at(
+    domains: &Sequence<Shared<TrustDomain>>,
+    index: usize,
+) -> Result<Option<Shared<TrustDomain>>, AllocError>
+    ensures domain { IfOk result (λ next. next ≡ slice_get domains.now index) }
+    ensures room { IfOk result (λ next. IfSome next (λ _. index + 1 < 2 ^ 64)) }
+{
+    match domains.as_slice().get(index) {
+        Some(domain) => Ok(Some(domain.clone()?)),
+        None => Ok(None),
+    }
+}
+
+/// The bundles that were found, and that of the read. The error is want of memory, and gives back those that were found.
+fn with_read(
+    found: Sequence<Bundle>,
+    read: Vec<Bundle>,
+) -> Result<Sequence<Bundle>, Sequence<Bundle>>
+    ensures all { IfOk result (λ all. all ≡ found ++ read.items) }
+    ensures back { IfErr result (λ back. back ≡ found) }
+{
+    let mut found = found.into_vec();
+    let mut read = read;
+    match found.append(&mut read) {
+        Ok(()) => Ok(Sequence::of(found)),
+        Err(AllocError) => Err(Sequence::of(found)),
+    }
+}
+
+/// The bundle of the domain at the index is read next, or where there is none the bundles found are the answer. Takes no
+/// memory.
+fn trusted_next(
+    alloc: Global,
+    next: Option<Shared<TrustDomain>>,
+    domains: Sequence<Shared<TrustDomain>>,
+    index: usize,
+    found: Sequence<Bundle>,
+) -> Next
+    requires room { IfSome next (λ _. index + 1 < 2 ^ 64) }
+    ensures { result ≡ next_trusted next domains index found }
+{
+    match next {
+        Some(domain) => Next::Goes(Phase::Trusted(domain, domains, index + 1, found)),
+        None => answered(alloc, OpReply::Bundles(found)),
+    }
+}
+
+/// After the read of the bundle of a domain that authorised entries name: the one of the domain at the index is next. The
+/// error is want of memory, and gives the phase back as it was.
+pub(crate) fn trusted_turn(
+    alloc: Global,
+    domain: Shared<TrustDomain>,
+    domains: Sequence<Shared<TrustDomain>>,
+    index: usize,
+    found: Sequence<Bundle>,
+    read: Vec<Bundle>,
+) -> Result<Next, Phase>
+    ensures next { IfOk result (λ next. next ≡ trusted_next domains index (found ++ read.items)) }
+    ensures back { IfErr result (λ back. back ≡ Phase.Trusted domain domains index found) }
+{
+    let Ok(next) = domain_at(&domains, index) else {
+        return Err(Phase::Trusted(domain, domains, index, found));
+    };
+    match with_read(found, read) {
+        Ok(found) => Ok(trusted_next(alloc, next, domains, index, found)),
+        Err(found) => Err(Phase::Trusted(domain, domains, index, found)),
+    }
+}

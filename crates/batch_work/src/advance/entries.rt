@@ -1,0 +1,171 @@
+//! What comes after the read of an entry, of its group, and of its domains' bundles, and after that of several entries?
+
+ghost use Rattle.std.specs.Prelude.{◌≡◌, ◌≤◌, ◌^◌, [], IfOk, is_some, map};
+ghost use Rattle.entry_book.specs.Order.{Within, first};
+ghost use Rattle.entry_book.specs.Ops.{removed};
+ghost use Rattle.entry_book.specs.Pages.{listed, next_of};
+ghost use Rattle.entry_book.specs.Rows.{Entry as EntryRow, entry_key};
+ghost use Rattle.batch_work.specs.Steps.{beside_next, bundle_next, bundles_next, create_next, delete_next, similar_in, update_next};
+
+use crate::phase::{Next, Phase};
+use crate::rows::similar_in;
+use entry_book::{Bundle, Entry, NewEntry, OpRefusal, OpReply, PageQuery, Sequence, Shared};
+use spiffe_name::TrustDomain;
+use std::alloc::{AllocError, Global};
+use uuid::Uuid;
+use version_book::{Changes, RowsRead};
+
+/// The group of the new entry is read next, where its id is free. The error is that no more owners can be counted.
+pub(crate) fn create_next(new: &Shared<NewEntry>, entries: &[Entry]) -> Result<Next, AllocError>
+    ensures { IfOk result (λ next. next ≡ create_next (first entries.now) new.now) }
+{
+    match entries {
+        [] => Ok(Next::Goes(Phase::Group(None, Entry::at_revision(new, 0)?))),
+        [_, ..] => Ok(Next::Refused(OpRefusal::IdTaken)),
+    }
+}
+
+/// The group of the new entry is read next, where the old one is at the revision that is expected. The error is that no
+/// more owners can be counted.
+pub(crate) fn update_next(
+    new: &Shared<NewEntry>,
+    expected: Option<u64>,
+    entries: &[Entry],
+) -> Result<Next, AllocError>
+    requires counts { (entry : EntryRow) → Within entries.now entry → entry.revision ≤ 2 ^ 63 }
+    ensures { IfOk result (λ next. next ≡ update_next (first entries.now) new.now expected) }
+{
+    match entries {
+        [] => Ok(Next::Refused(OpRefusal::NoEntry)),
+        [old, ..] => {
+            if old.is_stale(expected) {
+                return Ok(Next::Refused(OpRefusal::StaleRevision));
+            }
+            let entry = Entry::at_revision(new, old.revision() + 1)?;
+            Ok(Next::Goes(Phase::Group(Some(old.clone()?), entry)))
+        }
+    }
+}
+
+/// The entry is removed, where it is at the revision that is expected. The error is want of memory.
+pub(crate) fn delete_next(
+    alloc: Global,
+    expected: Option<u64>,
+    entries: &[Entry],
+) -> Result<Next, AllocError>
+    ensures { IfOk result (λ next. next ≡ delete_next (first entries.now) expected) }
+{
+    match entries {
+        [] => Ok(Next::Refused(OpRefusal::NoEntry)),
+        [entry, ..] => {
+            if entry.is_stale(expected) {
+                return Ok(Next::Refused(OpRefusal::StaleRevision));
+            }
+            let mut changes = Changes::new(alloc);
+            changes.put_entry(*entry.id(), Some(entry.clone()?), None)?;
+            Ok(Next::Ends(OpReply::Entry(entry.clone()?), changes))
+        }
+    }
+}
+
+/// The bundle of the entry's first domain is read next, where no entry of the group is similar. The error is want of
+/// memory.
+pub(crate) fn beside_next(
+    alloc: Global,
+    old: &Option<Entry>,
+    entry: &Entry,
+    group: &[Entry],
+) -> Result<Next, AllocError>
+    ensures { IfOk result (λ next. next ≡ beside_next (similar_in entry.now group.now) old.now entry.now) }
+{
+    match similar_in(group, entry) {
+        Some(other) => Ok(Next::Refused(OpRefusal::Similar(*other.id()))),
+        None => bundles_next(alloc, old.clone()?, entry.clone()?, 0),
+    }
+}
+
+/// The bundle of the domain at the index is read next, where there is one of the domain before it. The error is want of
+/// memory.
+pub(crate) fn bundle_next(
+    alloc: Global,
+    old: &Option<Entry>,
+    entry: &Entry,
+    domain: &Shared<TrustDomain>,
+    index: usize,
+    bundles: &[Bundle],
+) -> Result<Next, AllocError>
+    ensures { IfOk result (λ next. next ≡ bundle_next (is_some (first bundles.now)) old.now entry.now domain.now index) }
+{
+    match bundles {
+        [] => Ok(Next::Refused(OpRefusal::NoBundle(domain.clone()?))),
+        [_, ..] => bundles_next(alloc, old.clone()?, entry.clone()?, index),
+    }
+}
+
+/// The bundle of the domain at the index is read next, or where there is none the entry is put. The error is want of
+/// memory.
+fn bundles_next(
+    alloc: Global,
+    old: Option<Entry>,
+    entry: Entry,
+    index: usize,
+) -> Result<Next, AllocError>
+    ensures { IfOk result (λ next. next ≡ bundles_next old entry index) }
+{
+    match entry.domains().as_slice().get(index) {
+        Some(domain) => {
+            let domain = domain.clone()?;
+            Ok(Next::Goes(Phase::Bundle(old, entry, domain, index + 1)))
+        }
+        None => {
+            let reply = OpReply::Entry(entry.clone()?);
+            let mut changes = Changes::new(alloc);
+            changes.put_entry(*entry.id(), old, Some(entry))?;
+            Ok(Next::Ends(reply, changes))
+        }
+    }
+}
+
+/// The page of the entries that were read. The error is want of memory.
+pub(crate) fn page_next(
+    alloc: Global,
+    query: &PageQuery,
+    reading: &RowsRead,
+) -> Result<Next, AllocError>
+    ensures { IfOk result (λ next. next ≡ Next.Ends
+        (OpReply.Page (listed query.now reading.now) (next_of query.now reading.now)) []) }
+{
+    let (listed, next) = query.page_of(alloc, reading.entries())?;
+    let reply = OpReply::Page(Sequence::of(listed), next);
+    Ok(Next::Ends(reply, Changes::new(alloc)))
+}
+
+/// These entries are removed. The error is want of memory.
+pub(crate) fn prune_next(alloc: Global, entries: &[Entry]) -> Result<Next, AllocError>
+    ensures { IfOk result (λ next. next ≡ Next.Ends (OpReply.Pruned (map entry_key entries.now)) (map removed entries.now)) }
+{
+    let reply = OpReply::Pruned(ids_of(alloc, entries)?);
+    Ok(Next::Ends(reply, removed(alloc, entries)?))
+}
+
+/// The ids of these entries. The error is want of memory.
+pub(crate) fn ids_of(alloc: Global, entries: &[Entry]) -> Result<Sequence<Uuid>, AllocError>
+    ensures { IfOk result (λ ids. ids ≡ map entry_key entries.now) }
+{
+    let mut ids = Vec::new(alloc);
+    for entry in entries {
+        ids.push(*entry.id())?;
+    }
+    Ok(Sequence::of(ids))
+}
+
+/// Each of these entries removed. The error is want of memory.
+pub(crate) fn removed(alloc: Global, entries: &[Entry]) -> Result<Changes, AllocError>
+    ensures { IfOk result (λ changes. changes ≡ map removed entries.now) }
+{
+    let mut changes = Changes::new(alloc);
+    for entry in entries {
+        changes.put_entry(*entry.id(), Some(entry.clone()?), None)?;
+    }
+    Ok(changes)
+}

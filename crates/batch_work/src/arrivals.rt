@@ -1,0 +1,118 @@
+//! How do the entries of a read come into the sets of a walk?
+
+ghost use Rattle.std.specs.Prelude.{◌≡◌, ◌≤◌, ◌<◌, ◌+◌, IfOk, Some, length, vec_len};
+ghost use Rattle.std.specs.Vec.{vec_capacity};
+ghost use Rattle.entry_book.specs.Order.{Ascending, with_row};
+ghost use Rattle.entry_book.specs.Rows.{entry_key};
+ghost use Rattle.entry_book.specs.declared.agent.Agent.{Agent as AgentRow};
+ghost use Rattle.batch_work.specs.Reads.{is_one_of};
+ghost use Rattle.batch_work.specs.WalkStates.{met_when, walked};
+
+use crate::sorted::{put_entry, put_identity};
+use entry_book::{Entry, Shared};
+use spiffe_name::SpiffeId;
+use std::alloc::{AllocError, Global};
+use std::marker::Model;
+
+/// An entry that comes to a walk, with the owners of its identity that the sets of identities may need. A contract sees
+/// the entry.
+#[derive(Drop)]
+pub(crate) struct Arrival {
+    entry: Entry,
+    met: Shared<SpiffeId>,
+    waiting: Shared<SpiffeId>,
+}
+
+impl Model for Arrival {
+    ghost use Rattle.std.specs.Prelude.{◌≡◌};
+    ghost use Rattle.entry_book.specs.Rows.{Entry};
+
+    ghost Value = { Entry };
+
+    ghost view = { λ arrival. arrival.entry };
+
+    ghost invariant = { λ arrival. (arrival.met ≡ arrival.entry.identity) × (arrival.waiting ≡ arrival.entry.identity) };
+}
+
+impl Arrival {
+    ghost use Rattle.std.specs.Prelude.{◌≡◌, IfOk};
+
+    /// The error is that no more owners can be counted.
+    fn of(entry: Entry) -> Result<Arrival, AllocError>
+        ensures { IfOk result (λ arrival. arrival ≡ entry) }
+    {
+        let met = entry.identity().clone()?;
+        let waiting = entry.identity().clone()?;
+        Ok(Arrival {
+            entry,
+            met,
+            waiting,
+        })
+    }
+}
+
+/// The entries, each with the owners of its identity. The error is want of memory.
+pub(crate) fn arrivals_of(alloc: Global, entries: Vec<Entry>) -> Result<Vec<Arrival>, AllocError>
+    ensures { IfOk result (λ arrivals. arrivals.items ≡ entries.items) }
+{
+    let mut arrivals = Vec::new(alloc);
+    for entry in entries {
+        arrivals.push(Arrival::of(entry)?)?;
+    }
+    Ok(arrivals)
+}
+
+/// Puts an entry among those found, and its identity, where it wasn't met yet, among those met and those that wait. The
+/// sets have room. Takes no memory.
+fn put_arrival(
+    met: &mut Vec<Shared<SpiffeId>>,
+    waiting: &mut Vec<Shared<SpiffeId>>,
+    found: &mut Vec<Entry>,
+    arrival: Arrival,
+)
+    requires met_order { Ascending (λ id. id) met.old.items }
+    requires waiting_order { Ascending (λ id. id) waiting.old.items }
+    requires found_order { Ascending entry_key found.old.items }
+    requires met_room { vec_len met.old < vec_capacity met.old }
+    requires waiting_room { vec_len waiting.old < vec_capacity waiting.old }
+    requires found_room { vec_len found.old < vec_capacity found.old }
+    ensures met { met.new.items ≡ met_when (is_one_of arrival.identity met.old.items) arrival.identity met.old.items }
+    ensures waiting { waiting.new.items ≡ met_when (is_one_of arrival.identity met.old.items) arrival.identity waiting.old.items }
+    ensures found { found.new.items ≡ with_row entry_key arrival.id (Some arrival) found.old.items }
+    ensures met_len { (vec_len met.new ≤ vec_len met.old + 1) × (vec_capacity met.old ≤ vec_capacity met.new) }
+    ensures waiting_len { (vec_len waiting.new ≤ vec_len waiting.old + 1) × (vec_capacity waiting.old ≤ vec_capacity waiting.new) }
+    ensures found_len { (vec_len found.new ≤ vec_len found.old + 1) × (vec_capacity found.old ≤ vec_capacity found.new) }
+{
+    let Arrival {
+        entry,
+        met: identity,
+        waiting: other,
+    } = arrival;
+    if put_identity(met, identity) {
+        put_identity(waiting, other);
+    }
+    put_entry(found, entry);
+}
+
+/// Puts entries one after another into sets that have room for all of them. Takes no memory.
+pub(crate) fn put_arrivals(
+    met: &mut Vec<Shared<SpiffeId>>,
+    waiting: &mut Vec<Shared<SpiffeId>>,
+    found: &mut Vec<Entry>,
+    arrivals: Vec<Arrival>,
+)
+    requires met_order { Ascending (λ id. id) met.old.items }
+    requires waiting_order { Ascending (λ id. id) waiting.old.items }
+    requires found_order { Ascending entry_key found.old.items }
+    requires met_room { vec_len met.old + length arrivals.items ≤ vec_capacity met.old }
+    requires waiting_room { vec_len waiting.old + length arrivals.items ≤ vec_capacity waiting.old }
+    requires found_room { vec_len found.old + length arrivals.items ≤ vec_capacity found.old }
+    ensures order { Ascending (λ id. id) met.new.items × Ascending (λ id. id) waiting.new.items × Ascending entry_key found.new.items }
+    ensures walked { (agent : AgentRow) →
+        record { agent = agent; met = met.new.items; waiting = waiting.new.items; found = found.new.items }
+        ≡ walked arrivals.items (record { agent = agent; met = met.old.items; waiting = waiting.old.items; found = found.old.items }) }
+{
+    for arrival in arrivals {
+        put_arrival(met, waiting, found, arrival);
+    }
+}

@@ -1,0 +1,69 @@
+//! On what does a batch begin, and what does it do first?
+
+ghost use Rattle.std.specs.Prelude.{◌≡◌, [], IfOk, IfSome};
+ghost use Rattle.entry_book.specs.Batches.{past_place};
+ghost use Rattle.batch_work.specs.Standing.{BeganOn, IsReadable, StandsAt, base_of};
+ghost use Rattle.batch_work.specs.Working.{MayBegin, base_in, earlier_in};
+
+use crate::look::version_read;
+use crate::phase::Phase;
+use crate::stage::{Begun, Stage};
+use crate::take::settled;
+use crate::window::Window;
+use entry_book::{Batch, Outcome, Refusal, Shared};
+use spiffe_name::SpiffeId;
+use std::alloc::{AllocError, Global};
+use version_book::Version;
+
+/// The version of the earlier book that a batch asks for, where it asks for one and the window has it. The error is that no
+/// more owners can be counted.
+fn earlier_in(batch: &Batch, window: &Window) -> Result<Option<Version>, AllocError>
+    requires fits { MayBegin batch.now window.now }
+    ensures found { IfOk result (λ earlier. earlier ≡ earlier_in (past_place batch.now.ops) window.now) }
+    ensures readable { IfOk result (λ earlier. IfSome earlier (IsReadable batch.now.domain)) }
+{
+    let Some(place) = batch.past_place() else {
+        return Ok(None);
+    };
+    let Some(version) = window.book(place) else {
+        return Ok(None);
+    };
+    let _ = version.number();
+    Ok(Some(version.clone()?))
+}
+
+/// Where a batch begins on a window. The error is want of memory.
+pub(crate) fn begun_on(alloc: Global, batch: &Batch, window: &Window) -> Result<Begun, AllocError>
+    requires fits { MayBegin batch.now window.now }
+    ensures base { IfOk result (λ begun. base_of begun ≡ base_in batch.now window.now) }
+    ensures began { IfOk result (BeganOn batch.now) }
+{
+    let newest = window.newest();
+    let _ = newest.number();
+    let earlier = earlier_in(batch, window)?;
+    let server = SpiffeId::server_of(alloc, batch.domain())?;
+    Ok(Begun {
+        newest: newest.clone()?,
+        earlier,
+        server: Shared::of(alloc, server)?,
+    })
+}
+
+/// What a batch does first where it begins. The error is want of memory.
+pub(crate) fn first_stage(alloc: Global, batch: &Batch, begun: &Begun) -> Result<Stage, AllocError>
+    requires began { BeganOn batch.now begun.now }
+    ensures { IfOk result (λ stage. StandsAt stage batch.now (base_of begun.now) [] [] []) }
+{
+    let place = begun.newest.number();
+    if place < batch.after() {
+        let stage = settled(alloc, place, Outcome::Refused(Refusal::NotYet))?;
+        return Ok(stage);
+    }
+    let Some(_) = version_read(begun, batch) else {
+        return Ok(Stage::Gone);
+    };
+    match batch.token() {
+        Some(token) => Ok(Stage::Token(token)),
+        None => Ok(Stage::At(0, Phase::First)),
+    }
+}

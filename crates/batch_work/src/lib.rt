@@ -1,0 +1,41 @@
+//! How is a batch run in small steps on one version of the book, and what does its answer rest on?
+//!
+//! Many callers at once read versions that never change. Each runs its batch alone: one read a step, through the batch's own
+//! earlier changes, and nothing that is shared is touched. In the end it has the plain book's answer on the version that it
+//! began on, and the marks that it read, which are all that this answer rests on: whoever commits the batch needs to
+//! look at these marks alone.
+//!
+//! - [`Work`]: a batch on its way. It begins on a window, makes a read with each step, and is then ready for its commit, or
+//!   settled; [`Status`] says which.
+//! - [`Window`]: the last 64 versions of one history. A batch reads the newest, or for the page of an earlier book that one.
+//! - [`laws`]: what is read decides what a batch comes to; what becomes of it at a commit; how many reads it makes, and which;
+//!   what a window shows of the list of all books.
+//!
+//! The definitions stand in `specs/`: the table of reads and the footprint of a batch in `Reads`, what a work is in `Working`,
+//! what a window shows in `Windows`, the laws in `Laws`, `Bounds` and `Walked`; the others are for this crate's own contracts.
+//! Nothing outside this crate knows how a work keeps its course:
+//!
+//! - `begin`: what a batch begins on; `look`: what its next read shows; `take`: what becomes of it then; `stage`: where it stands
+//!   between two steps.
+//! - `phase`: where an operation stands between two reads; `advance`: what comes next of it.
+#![tactic(auto)]
+
+mod advance;
+mod arrivals;
+mod begin;
+mod domains;
+pub mod laws;
+mod look;
+mod phase;
+mod rows;
+mod sorted;
+mod stage;
+mod status;
+mod take;
+mod walk;
+mod window;
+mod work;
+
+pub use status::Status;
+pub use window::Window;
+pub use work::Work;

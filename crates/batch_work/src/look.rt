@@ -1,0 +1,114 @@
+//! What does the next read of a work show?
+
+ghost use Rattle.std.specs.Prelude.{◌≡◌, IfOk, IfErr};
+ghost use Rattle.std.specs.Option.{option_copied};
+ghost use Rattle.entry_book.specs.Batches.{past_place};
+ghost use Rattle.entry_book.specs.Book.{token_at};
+ghost use Rattle.entry_book.specs.History.{kept_under};
+ghost use Rattle.batch_work.specs.Standing.{AtToken, BeganOn, Going, IsLooked, IsRunning, Looked, StandsAt, base_of};
+ghost use Rattle.batch_work.specs.Windows.{book_in};
+ghost use Rattle.batch_work.specs.Working.{version_read};
+
+use crate::advance::{advance, mark_of};
+use crate::phase::{Next, Phase};
+use crate::stage::{Begun, Course, Found, Stage};
+use entry_book::{Batch, KeptBatch};
+use std::alloc::{AllocError, Global};
+use uuid::Uuid;
+use version_book::{Mark, Version};
+
+/// The version that a batch reads, where it is there.
+pub(crate) fn version_read<'a>(begun: &'a Begun, batch: &Batch) -> Option<&'a Version>
+    ensures { option_copied result ≡ version_read (past_place batch.now.ops) (base_of begun.now) }
+{
+    match batch.past_place() {
+        None => Some(&begun.newest),
+        Some(_) => begun.earlier.as_ref(),
+    }
+}
+
+/// What a version keeps under a token. The error is want of memory.
+fn kept_under(version: &Version, token: Uuid) -> Result<Option<KeptBatch>, AllocError>
+    ensures { IfOk result (λ kept. kept ≡ token_at token (book_in version.now)) }
+{
+    let reading = version.read(&Mark::token(token))?;
+    match reading.tokens() {
+        [kept, ..] => Ok(Some(kept.clone()?)),
+        [] => Ok(None),
+    }
+}
+
+/// The next read of an operation, counted from 0, at its phase: the mark, and what comes next. The error is want of memory,
+/// and gives the phase back.
+fn look_op(
+    alloc: Global,
+    begun: &Begun,
+    batch: &Batch,
+    course: &Course,
+    index: usize,
+    phase: Phase,
+) -> Result<(Mark, Next), Phase>
+    requires began { BeganOn batch.now begun.now }
+    requires going { Going batch.now (base_of begun.now) course.now.marks.items course.now.changes course.now.replies.items index phase }
+    ensures looked { IfOk result (λ found. Looked batch.now (base_of begun.now) course.now.marks.items course.now.changes course.now.replies.items index found.0 found.1) }
+    ensures back { IfErr result (λ back. back ≡ phase) }
+{
+    let Some(version) = version_read(begun, batch) else {
+        unreachable!()
+    };
+    let op = &batch.ops()[index];
+    let Ok(mark) = mark_of(&begun.server, op, &phase) else {
+        return Err(phase);
+    };
+    let Ok(reading) = version.read_after(&mark, &course.changes) else {
+        return Err(phase);
+    };
+    match advance(alloc, &begun.server, op, phase, reading) {
+        Ok(next) => Ok((mark, next)),
+        Err(phase) => Err(phase),
+    }
+}
+
+/// The next read of what is kept under the batch's token. The error is want of memory.
+fn look_token(begun: &Begun, batch: &Batch, token: Uuid) -> Result<Option<KeptBatch>, AllocError>
+    requires at { AtToken batch.now (base_of begun.now) token }
+    ensures { IfOk result (λ kept. (at_token : AtToken batch.now (base_of begun.now) token) → kept ≡ kept_under batch.now.token (book_in at_token.s)) }
+{
+    let Some(version) = version_read(begun, batch) else {
+        unreachable!()
+    };
+    kept_under(version, token)
+}
+
+/// Makes the next read of a work that runs: its stage is then one at which a read is to be taken down. Where that read was
+/// made before, it stays. The error is want of memory, and gives the stage back.
+pub(crate) fn look(
+    alloc: Global,
+    begun: &Begun,
+    batch: &Batch,
+    course: &Course,
+    stage: Stage,
+) -> Result<Stage, Stage>
+    requires began { BeganOn batch.now begun.now }
+    requires stands { StandsAt stage batch.now (base_of begun.now) course.now.marks.items course.now.changes course.now.replies.items }
+    requires running { IsRunning stage }
+    ensures looked { IfOk result IsLooked }
+    ensures stands { IfOk result (λ looked. StandsAt looked batch.now (base_of begun.now) course.now.marks.items course.now.changes course.now.replies.items) }
+    ensures back { IfErr result (λ back. back ≡ stage) }
+{
+    match stage {
+        Stage::Token(token) => match look_token(begun, batch, token) {
+            Ok(kept) => Ok(Stage::Read(Mark::token(token), Found::Kept(kept))),
+            Err(_) => Err(Stage::Token(token)),
+        },
+        Stage::Gone => Ok(Stage::Read(Mark::all(), Found::Gone)),
+        Stage::At(index, phase) => {
+            match look_op(alloc, begun, batch, course, index, phase) {
+                Ok((mark, next)) => Ok(Stage::Read(mark, Found::Op(index, next))),
+                Err(phase) => Err(Stage::At(index, phase)),
+            }
+        }
+        Stage::Read(mark, found) => Ok(Stage::Read(mark, found)),
+        Stage::New | Stage::Ready(_) | Stage::Settled(_) => unreachable!(),
+    }
+}

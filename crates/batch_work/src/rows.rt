@@ -1,0 +1,55 @@
+//! What do the rows of a reading show?
+
+ghost use Rattle.std.specs.Prelude.{◌≡◌, IfOk, filter};
+ghost use Rattle.std.specs.Option.{option_copied};
+ghost use Rattle.entry_book.specs.Authorised.{holds};
+ghost use Rattle.entry_book.specs.Order.{first};
+ghost use Rattle.batch_work.specs.Steps.{similar_in};
+
+use entry_book::{Agent, Entry};
+use spiffe_name::SpiffeId;
+use std::alloc::{AllocError, Global};
+
+/// The first row, where there is one. Takes no memory.
+pub(crate) fn first_of<T: Drop>(rows: Vec<T>) -> Option<T>
+    ensures { result ≡ first rows.items }
+{
+    rows.into_iter().next()
+}
+
+/// Another entry with the selectors, of those of one parent and identity.
+pub(crate) fn similar_in<'a>(entries: &'a [Entry], new: &Entry) -> Option<&'a Entry>
+    ensures { option_copied result ≡ similar_in new.now entries.now }
+{
+    for entry in entries {
+        if entry.selectors().get() == new.selectors().get() && entry.id() != new.id() {
+            return Some(entry);
+        }
+    }
+    None
+}
+
+/// Is the entry an alias, and does the agent have all of its selectors?
+fn holds(server: &SpiffeId, agent: &Agent, entry: &Entry) -> bool
+    ensures { result ≡ holds server.now agent.now entry.now }
+{
+    entry.parent().get() == server && entry.selectors().get().within(agent.selectors.get())
+}
+
+/// The aliases that the agent holds. The error is want of memory.
+pub(crate) fn held(
+    alloc: Global,
+    server: &SpiffeId,
+    agent: &Agent,
+    entries: &[Entry],
+) -> Result<Vec<Entry>, AllocError>
+    ensures { IfOk result (λ found. found.items ≡ filter (holds server.now agent.now) entries.now) }
+{
+    let mut found = Vec::new(alloc);
+    for entry in entries {
+        if holds(server, agent, entry) {
+            found.push(entry.clone()?)?;
+        }
+    }
+    Ok(found)
+}

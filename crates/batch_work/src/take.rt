@@ -1,0 +1,216 @@
+//! What becomes of a work once a read was made?
+
+ghost use Rattle.std.specs.Prelude.{◌≡◌, ◌<◌, ◌≤◌, ◌+◌, ◌++◌, ◌∷◌, [], IfOk, IfErr, OnOk, OnErr, true, false, length};
+ghost use Rattle.entry_book.specs.Batches.{is_query};
+ghost use Rattle.entry_book.specs.History.{reply_with, token_writes, verdict_again};
+ghost use Rattle.entry_book.specs.SameOps.{ops_eq};
+ghost use Rattle.batch_work.specs.Standing.{BeganOn, Looked, StandsAt, StandsRead, base_of};
+
+use crate::phase::{Next, Phase};
+use crate::stage::{Begun, Course, Found, Stage};
+use entry_book::{Batch, KeptBatch, OpRefusal, OpReply, Outcome, Refusal, Reply, Sequence, Shared};
+use std::alloc::{AllocError, Global};
+use version_book::{Changes, Mark};
+
+/// A work with this reply, at this place, is done. The error is want of memory.
+pub(crate) fn settled(alloc: Global, place: u64, outcome: Outcome) -> Result<Stage, AllocError>
+    ensures { IfOk result (λ stage. stage ≡ Stage.Settled (record { place = place; outcome = outcome })) }
+{
+    Ok(Stage::Settled(Shared::of(alloc, Reply { place, outcome })?))
+}
+
+/// This operation, counted from 0, is refused. The error is want of memory.
+fn refused(
+    alloc: Global,
+    begun: &Begun,
+    index: usize,
+    reason: &OpRefusal,
+) -> Result<Stage, AllocError>
+    ensures { IfOk result (λ stage. stage ≡ Stage.Settled (record {
+      place = begun.now.newest.number;
+      outcome = Outcome.Refused (Refusal.OfOp index reason.now);
+    })) }
+{
+    let refusal = Refusal::OfOp(index, reason.clone()?);
+    settled(alloc, begun.newest.number(), Outcome::Refused(refusal))
+}
+
+/// A batch was committed with the token: this one is a repeat of it, or uses the token for something else. The error is want
+/// of memory.
+fn again(alloc: Global, begun: &Begun, batch: &Batch, kept: &KeptBatch) -> Result<Stage, AllocError>
+    ensures { IfOk result (λ stage. stage ≡ Stage.Settled
+        (reply_with begun.now.newest.number (verdict_again (ops_eq kept.now.ops batch.now.ops) kept.now))) }
+{
+    if kept.has_ops(batch.ops()) {
+        settled(alloc, kept.place, Outcome::Repeated(kept.replies.clone()?))
+    } else {
+        let place = begun.newest.number();
+        settled(alloc, place, Outcome::Refused(Refusal::TokenReused))
+    }
+}
+
+/// The book that a page asks for isn't there. The error is want of memory.
+fn gone(alloc: Global, begun: &Begun) -> Result<Stage, AllocError>
+    ensures { IfOk result (λ stage. stage ≡ Stage.Settled (record {
+      place = begun.now.newest.number;
+      outcome = Outcome.Refused (Refusal.OfOp 0 OpRefusal.VersionGone);
+    })) }
+{
+    refused(alloc, begun, 0, &OpRefusal::VersionGone)
+}
+
+/// Takes an operation's reply and writes down, which isn't the last one. The error is want of memory, and nothing has changed
+/// then.
+fn end_op(course: &mut Course, reply: &OpReply, writes: &Changes) -> Result<(), AllocError>
+    ensures changes { OnOk result (course.new.changes ≡ course.old.changes ++ writes.now) }
+    ensures replies { OnOk result (course.new.replies.items ≡ course.old.replies.items ++ reply.now ∷ []) }
+    ensures err { OnErr result ((course.new.changes ≡ course.old.changes) × (course.new.replies.items ≡ course.old.replies.items)) }
+    ensures marks { course.new.marks ≡ course.old.marks }
+{
+    let reply = reply.clone()?;
+    let writes = writes.clone()?;
+    course.replies.reserve(1)?;
+    course.changes.append(writes)?;
+    let Ok(()) = course.replies.push(reply) else {
+        unreachable!()
+    };
+    Ok(())
+}
+
+/// The replies of all operations, with that of the last one. The error is want of memory.
+fn all_replies(
+    alloc: Global,
+    earlier: &Vec<OpReply>,
+    last: &OpReply,
+) -> Result<Shared<Sequence<OpReply>>, AllocError>
+    ensures { IfOk result (λ all. all ≡ earlier.now.items ++ last.now ∷ []) }
+{
+    let mut all = earlier.clone()?;
+    all.push(last.clone()?)?;
+    Shared::of(alloc, Sequence::of(all))
+}
+
+/// Takes the last operation's writes down, and that of the batch's token, where it carries one. The error is want of memory,
+/// and nothing has changed then.
+fn end_changes(
+    changes: &mut Changes,
+    batch: &Batch,
+    writes: &Changes,
+    all: &Shared<Sequence<OpReply>>,
+) -> Result<(), AllocError>
+    ensures changes { OnOk result (changes.new ≡ changes.old ++ (writes.now ++ token_writes batch.now.token batch.now.ops 0 all.now)) }
+    ensures err { OnErr result (changes.new ≡ changes.old) }
+{
+    let mut writes = writes.clone()?;
+    if let Some(token) = batch.token() {
+        writes.put_token(token, batch.shared_ops().clone()?, all.clone()?)?;
+    }
+    changes.append(writes)
+}
+
+/// The last operation of a batch that only asks has ended. The error is want of memory.
+fn end_query(
+    alloc: Global,
+    begun: &Begun,
+    course: &Course,
+    reply: &OpReply,
+) -> Result<Stage, AllocError>
+    ensures { IfOk result (λ stage. stage ≡ Stage.Settled (record {
+      place = begun.now.newest.number;
+      outcome = Outcome.Answered (course.now.replies.items ++ reply.now ∷ []);
+    })) }
+{
+    let all = all_replies(alloc, &course.replies, reply)?;
+    settled(alloc, begun.newest.number(), Outcome::Answered(all))
+}
+
+/// The last operation of a batch that changes the book has ended. The error is want of memory, and nothing has changed then.
+fn end_changes_batch(
+    alloc: Global,
+    batch: &Batch,
+    course: &mut Course,
+    reply: &OpReply,
+    writes: &Changes,
+) -> Result<Stage, AllocError>
+    ensures ready { IfOk result (λ stage. stage ≡ Stage.Ready (course.old.replies.items ++ reply.now ∷ [])) }
+    ensures changes { OnOk result (course.new.changes ≡ course.old.changes ++ (writes.now ++ token_writes batch.now.token batch.now.ops 0 (course.old.replies.items ++ reply.now ∷ []))) }
+    ensures err { OnErr result (course.new.changes ≡ course.old.changes) }
+    ensures replies { course.new.replies ≡ course.old.replies }
+    ensures marks { course.new.marks ≡ course.old.marks }
+{
+    let all = all_replies(alloc, &course.replies, reply)?;
+    end_changes(&mut course.changes, batch, writes, &all)?;
+    Ok(Stage::Ready(all))
+}
+
+/// What becomes of a work whose operation, counted from 0, has ended. The error is want of memory, and nothing has changed
+/// then.
+fn ended(
+    alloc: Global,
+    begun: &Begun,
+    batch: &Batch,
+    course: &mut Course,
+    mark: &Mark,
+    index: usize,
+    reply: &OpReply,
+    writes: &Changes,
+) -> Result<Stage, AllocError>
+    requires began { BeganOn batch.now begun.now }
+    requires looked { Looked batch.now (base_of begun.now) course.old.marks.items course.old.changes course.old.replies.items index mark.now (Next.Ends reply.now writes.now) }
+    ensures stands { IfOk result (λ stage. StandsAt stage batch.now (base_of begun.now) (course.old.marks.items ++ mark.now ∷ []) course.new.changes course.new.replies.items) }
+    ensures err { OnErr result ((course.new.changes ≡ course.old.changes) × (course.new.replies.items ≡ course.old.replies.items)) }
+    ensures marks { course.new.marks ≡ course.old.marks }
+{
+    if index + 1 < batch.ops().len() {
+        end_op(course, reply, writes)?;
+        return Ok(Stage::At(index + 1, Phase::First));
+    }
+    if batch.is_query() {
+        let stage = end_query(alloc, begun, course, reply)?;
+        Ok(stage)
+    } else {
+        let stage = end_changes_batch(alloc, batch, course, reply, writes)?;
+        Ok(stage)
+    }
+}
+
+/// Takes a read down, of this mark: the work's stage after it. The error is want of memory, and gives back what was found;
+/// nothing has changed then.
+pub(crate) fn take_down(
+    alloc: Global,
+    begun: &Begun,
+    batch: &Batch,
+    course: &mut Course,
+    mark: &Mark,
+    found: Found,
+) -> Result<Stage, Found>
+    requires began { BeganOn batch.now begun.now }
+    requires stands { StandsRead mark.now found batch.now (base_of begun.now) course.old.marks.items course.old.changes course.old.replies.items }
+    ensures stands { IfOk result (λ stage. StandsAt stage batch.now (base_of begun.now) (course.old.marks.items ++ mark.now ∷ []) course.new.changes course.new.replies.items) }
+    ensures back { IfErr result (λ back. back ≡ found) }
+    ensures err { OnErr result ((course.new.changes ≡ course.old.changes) × (course.new.replies.items ≡ course.old.replies.items)) }
+    ensures marks { course.new.marks ≡ course.old.marks }
+{
+    match found {
+        Found::Op(index, Next::Goes(phase)) => Ok(Stage::At(index, phase)),
+        Found::Op(index, Next::Refused(reason)) => match refused(alloc, begun, index, &reason) {
+            Ok(stage) => Ok(stage),
+            Err(_) => Err(Found::Op(index, Next::Refused(reason))),
+        },
+        Found::Op(index, Next::Ends(reply, writes)) => {
+            match ended(alloc, begun, batch, course, mark, index, &reply, &writes) {
+                Ok(stage) => Ok(stage),
+                Err(_) => Err(Found::Op(index, Next::Ends(reply, writes))),
+            }
+        }
+        Found::Kept(Some(kept)) => match again(alloc, begun, batch, &kept) {
+            Ok(stage) => Ok(stage),
+            Err(_) => Err(Found::Kept(Some(kept))),
+        },
+        Found::Kept(None) => Ok(Stage::At(0, Phase::First)),
+        Found::Gone => match gone(alloc, begun) {
+            Ok(stage) => Ok(stage),
+            Err(_) => Err(Found::Gone),
+        },
+    }
+}

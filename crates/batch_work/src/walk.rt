@@ -1,0 +1,144 @@
+//! How far has the walk to an agent's authorised entries come?
+
+ghost use Rattle.std.specs.Prelude.{◌≡◌};
+ghost use Rattle.std.specs.List.{list_all};
+ghost use Rattle.entry_book.specs.Order.{Ascending};
+ghost use Rattle.entry_book.specs.Rows.{Entry as EntryRow};
+ghost use Rattle.batch_work.specs.Reads.{is_one_of};
+
+use crate::arrivals::{arrivals_of, put_arrivals};
+use crate::sorted::has_identity;
+use entry_book::{Agent, Entry, Shared};
+use spiffe_name::SpiffeId;
+use std::alloc::{AllocError, Global};
+use std::marker::Model;
+
+/// The walk to an agent's authorised entries: it begins with the held aliases and the agent's own children, and goes on to
+/// the children of each identity that it meets, each once, the least first.
+#[derive(Drop)]
+pub(crate) struct Walk {
+    agent: Agent,
+    /// The identities met, the agent's own ID among them, in order.
+    met: Vec<Shared<SpiffeId>>,
+    /// Those of them whose children are still to be read, in order.
+    waiting: Vec<Shared<SpiffeId>>,
+    /// The entries found, in the order of their ids.
+    found: Vec<Entry>,
+}
+
+impl Model for Walk {
+    ghost use Rattle.entry_book.specs.Order.{Ascending};
+    ghost use Rattle.entry_book.specs.Rows.{entry_key};
+    ghost use Rattle.batch_work.specs.WalkStates.{WalkState};
+
+    ghost Value = { WalkState };
+
+    ghost view = { λ walk. record {
+      agent = walk.agent;
+      met = walk.met.items;
+      waiting = walk.waiting.items;
+      found = walk.found.items;
+    } };
+
+    ghost invariant = { λ walk.
+        Ascending (λ id. id) walk.met.items
+        × Ascending (λ id. id) walk.waiting.items
+        × Ascending entry_key walk.found.items };
+}
+
+impl Walk {
+    ghost use Rattle.std.specs.Prelude.{◌≡◌, [], ◌∷◌, IfOk, IfNone, IfSome, OnOk, OnErr};
+    ghost use Rattle.batch_work.specs.WalkStates.{first_walk, is_over, walked};
+
+    /// The walk before its first entry. The error is want of memory.
+    pub(crate) fn new(alloc: Global, agent: Agent) -> Result<Walk, AllocError>
+        ensures { IfOk result (λ walk. walk ≡ first_walk agent) }
+    {
+        let mut met = Vec::new(alloc);
+        met.push(agent.id.clone()?)?;
+        Ok(Walk {
+            agent,
+            met,
+            waiting: Vec::new(alloc),
+            found: Vec::new(alloc),
+        })
+    }
+
+    /// Takes in the entries of a read, one after another. The error is want of memory, and nothing has changed then.
+    pub(crate) fn goes_on(&mut self, alloc: Global, entries: Vec<Entry>) -> Result<(), AllocError>
+        ensures ok { OnOk result (self.new ≡ walked entries.items self.old) }
+        ensures err { OnErr result (self.new ≡ self.old) }
+    {
+        let arrivals = arrivals_of(alloc, entries)?;
+        self.met.reserve(arrivals.len())?;
+        self.waiting.reserve(arrivals.len())?;
+        self.found.reserve(arrivals.len())?;
+        put_arrivals(&mut self.met, &mut self.waiting, &mut self.found, arrivals);
+        Ok(())
+    }
+
+    /// Does no identity wait any more once these entries are taken in?
+    pub(crate) fn ends_with(&self, entries: &[Entry]) -> bool
+        ensures { result ≡ is_over (walked entries.now self.now) }
+    {
+        match self.waiting.as_slice() {
+            [] => are_met(self.met.as_slice(), entries),
+            [_, ..] => false,
+        }
+    }
+
+    /// The least identity that waits, which doesn't wait any more. Takes no memory.
+    pub(crate) fn take_least(&mut self) -> Option<Shared<SpiffeId>>
+        ensures none { IfNone result ((self.old.waiting ≡ []) × (self.new ≡ self.old)) }
+        ensures some { IfSome result (λ least.
+            (self.old.waiting ≡ least ∷ self.new.waiting)
+            × (self.new ≡ record self.old { waiting = self.new.waiting })) }
+    {
+        if self.waiting.is_empty() {
+            return None;
+        }
+        Some(self.waiting.remove(0))
+    }
+
+    /// The agent whose entries are looked for.
+    pub(crate) fn agent(&self) -> &Agent
+        ensures { result.now ≡ self.now.agent }
+    {
+        &self.agent
+    }
+
+    /// The entries found, in the order of their ids. Takes no memory.
+    pub(crate) fn into_found(self) -> Vec<Entry>
+        ensures { result.items ≡ self.found }
+    {
+        let Walk { found, .. } = self;
+        found
+    }
+}
+
+/// A copy copies no text. The error is want of memory.
+impl Clone for Walk {
+    ghost is_clone = { λ original copy. copy ≡ original };
+
+    fn clone(&self) -> Result<Walk, AllocError> {
+        Ok(Walk {
+            agent: self.agent.clone()?,
+            met: self.met.clone()?,
+            waiting: self.waiting.clone()?,
+            found: self.found.clone()?,
+        })
+    }
+}
+
+/// Were the identities of all entries met?
+fn are_met(met: &[Shared<SpiffeId>], entries: &[Entry]) -> bool
+    requires order { Ascending (λ id. id) met.now }
+    ensures { result ≡ list_all (λ (entry : EntryRow). is_one_of entry.identity met.now) entries.now }
+{
+    for entry in entries {
+        if !has_identity(met, entry.identity()) {
+            return false;
+        }
+    }
+    true
+}

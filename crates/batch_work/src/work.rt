@@ -1,0 +1,250 @@
+//! How far is a batch, and what does its next read do?
+
+ghost use Rattle.std.specs.Prelude.{◌≡◌, ◌++◌, ◌∷◌, [], ◌+◌, ◌≤◌, IfOk, IfSome, Some, None, length, slice_get, vec_capacity, vec_len};
+ghost use Rattle.version_book.specs.declared.mark.MarkKind.{MarkKind};
+ghost use Rattle.batch_work.specs.Standing.{BeganOn, IsRunning, StandsAt, StandsRead, base_of};
+ghost use Rattle.batch_work.specs.Working.{footprint_there};
+
+use crate::begin::{begun_on, first_stage};
+use crate::look::look;
+use crate::stage::{Begun, Course, Found, Stage};
+use crate::status::Status;
+use crate::take::take_down;
+use crate::window::Window;
+use entry_book::{Batch, OpReply, Reply, Sequence, Shared};
+use std::alloc::{AllocError, Global};
+use std::marker::Model;
+use std::mem::replace;
+use version_book::{Changes, Mark, Version};
+
+/// Takes down a read that was made: the stage after it, and twice the mark, to keep and to answer. Where memory is refused
+/// there is no mark, and the read is still to be taken down.
+fn taken(
+    alloc: Global,
+    begun: &Begun,
+    batch: &Batch,
+    course: &mut Course,
+    mark: Mark,
+    found: Found,
+) -> (Stage, Option<(Mark, Mark)>)
+    requires began { BeganOn batch.now begun.now }
+    requires stands { StandsRead mark found batch.now (base_of begun.now) course.old.marks.items course.old.changes course.old.replies.items }
+    ensures stays { result.1 ≡ None → StandsAt result.0 batch.now (base_of begun.now) course.old.marks.items course.new.changes course.new.replies.items }
+    ensures stepped { IfSome result.1 (λ marks. StandsAt result.0 batch.now (base_of begun.now) (course.old.marks.items ++ marks.0 ∷ []) course.new.changes course.new.replies.items) }
+    ensures read { IfSome result.1 (λ marks. slice_get (footprint_there batch.now (base_of begun.now)) (length course.old.marks.items) ≡ Some marks.1) }
+    ensures marks { course.new.marks ≡ course.old.marks }
+{
+    let Ok(answer) = mark.clone() else {
+        return (Stage::Read(mark, found), None);
+    };
+    match take_down(alloc, begun, batch, course, &mark, found) {
+        Ok(stage) => (stage, Some((mark, answer))),
+        Err(found) => (Stage::Read(mark, found), None),
+    }
+}
+
+/// Makes the next read of a work that runs, and takes it down: the stage after it, and twice the mark, to keep and to answer.
+/// Where memory is refused there is no mark, and the same read is to be made, or to be taken down.
+fn stepped(
+    alloc: Global,
+    begun: &Begun,
+    batch: &Batch,
+    course: &mut Course,
+    stage: Stage,
+) -> (Stage, Option<(Mark, Mark)>)
+    requires began { BeganOn batch.now begun.now }
+    requires stands { StandsAt stage batch.now (base_of begun.now) course.old.marks.items course.old.changes course.old.replies.items }
+    requires running { IsRunning stage }
+    ensures stays { result.1 ≡ None → StandsAt result.0 batch.now (base_of begun.now) course.old.marks.items course.new.changes course.new.replies.items }
+    ensures stepped { IfSome result.1 (λ marks. StandsAt result.0 batch.now (base_of begun.now) (course.old.marks.items ++ marks.0 ∷ []) course.new.changes course.new.replies.items) }
+    ensures read { IfSome result.1 (λ marks. slice_get (footprint_there batch.now (base_of begun.now)) (length course.old.marks.items) ≡ Some marks.1) }
+    ensures marks { course.new.marks ≡ course.old.marks }
+{
+    match look(alloc, begun, batch, course, stage) {
+        Ok(Stage::Read(mark, found)) => taken(alloc, begun, batch, course, mark, found),
+        Ok(_) => unreachable!(),
+        Err(stage) => (stage, None),
+    }
+}
+
+/// One mark more, for which there is room.
+fn push_reserved(marks: &mut Vec<Mark>, mark: Mark)
+    requires room { vec_len marks.old + 1 ≤ vec_capacity marks.old }
+    ensures { marks.new.items ≡ marks.old.items ++ mark ∷ [] }
+{
+    let Ok(()) = marks.push(mark) else {
+        unreachable!()
+    };
+}
+
+/// Lets a stage go that has passed.
+fn let_go(stage: Stage) {
+    drop(stage);
+}
+
+/// A batch on its way: it begins on a window, makes one read with each step, through its own earlier changes, and then waits
+/// for its commit, or is settled. It touches nothing that is shared. A contract sees its batch, what it began on, and the
+/// number of reads made: all else follows from these.
+///
+/// A step reads the rows of one mark, and costs what the version's `read_after` costs; it copies no row and no text that it
+/// doesn't read. Where memory is refused the work is as it was, and the same step can be made again.
+#[derive(Drop)]
+pub struct Work {
+    alloc: Global,
+    batch: Batch,
+    begun: Option<Begun>,
+    course: Course,
+    stage: Stage,
+}
+
+impl Model for Work {
+    ghost use Rattle.std.specs.Prelude.{length, option_map};
+    ghost use Rattle.batch_work.specs.Standing.{Stands, base_of};
+    ghost use Rattle.batch_work.specs.Working.{Work};
+
+    ghost Value = { Work };
+
+    ghost view = { λ work. record {
+      batch = work.batch;
+      base = option_map base_of work.begun;
+      steps = length work.course.marks.items;
+    } };
+
+    ghost invariant = { λ work. Stands work.begun work.stage work.batch work.course.marks.items work.course.changes work.course.replies.items };
+}
+
+impl Work {
+    ghost use Rattle.std.specs.Prelude.{◌≡◌, ◌↔◌, ◌+◌, IfOk, IfSome, IsSome, OnOk, OnErr, Some, None, length, option_map};
+    ghost use Rattle.std.specs.Option.{option_copied};
+    ghost use Rattle.batch_work.specs.Working.{HasReplies, HasWrites, IsAnswer, IsNextRead, MayBegin, base_in, marks_so_far, status_of};
+
+    /// A batch that is to begin. Takes no memory.
+    pub fn new(alloc: Global, batch: Batch) -> Work
+        ensures { result ≡ record { batch = batch; base = None; steps = 0 } }
+    {
+        let course = Course {
+            marks: Vec::new(alloc),
+            changes: Changes::new(alloc),
+            replies: Vec::new(alloc),
+        };
+        Work {
+            alloc,
+            batch,
+            begun: None,
+            course,
+            stage: Stage::New,
+        }
+    }
+
+    /// Begins on a window, whose trust domain the batch was made for. A batch that may not run yet is settled at once. The error
+    /// is want of memory, and nothing has changed then.
+    pub fn begin(&mut self, window: &Window) -> Result<(), AllocError>
+        requires is_new { status_of self.old ≡ Status.New }
+        requires fits { MayBegin self.old.batch window.now }
+        ensures begun { OnOk result (self.new ≡ record self.old { base = Some (base_in self.old.batch window.now) }) }
+        ensures err { OnErr result (self.new ≡ self.old) }
+    {
+        let _ = self.batch.ops();
+        let begun = begun_on(self.alloc, &self.batch, window)?;
+        let stage = first_stage(self.alloc, &self.batch, &begun)?;
+        self.begun = Some(begun);
+        let_go(replace(&mut self.stage, stage));
+        Ok(())
+    }
+
+    /// Makes the next read, and answers its mark. After the last read of an operation its writes are seen by the later ones. The
+    /// error is want of memory, and nothing has changed then.
+    pub fn step(&mut self) -> Result<Mark, AllocError>
+        requires running { status_of self.old ≡ Status.Running }
+        ensures read { IfOk result (IsNextRead self.old) }
+        ensures stepped { OnOk result (self.new ≡ record self.old { steps = self.old.steps + 1 }) }
+        ensures err { OnErr result (self.new ≡ self.old) }
+    {
+        let Some(begun) = &self.begun else {
+            unreachable!()
+        };
+        self.course.marks.reserve(1)?;
+        let stage = replace(&mut self.stage, Stage::New);
+        let (stage, marks) = stepped(self.alloc, begun, &self.batch, &mut self.course, stage);
+        let_go(replace(&mut self.stage, stage));
+        let Some((mark, answer)) = marks else {
+            return Err(AllocError);
+        };
+        push_reserved(&mut self.course.marks, mark);
+        Ok(answer)
+    }
+
+    /// What the work waits for. Takes no memory.
+    pub fn status(&self) -> Status
+        ensures { result ≡ status_of self.now }
+    {
+        match &self.stage {
+            Stage::New => Status::New,
+            Stage::Token(_) | Stage::Gone | Stage::At(_, _) | Stage::Read(_, _) => Status::Running,
+            Stage::Ready(_) => Status::Ready,
+            Stage::Settled(_) => Status::Settled,
+        }
+    }
+
+    /// The batch.
+    pub fn batch(&self) -> &Batch
+        ensures { result.now ≡ self.now.batch }
+    {
+        &self.batch
+    }
+
+    /// The newest version of the window on which it began, if it has begun.
+    pub fn base(&self) -> Option<&Version>
+        ensures { option_copied result ≡ option_map (λ base. base.newest) self.now.base }
+    {
+        match &self.begun {
+            Some(begun) => Some(&begun.newest),
+            None => None,
+        }
+    }
+
+    /// The marks read so far, in the order of the reads.
+    pub fn marks(&self) -> &[Mark]
+        ensures marks { result.now ≡ marks_so_far self.now }
+        ensures steps { length result.now ≡ self.now.steps }
+    {
+        self.course.marks.as_slice()
+    }
+
+    /// The writes of the operations done so far; where the work is ready, those of the batch.
+    pub fn changes(&self) -> &Changes
+        ensures { status_of self.now ≡ Status.Ready → HasWrites self.now result.now }
+    {
+        &self.course.changes
+    }
+
+    /// The replies to the operations, where the work is ready.
+    pub fn replies(&self) -> Option<&Shared<Sequence<OpReply>>>
+        ensures ready { IsSome result ↔ (status_of self.now ≡ Status.Ready) }
+        ensures replies { IfSome result (λ replies. HasReplies self.now replies.now) }
+    {
+        match &self.stage {
+            Stage::Ready(all) => Some(all),
+            _ => None,
+        }
+    }
+
+    /// The reply to the batch, where the work is settled.
+    pub fn reply(&self) -> Option<&Shared<Reply>>
+        ensures settled { IsSome result ↔ (status_of self.now ≡ Status.Settled) }
+        ensures answer { IfSome result (λ reply. IsAnswer self.now reply.now) }
+    {
+        match &self.stage {
+            Stage::Settled(reply) => Some(reply),
+            _ => None,
+        }
+    }
+
+    /// The batch, to keep; the versions and all else are let go.
+    pub fn into_batch(self) -> Batch
+        ensures { result ≡ self.batch }
+    {
+        let Work { batch, .. } = self;
+        batch
+    }
+}

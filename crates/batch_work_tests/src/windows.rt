@@ -1,0 +1,73 @@
+//! Which versions does a window have?
+
+use crate::versions::{first, next};
+use batch_work::Window;
+use std::alloc::Global;
+use std::process::Abort;
+use std::test::Fail;
+
+/// Pushes the version after the newest one, with the same rows.
+fn go_on(alloc: Global, window: &mut Window) -> Result<(), Fail> {
+    let version = next(alloc, window.newest())?;
+    window.push(version);
+    Ok(())
+}
+
+/// The window of the versions 0, 1, .. up to this number.
+fn window_up_to(alloc: Global, last: u64) -> Result<Window, Fail> {
+    let mut window = Window::of(first(alloc)?);
+    for _ in 0..last {
+        go_on(alloc, &mut window)?;
+    }
+    Ok(window)
+}
+
+/// The number of the version that the window gives for this one.
+fn found(window: &Window, number: u64) -> Option<u64> {
+    window.book(number).map(|version| version.number())
+}
+
+#[test]
+fn a_window_has_the_last_64_versions(rt: HostRuntime) -> Result<(), Fail> {
+    let window = window_up_to(rt.alloc(), 70)?;
+    assert_eq!(rt; window.newest().number(), 70);
+    for number in 0..7 {
+        assert_eq!(rt; found(&window, number), None);
+    }
+    for number in 7..71 {
+        assert_eq!(rt; found(&window, number), Some(number));
+    }
+    assert_eq!(rt; found(&window, 71), None);
+    Ok(())
+}
+
+#[test]
+fn a_window_lets_nothing_go_until_it_has_64(rt: HostRuntime) -> Result<(), Fail> {
+    let mut window = window_up_to(rt.alloc(), 63)?;
+    assert_eq!(rt; found(&window, 0), Some(0));
+    go_on(rt.alloc(), &mut window)?;
+    assert_eq!(rt; found(&window, 0), None);
+    assert_eq!(rt; found(&window, 1), Some(1));
+    Ok(())
+}
+
+#[test]
+fn a_window_begins_with_one_version(rt: HostRuntime) -> Result<(), Fail> {
+    let window = window_up_to(rt.alloc(), 0)?;
+    assert_eq!(rt; window.newest().number(), 0);
+    assert_eq!(rt; found(&window, 0), Some(0));
+    assert_eq!(rt; found(&window, 1), None);
+    Ok(())
+}
+
+#[test]
+fn a_copy_stays_while_its_owner_goes_on(rt: HostRuntime) -> Result<(), Fail> {
+    let mut window = window_up_to(rt.alloc(), 64)?;
+    let copy = window.clone()?;
+    go_on(rt.alloc(), &mut window)?;
+    assert_eq!(rt; found(&copy, 1), Some(1));
+    assert_eq!(rt; found(&copy, 65), None);
+    assert_eq!(rt; found(&window, 1), None);
+    assert_eq!(rt; found(&window, 65), Some(65));
+    Ok(())
+}
