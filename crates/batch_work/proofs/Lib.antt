@@ -12,7 +12,6 @@ pub mod Standing
 pub mod Statuses
 pub mod Taking
 pub mod TextSets
-pub mod ToList
 pub mod TrustedBundles
 pub mod Walked
 pub mod WalkOrder

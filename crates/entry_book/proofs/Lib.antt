@@ -34,6 +34,7 @@ pub mod SameOps
 pub mod Servers
 pub mod Sets
 pub mod Shapes
+pub mod ToList
 pub mod TokenRows
 pub mod Unfaulted
 pub mod Verdicts

@@ -1,6 +1,6 @@
 use Rattle.std.proofs.Common.{◌≡◌, ◌&&◌, ap, ◌∙◌, refl, filter}
 use Rattle.entry_book.specs.Pages.{comes_after, passes, to_list}
-use Rattle.batch_work.proofs.ToList.{to_list_is}
+use Rattle.entry_book.proofs.ToList.{to_list_is}
 use Rattle.batch_work.proofs.advance.entries.page_next.Goals as goal
 
 pub returns : goal.returns

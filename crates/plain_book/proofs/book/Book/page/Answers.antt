@@ -1,6 +1,6 @@
 use Rattle.std.proofs.Common.{◌≡◌, ◌&&◌, ap, ◌∙◌, refl, filter}
 use Rattle.entry_book.specs.Pages.{comes_after, passes, to_list}
-use Rattle.plain_book.proofs.ToList.{to_list_is}
+use Rattle.entry_book.proofs.ToList.{to_list_is}
 use Rattle.plain_book.proofs.book.Book.page.Goals as goal
 
 pub returns : goal.returns
