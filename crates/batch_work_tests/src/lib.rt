@@ -1,11 +1,29 @@
-//! Does a window have the versions that a work may begin on?
+//! Which marks do works read, what do they come to, and does a window have the versions that they may begin on?
 //!
 //! The crate has tests alone, over the public calls of `batch_work`:
 //!
 //! - `windows`: which versions a window has. `versions` makes them.
+//! - `worked`: the marks of works on small books, and their ends, told by tables. `playing` plays a table, `making` reads its
+//!   words, `telling` tells marks and replies.
+//! - `random`: long histories of random batches, which `draws` draws, beside the plain book.
+//! - `running`: a work to its end, and the version after it.
 #![tactic(auto)]
 
+#[cfg(test)]
+mod draws;
+#[cfg(test)]
+mod making;
+#[cfg(test)]
+mod playing;
+#[cfg(test)]
+mod random;
+#[cfg(test)]
+mod running;
+#[cfg(test)]
+mod telling;
 #[cfg(test)]
 mod versions;
 #[cfg(test)]
 mod windows;
+#[cfg(test)]
+mod worked;

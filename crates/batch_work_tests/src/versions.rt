@@ -1,6 +1,7 @@
 //! Versions of one history, none of which has a row.
 
-ghost use Rattle.std.specs.Prelude.{◌≡◌, ◌+◌, IfOk};
+ghost use Rattle.std.specs.Prelude.{IfOk};
+ghost use Rattle.batch_work.specs.Windows.{IsNext};
 
 use spiffe_name::TrustDomain;
 use std::alloc::Global;
@@ -20,7 +21,7 @@ pub fn first(alloc: Global) -> Result<Version, Fail> {
 
 /// The version after this one, with the same rows.
 pub fn next(alloc: Global, version: &Version) -> Result<Version, Fail>
-    ensures { IfOk result (λ next. next.number ≡ version.now.number + 1) }
+    ensures { IfOk result (λ next. IsNext version.now next) }
 {
     let Some(number) = version.number().checked_add(1) else {
         return Err(Fail::from("no number is left"));

@@ -1,0 +1,149 @@
+//! Works, run to their end, and the versions after those that are ready.
+
+ghost use Rattle.std.specs.Prelude.{◌≡◌, ◌≤◌, ◌^◌, IfOk, List, None, false, true};
+ghost use Rattle.entry_book.specs.Book.{token_at};
+ghost use Rattle.entry_book.specs.History.{kept_under};
+ghost use Rattle.entry_book.specs.declared.reply.OpReply.{OpReply};
+ghost use Rattle.version_book.specs.CommittedRows.{book_of};
+ghost use Rattle.batch_work.specs.declared.status.Status.TheVariants as status;
+ghost use Rattle.batch_work.specs.Windows.{IsNext};
+ghost use Rattle.batch_work.specs.Working.{IsAccepted, MayBegin, status_of};
+
+use crate::telling::{add_mark, marks_text, replies_text, reply_text};
+use batch_work::{Status, Window, Work};
+use entry_book::Batch;
+use std::alloc::{AllocError, Global};
+use std::test::Fail;
+use uuid::Uuid;
+use version_book::{Changes, Mark, Version, laws};
+
+/// No history of these tests gets there.
+const MOST: u64 = 1_000_000;
+
+/// No work of these tests makes so many steps.
+const STEPS: u64 = 10_000;
+
+fn may_begin(window: &Window, batch: &Batch) -> bool
+    ensures { result ≡ true → MayBegin batch.now window.now }
+{
+    batch.domain() == window.newest().domain() && window.newest().number() <= MOST
+}
+
+/// A work of the batch, that has begun on the window.
+pub fn begun(alloc: Global, window: &Window, batch: Batch) -> Result<Work, Fail> {
+    if !may_begin(window, &batch) {
+        return Err(Fail::from("no window for this batch"));
+    }
+    let mut work = Work::new(alloc, batch);
+    work.begin(window)?;
+    Ok(work)
+}
+
+/// One step more, and its mark behind the others; where the work doesn't run, none.
+fn step(alloc: Global, work: &mut Work, text: &mut String) -> Result<bool, Fail> {
+    if work.status() != Status::Running {
+        return Ok(false);
+    }
+    let mark = work.step()?;
+    add_mark(alloc, text, &mark)?;
+    Ok(true)
+}
+
+/// Makes all steps, and answers the marks that they read, told as text.
+pub fn run_to_end(alloc: Global, work: &mut Work) -> Result<String, Fail> {
+    let mut text = String::new(alloc);
+    for _ in 0..STEPS {
+        if !step(alloc, work, &mut text)? {
+            break;
+        }
+    }
+    if text != marks_text(alloc, work.marks())? {
+        return Err(Fail::from("other marks than those of the steps"));
+    }
+    Ok(text)
+}
+
+/// What a work has come to, told as text: it is ready, with these replies, or settled with this reply.
+pub fn end_text(alloc: Global, work: &Work) -> Result<String, Fail> {
+    if let Some(reply) = work.reply() {
+        return reply_text(alloc, reply.get());
+    }
+    match work.replies() {
+        Some(replies) => replies_text(alloc, "ready", replies.get().as_slice()),
+        None => Err(Fail::from("neither ready nor settled")),
+    }
+}
+
+fn has_token(version: &Version, token: Uuid) -> Result<bool, AllocError>
+    ensures { IfOk result (λ has. has ≡ false → token_at token (book_of version.now.rows) ≡ None) }
+{
+    let reading = version.read(&Mark::token(token))?;
+    Ok(!reading.tokens().is_empty())
+}
+
+/// Is something kept under the token, where there is one?
+fn is_kept(version: &Version, token: Option<Uuid>) -> Result<bool, AllocError>
+    ensures { IfOk result (λ is_kept. is_kept ≡ false → kept_under token (book_of version.now.rows) ≡ None) }
+{
+    match token {
+        Some(token) => has_token(version, token),
+        None => Ok(false),
+    }
+}
+
+fn applied(version: &Version, batch: &Batch, changes: &Changes) -> Result<Version, Fail>
+    requires accepted { (replies : List OpReply) × IsAccepted batch.now (book_of version.now.rows) replies changes.now }
+    requires domain { batch.now.domain ≡ version.now.domain }
+    requires kept { kept_under batch.now.token (book_of version.now.rows) ≡ None }
+{
+    laws::places();
+    laws::applying();
+    let _ = batch.ops();
+    let number = version.number();
+    let count = version.count();
+    if count.entries > 16_384
+        || count.agents > 4_096
+        || count.bundles > 1_024
+        || count.tokens > 65_536
+        || number > MOST
+    {
+        return Err(Fail::from("a large version"));
+    }
+    Ok(version.apply(changes, number + 1)?)
+}
+
+/// The version after the batch of a work that is ready.
+fn next_of(work: &Work) -> Result<Version, Fail>
+    requires ready { status_of work.now ≡ status.Ready }
+{
+    let Some(version) = work.base() else {
+        return Err(Fail::from("not begun"));
+    };
+    if work.batch().domain() != version.domain() {
+        return Err(Fail::from("another trust domain"));
+    }
+    if is_kept(version, work.batch().token())? {
+        return Err(Fail::from("the token is kept already"));
+    }
+    applied(version, work.batch(), work.changes())
+}
+
+fn is_next(window: &Window, version: &Version) -> bool
+    ensures { result ≡ true → IsNext window.now.newest version.now }
+{
+    let number = window.newest().number();
+    number <= MOST && version.number() == number + 1 && version.domain() == window.newest().domain()
+}
+
+/// Pushes the version after the batch of a work that is ready.
+pub fn commit(window: &mut Window, work: &Work) -> Result<(), Fail> {
+    if work.status() != Status::Ready {
+        return Err(Fail::from("not ready"));
+    }
+    let version = next_of(work)?;
+    if !is_next(window, &version) {
+        return Err(Fail::from("begun on an older version"));
+    }
+    window.push(version);
+    Ok(())
+}

@@ -1,0 +1,217 @@
+//! Marks and replies, told as text. An ID is told by its path, that of an agent by its name alone; an entry by its number and,
+//! after a dot, its revision, and behind them its domains.
+
+use entry_book::{Agent, Bundle, Entry, OpReply, Outcome, Reply};
+use spiffe_name::SpiffeId;
+use std::alloc::Global;
+use std::test::Fail;
+use uuid::Uuid;
+use version_book::{Mark, MarkKind};
+
+/// The number that the last two bytes of an id are.
+fn number_of(id: &Uuid) -> u16 {
+    let bytes = id.as_bytes();
+    u16::from_be_bytes([bytes[14], bytes[15]])
+}
+
+fn path<'a>(id: &'a SpiffeId) -> &'a str {
+    let text = id.as_str();
+    if let Some(name) = text.strip_prefix("spiffe://ex.org/spire/agent/") {
+        return name;
+    }
+    text.strip_prefix("spiffe://ex.org").unwrap_or(text)
+}
+
+fn of_number(alloc: Global, kind: &str, id: &Uuid) -> Result<String, Fail> {
+    let number = number_of(id);
+    Ok(format!(in alloc; "{kind} {number}")?)
+}
+
+fn of_text(alloc: Global, kind: &str, text: &str) -> Result<String, Fail> {
+    Ok(format!(in alloc; "{kind} {text}")?)
+}
+
+fn group_text(alloc: Global, parent: &str, identity: &str) -> Result<String, Fail> {
+    Ok(format!(in alloc; "group {parent} {identity}")?)
+}
+
+fn expiring_text(alloc: Global, moment: u64) -> Result<String, Fail> {
+    Ok(format!(in alloc; "expiring {moment}")?)
+}
+
+pub fn mark_text(alloc: Global, mark: &Mark) -> Result<String, Fail> {
+    match mark.kind() {
+        MarkKind::Entry(id) => of_number(alloc, "entry", id),
+        MarkKind::Token(token) => of_number(alloc, "token", token),
+        MarkKind::Group(parent, identity) => {
+            group_text(alloc, path(parent.get()), path(identity.get()))
+        }
+        MarkKind::Children(parent) => of_text(alloc, "children", path(parent.get())),
+        MarkKind::Agent(id) => of_text(alloc, "agent", path(id.get())),
+        MarkKind::Users(domain) => of_text(alloc, "users", domain.get().as_str()),
+        MarkKind::Bundle(domain) => of_text(alloc, "bundle", domain.get().as_str()),
+        MarkKind::Expiring(moment) => expiring_text(alloc, *moment),
+        MarkKind::All => Ok(String::from_str(alloc, "all")?),
+    }
+}
+
+/// Marks, with ` | ` between them.
+pub fn marks_text(alloc: Global, marks: &[Mark]) -> Result<String, Fail> {
+    let mut text = String::new(alloc);
+    for mark in marks {
+        add_mark(alloc, &mut text, mark)?;
+    }
+    Ok(text)
+}
+
+/// Adds a mark behind the others.
+pub fn add_mark(alloc: Global, text: &mut String, mark: &Mark) -> Result<(), Fail> {
+    if !text.is_empty() {
+        text.push_str(" | ")?;
+    }
+    text.push_str(mark_text(alloc, mark)?.as_str())?;
+    Ok(())
+}
+
+fn add_entry(alloc: Global, text: &mut String, entry: &Entry) -> Result<(), Fail> {
+    let number = number_of(entry.id());
+    let revision = entry.revision();
+    text.push_str(format!(in alloc; " {number}.{revision}")?.as_str())?;
+    for domain in entry.domains().as_slice() {
+        text.push_str(" ")?;
+        text.push_str(domain.get().as_str())?;
+    }
+    Ok(())
+}
+
+fn entries_text(alloc: Global, kind: &str, entries: &[Entry]) -> Result<String, Fail> {
+    let mut text = String::from_str(alloc, kind)?;
+    for entry in entries {
+        add_entry(alloc, &mut text, entry)?;
+    }
+    Ok(text)
+}
+
+fn entry_text(alloc: Global, kind: &str, entry: &Entry) -> Result<String, Fail> {
+    let mut text = String::from_str(alloc, kind)?;
+    add_entry(alloc, &mut text, entry)?;
+    Ok(text)
+}
+
+fn page_text(alloc: Global, entries: &[Entry], next: &Option<Uuid>) -> Result<String, Fail> {
+    let mut text = entries_text(alloc, "page", entries)?;
+    if let Some(id) = next {
+        text.push_str(of_number(alloc, " next", id)?.as_str())?;
+    }
+    Ok(text)
+}
+
+/// An agent, as its name and the count of its selectors.
+fn agent_text(alloc: Global, agent: &Agent) -> Result<String, Fail> {
+    let name = path(agent.id.get());
+    let count = agent.selectors.get().len();
+    Ok(format!(in alloc; "agent {name} {count}")?)
+}
+
+/// A bundle, as its domain and its sequence.
+fn bundle_text(alloc: Global, bundle: &Bundle) -> Result<String, Fail> {
+    let domain = bundle.domain.get().as_str();
+    let sequence = bundle.sequence;
+    Ok(format!(in alloc; "bundle {domain} {sequence}")?)
+}
+
+fn bundles_text(alloc: Global, bundles: &[Bundle]) -> Result<String, Fail> {
+    let mut text = String::from_str(alloc, "bundles")?;
+    for bundle in bundles {
+        text.push_str(" ")?;
+        text.push_str(bundle_text(alloc, bundle)?.as_str())?;
+    }
+    Ok(text)
+}
+
+fn ids_text(alloc: Global, kind: &str, ids: &[Uuid]) -> Result<String, Fail> {
+    let mut text = String::from_str(alloc, kind)?;
+    for id in ids {
+        text.push_str(of_number(alloc, "", id)?.as_str())?;
+    }
+    Ok(text)
+}
+
+fn dropped_text(alloc: Global, deleted: &[Uuid], dissociated: &[Uuid]) -> Result<String, Fail> {
+    let mut text = ids_text(alloc, "dropped", deleted)?;
+    text.push_str(ids_text(alloc, " /", dissociated)?.as_str())?;
+    Ok(text)
+}
+
+fn nothing(alloc: Global) -> Result<String, Fail> {
+    Ok(String::from_str(alloc, "none")?)
+}
+
+fn op_reply_text(alloc: Global, reply: &OpReply) -> Result<String, Fail> {
+    match reply {
+        OpReply::Entry(entry) => entry_text(alloc, "entry", entry),
+        OpReply::EntryShown(Some(entry)) => entry_text(alloc, "shown", entry),
+        OpReply::Entries(entries) => entries_text(alloc, "entries", entries.as_slice()),
+        OpReply::Page(entries, next) => page_text(alloc, entries.as_slice(), next),
+        OpReply::Agent(agent) | OpReply::AgentShown(Some(agent)) => agent_text(alloc, agent),
+        OpReply::Bundle(bundle) | OpReply::BundleShown(Some(bundle)) => bundle_text(alloc, bundle),
+        OpReply::Bundles(bundles) => bundles_text(alloc, bundles.as_slice()),
+        OpReply::Pruned(ids) => ids_text(alloc, "pruned", ids.as_slice()),
+        OpReply::Dropped(deleted, dissociated) => {
+            dropped_text(alloc, deleted.as_slice(), dissociated.as_slice())
+        }
+        OpReply::EntryShown(None) | OpReply::AgentShown(None) | OpReply::BundleShown(None) => {
+            nothing(alloc)
+        }
+    }
+}
+
+/// What became of a batch, and the replies to its operations, each behind a semicolon.
+pub fn replies_text(alloc: Global, kind: &str, replies: &[OpReply]) -> Result<String, Fail> {
+    let mut text = String::from_str(alloc, kind)?;
+    for reply in replies {
+        text.push_str("; ")?;
+        text.push_str(op_reply_text(alloc, reply)?.as_str())?;
+    }
+    Ok(text)
+}
+
+fn placed(alloc: Global, kind: &str, place: u64) -> Result<String, Fail> {
+    Ok(format!(in alloc; "{kind} at {place}")?)
+}
+
+/// What became of a batch, at which place, and the replies to its operations.
+pub fn accepted_text(
+    alloc: Global,
+    kind: &str,
+    place: u64,
+    replies: &[OpReply],
+) -> Result<String, Fail> {
+    let head = placed(alloc, kind, place)?;
+    replies_text(alloc, head.as_str(), replies)
+}
+
+fn refused_text(alloc: Global, place: u64, code: &str, op: Option<usize>) -> Result<String, Fail> {
+    match op {
+        Some(index) => Ok(format!(in alloc; "refused {code} at {place}; operation {index}")?),
+        None => Ok(format!(in alloc; "refused {code} at {place}")?),
+    }
+}
+
+/// A reply: what became of the batch, its place, and the replies to the operations, or the code of the refusal and the index
+/// of the operation refused.
+pub fn reply_text(alloc: Global, reply: &Reply) -> Result<String, Fail> {
+    let place = reply.place;
+    match &reply.outcome {
+        Outcome::Committed(replies) => {
+            accepted_text(alloc, "committed", place, replies.get().as_slice())
+        }
+        Outcome::Answered(replies) => {
+            accepted_text(alloc, "answered", place, replies.get().as_slice())
+        }
+        Outcome::Repeated(replies) => {
+            accepted_text(alloc, "repeated", place, replies.get().as_slice())
+        }
+        Outcome::Refused(refusal) => refused_text(alloc, place, refusal.code(), refusal.op()),
+    }
+}
