@@ -145,18 +145,18 @@ over_waits : (o : Option KeptBatch) (batch : Batch) (b : Book) → awaits_over o
 over_waits (Some k) batch b h = cc
 over_waits None batch b h = let r = ok_waits (is_query batch.ops) (run batch.domain batch.ops b) h in (refl, r.0, r.1, r.2)
 
-early_waits : (early : Bool) (batch : Batch) (o : Option Book) → cond early false (awaits_on batch o) ≡ true → (early ≡ false) × (awaits_on batch o ≡ true)
+pub early_waits : (early : Bool) (batch : Batch) (o : Option Book) → cond early false (awaits_on batch o) ≡ true → (early ≡ false) × (awaits_on batch o ≡ true)
 early_waits true batch o h = cc
 early_waits false batch o h = (refl, h)
 
-some_book : (batch : Batch) (o : Option Book) → awaits_on batch o ≡ true → (b : Book) × (o ≡ Some b) × (WaitsOver (kept_under batch.token b) batch b)
+pub some_book : (batch : Batch) (o : Option Book) → awaits_on batch o ≡ true → (b : Book) × (o ≡ Some b) × (WaitsOver (kept_under batch.token b) batch b)
 some_book batch None h = cc
 some_book batch (Some b) h = (b, refl, over_waits (kept_under batch.token b) batch b h)
 
 last_read : (b c : Book) → Some b ≡ Some c → b ≡ c
 last_read b c e = cc
 
-late : (m n : ℕ) → nat_lt m n ≡ false → n ≤ m
+pub late : (m n : ℕ) → nat_lt m n ≡ false → n ≤ m
 late m n h = ltb-false m n h
 
 pub awaits_said : AwaitsAsSaid

@@ -8,6 +8,7 @@ pub mod Looking
 pub mod Names
 pub mod Places
 pub mod Plays
+pub mod Ready
 pub mod Standing
 pub mod Statuses
 pub mod Taking

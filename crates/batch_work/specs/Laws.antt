@@ -1,5 +1,5 @@
 -- The laws of what batches read. Each is a clause of a function of the module `laws`.
-use Rattle.std.specs.Prelude.{◌≡◌, ◌↔◌, ◌+◌, ◌*◌, ◌≤◌, true, false, List, [], ◌∷◌, ◌++◌, Some, None, Ok}
+use Rattle.std.specs.Prelude.{◌≡◌, ◌↔◌, ◌+◌, ◌*◌, ◌≤◌, true, false, List, [], ◌∷◌, ◌++◌, Some, None, Ok, ℕ, take}
 use Rattle.std.specs.List.{AllByRecursion, list_any}
 use Rattle.entry_book.specs.declared.limit.Limit.{Limit}
 use Rattle.entry_book.specs.declared.op.Op.{Op}
@@ -20,7 +20,8 @@ use Rattle.version_book.specs.CommittedRows.{State, book_of, next_state}
 use Rattle.version_book.specs.History.{Commits, Follows, IsLast, any_hits, state_with}
 use Rattle.batch_work.specs.Reads.{marks_of_ops, footprint_on, awaits_on, footprint_of, awaits_commit}
 use Rattle.batch_work.specs.Windows.{Window, IsNext, StandsFor, book_in, pushed}
-use Rattle.batch_work.specs.Working.{base_in, footprint_there, awaits_there, reply_there}
+use Rattle.batch_work.specs.declared.status.Status.TheVariants.{Ready, Running}
+use Rattle.batch_work.specs.Working.{Base, Work, base_in, footprint_there, awaits_there, marks_so_far, reply_there, status_of, status_on}
 
 -- ---- what is read decides
 
@@ -94,3 +95,21 @@ WindowGoesOn = (w : Window) (s : State) (books : List Book) → StandsFor w book
 -- its newest version stands for the last book
 abbrev pub WindowLast : Type 0
 WindowLast = (w : Window) (books : List Book) → StandsFor w books → IsLast w.newest books
+
+-- ---- works
+
+-- A work that is ready began on this; it has read its whole footprint, which is that on the newest version; and there its batch may run, and awaits its commit.
+pub record HasRead (w : Work) : Type 0 where
+  pub base : Base
+  pub base_is : w.base ≡ Some base
+  pub all_read : marks_so_far w ≡ footprint_there w.batch base
+  pub newest_read : footprint_there w.batch base ≡ footprint_on w.batch (Some (book_in base.newest))
+  pub in_time : w.batch.after ≤ base.newest.number
+  pub awaits : awaits_on w.batch (Some (book_in base.newest)) ≡ true
+
+abbrev pub ReadyHasRead : Type 0
+ReadyHasRead = (own : Bytes) (w : Work) → IsMadeFor own w.batch → status_of w ≡ Ready → HasRead w
+
+-- where nothing is left to read, the marks of a work are its whole footprint
+abbrev pub EndHasRead : Type 0
+EndHasRead = (batch : Batch) (base : Base) (n : ℕ) → (status_on batch base n ≡ Running → ⊥) → take n (footprint_there batch base) ≡ footprint_there batch base

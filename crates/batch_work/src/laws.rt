@@ -4,7 +4,7 @@
 //! `specs/Bounds.antt` or `specs/Walked.antt`; a caller that calls it may rest on the law.
 
 ghost use Rattle.batch_work.specs.Bounds.{BatchReadsBounded, KeptReadOnly, OpReadsBounded, ReadsAreFew, ReadsAreFewAnywhere, ReadsInOrder, TokenReadFirst};
-ghost use Rattle.batch_work.specs.Laws.{BatchReadsDecide, CommitCheck, OthersDontCommit, ReadsDecide, UnhitStays, AwaitsAsSaid, WindowBegins, WindowGoesOn, WindowLast, WindowStands};
+ghost use Rattle.batch_work.specs.Laws.{BatchReadsDecide, CommitCheck, EndHasRead, OthersDontCommit, ReadsDecide, ReadyHasRead, UnhitStays, AwaitsAsSaid, WindowBegins, WindowGoesOn, WindowLast, WindowStands};
 ghost use Rattle.batch_work.specs.Walked.{AuthorisedReads, MissingReads, OneWalk, TrustReads, TrustedAsSaid, WalkAsSaid};
 
 /// What a batch reads decides what it comes to.
@@ -51,4 +51,10 @@ pub fn walks()
     ensures authorised { AuthorisedReads }
     ensures trust { TrustReads }
     ensures missing { MissingReads }
+{}
+
+/// What a work that is at its end has read.
+pub fn works()
+    ensures end { EndHasRead }
+    ensures ready { ReadyHasRead }
 {}

@@ -1,0 +1,50 @@
+-- What a work that is at its end has read.
+use Rattle.std.proofs.Common.{◌≡◌, ℕ, Bool, true, false, cond, [], length, Option, Some, None, refl, sym, ap, ◌∙◌}
+use Rattle.std.specs.Prelude.{nat_lt, option_map}
+use Rattle.std.proofs.lemmas.Bool.{ltb-false}
+use Rattle.std.proofs.lemmas.List.{take_all}
+use Rattle.entry_book.specs.Batches.{Batch, past_place}
+use Rattle.entry_book.proofs.PastPages.{changes_newest}
+use Rattle.batch_work.specs.declared.status.Status.TheVariants.{Ready, Running}
+use Rattle.batch_work.specs.Reads.{awaits_on, footprint_on}
+use Rattle.batch_work.specs.Windows.{book_in}
+use Rattle.batch_work.specs.Working.{Base, version_read, book_read, end_status, footprint_there, awaits_there, marks_from, status_from, status_on}
+use Rattle.batch_work.specs.Laws.{EndHasRead, ReadyHasRead}
+use Rattle.batch_work.proofs.Batches.{early_waits, late, some_book}
+
+at_end : (t w : Bool) → (cond t Running (end_status w) ≡ Running → ⊥) → t ≡ false
+at_end true w n = absurd (n refl)
+at_end false w n = refl
+
+pub end_has_read : EndHasRead
+end_has_read batch base n h = take_all n (footprint_there batch base) (ltb-false n (length (footprint_there batch base)) (at_end (nat_lt n (length (footprint_there batch base))) (awaits_there batch base) h))
+
+of_ready : (t w : Bool) → cond t Running (end_status w) ≡ Ready → (t ≡ false) × (w ≡ true)
+of_ready true w e = cc
+of_ready false true e = (refl, refl)
+of_ready false false e = cc
+
+begun : (o : Option Base) (batch : Batch) (n : ℕ) → status_from o batch n ≡ Ready → (base : Base) × (o ≡ Some base) × (status_on batch base n ≡ Ready)
+begun None batch n e = cc
+begun (Some base) batch n e = (base, refl, e)
+
+not_running : (batch : Batch) (base : Base) (n : ℕ) → status_on batch base n ≡ Ready → status_on batch base n ≡ Running → ⊥
+not_running batch base n e f = cc
+
+pub ready_has_read : ReadyHasRead
+ready_has_read own w made e =
+    let b = begun w.base w.batch w.steps e in
+    let base : Base = b.0 in
+    let r = of_ready (nat_lt w.steps (length (footprint_there w.batch base))) (awaits_there w.batch base) b.2 in
+    let time = early_waits (nat_lt base.newest.number w.batch.after) w.batch (book_read w.batch base) r.1 in
+    let s = some_book w.batch (book_read w.batch base) time.1 in
+    let newest : past_place w.batch.ops ≡ None = changes_newest own w.batch made s.2.1 in
+    let read : book_read w.batch base ≡ Some (book_in base.newest) = ap (λ o. option_map book_in (version_read o base)) newest in
+    record {
+      base = base;
+      base_is = b.1;
+      all_read = ap (λ o. marks_from o w.batch w.steps) b.1 ∙ end_has_read w.batch base w.steps (not_running w.batch base w.steps b.2);
+      newest_read = ap (λ t. cond t [] (footprint_on w.batch (book_read w.batch base))) time.0 ∙ ap (footprint_on w.batch) read;
+      in_time = late base.newest.number w.batch.after time.0;
+      awaits = ap (awaits_on w.batch) (sym read) ∙ time.1;
+    }

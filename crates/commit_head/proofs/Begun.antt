@@ -1,0 +1,58 @@
+-- How the version on which a work began stays an earlier one of a head's history.
+use Rattle.std.proofs.Common.{◌≡◌, ℕ, zero, suc, ◌-◌, ◌⊎◌, List, [], ◌∷◌, ◌++◌, length, drop, take, Some, None, refl, sym, ap, subst, ◌∙◌, inl, inr, ⊎_elim}
+use Rattle.std.proofs.lemmas.List.{append_assoc, append-nil, take-append-drop}
+use Rattle.version_book.specs.History.{state_with}
+use Rattle.entry_book.specs.History.{books_of}
+use Rattle.batch_work.specs.Windows.{StandsFor}
+use Rattle.commit_head.specs.declared.item.Item.{Item}
+use Rattle.commit_head.specs.Heads.{newest_of}
+use Rattle.commit_head.specs.Journals.{Agrees, IsEnding, Leads, batches_of, first_state}
+use Rattle.commit_head.specs.Laws.{BeganGoesOn, BeganHere, BeganStays, JournalStays}
+use Rattle.commit_head.proofs.Journals.{leads_more}
+
+pub began_here : BeganHere
+began_here base h e = ([], e, inr (h.kept, sym (append-nil h.kept)))
+
+ending_more : (whole end : List Item) (item : Item) → IsEnding whole end → IsEnding (whole ++ item ∷ []) (end ++ item ∷ [])
+ending_more whole end item e = (e.0, ap (λ l. l ++ item ∷ []) e.1 ∙ append_assoc e.0 end (item ∷ []))
+
+agrees_more : (items kept : List Item) (item : Item) → Agrees items kept → Agrees (items ++ item ∷ []) (kept ++ item ∷ [])
+agrees_more items kept item a = ⊎_elim (λ e. inl (ending_more items kept item e)) (λ e. inr (ending_more kept items item e)) a
+
+pub began_goes_on : BeganGoesOn
+began_goes_on None item old new b j a = b
+began_goes_on (Some base) item old new b j a =
+    let newest : newest_of new ≡ state_with item.batch (newest_of old) = ap (λ w. w.newest) a.window in (
+      b.0 ++ item ∷ [],
+      subst (Leads base.newest (b.0 ++ item ∷ [])) (sym newest) (leads_more b.0 item base.newest (newest_of old) b.1 j),
+      subst (Agrees (b.0 ++ item ∷ [])) (sym a.kept) (agrees_more b.0 old.kept item b.2),
+    )
+
+-- what is left of two parts, of which the first ones are dropped
+dropped : (n : ℕ) (front items : List Item) → IsEnding (drop n (front ++ items)) items ⊎ IsEnding items (drop n (front ++ items))
+dropped zero front items = inl (front, refl)
+dropped (suc n) [] items = inr (take (suc n) items, sym (take-append-drop (suc n) items))
+dropped (suc n) (x ∷ front) items = dropped n front items
+
+agrees_dropped : (n : ℕ) (items kept : List Item) → Agrees items kept → Agrees items (drop n kept)
+agrees_dropped n items kept a = ⊎_elim
+    (λ e. inl (e.0 ++ take n kept, e.1 ∙ (ap (λ l. e.0 ++ l) (sym (take-append-drop n kept)) ∙ sym (append_assoc e.0 (take n kept) (drop n kept)))))
+    (λ e. subst (λ l. Agrees items (drop n l)) (sym e.1) (⊎_elim (λ f. inr f) (λ f. inl f) (dropped n e.0 items)))
+    a
+
+pub began_stays : BeganStays
+began_stays None old new b w k = b
+began_stays (Some base) old new b w k = (
+  b.0,
+  subst (λ w. Leads base.newest b.0 w.newest) (sym w) b.1,
+  subst (Agrees b.0) (sym k) (agrees_dropped (length old.kept - 64) b.0 old.kept b.2),
+)
+
+pub journal_stays : JournalStays
+journal_stays items old new j w k =
+    let n = length old.kept - 64 in
+    record {
+      leads = subst (λ w. Leads (first_state w.newest.domain) items w.newest) (sym w) j.leads;
+      ending = (j.ending.0 ++ take n old.kept, j.ending.1 ∙ (ap (λ l. j.ending.0 ++ l) (sym (take-append-drop n old.kept) ∙ ap (λ l. take n old.kept ++ l) (sym k)) ∙ sym (append_assoc j.ending.0 (take n old.kept) new.kept)));
+      shown = subst (λ w. StandsFor w (books_of (batches_of items))) (sym w) j.shown;
+    }

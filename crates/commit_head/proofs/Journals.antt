@@ -1,0 +1,148 @@
+-- Journals: what their items lead to, beside the plain book.
+use Rattle.std.proofs.Common.{◌≡◌, ℕ, ◌+◌, ◌-◌, ◌≤◌, ◌^◌, List, [], ◌∷◌, ◌++◌, length, length-append, take, refl, sym, ap, subst, ◌∙◌, arith}
+use Rattle.std.proofs.lemmas.List.{append_assoc, map-append, take-append-drop}
+use Rattle.entry_book.specs.declared.reply.Reply.{Reply}
+use Rattle.entry_book.specs.Rows.{Bytes}
+use Rattle.entry_book.specs.Book.{Book}
+use Rattle.entry_book.specs.History.{adds, reply_with, books_with, books_after, books_of, first_books}
+use Rattle.entry_book.specs.Laws.{IsWithinLimits}
+use Rattle.entry_book.proofs.Histories.{history_bounded}
+use Rattle.version_book.specs.CommittedRows.{State, book_of}
+use Rattle.version_book.specs.History.{Commits, Follows, IsLast, state_with, replies_on}
+use Rattle.version_book.proofs.Batches.{books_join, replies_follow}
+use Rattle.version_book.proofs.Histories.{books_follow, domain_stays, limits_follow, newest_read, verdict_last}
+use Rattle.batch_work.specs.Windows.{Window, StandsFor, book_in, pushed}
+use Rattle.batch_work.proofs.Windows.{window_begins, window_goes_on, window_last}
+use Rattle.commit_head.specs.declared.item.Item.{Item}
+use Rattle.commit_head.specs.Heads.{Goes, HasJournal, Head, IsJournal, Prepared, last_items, newest_of}
+use Rattle.commit_head.specs.Journals.{Joins, Leads, batches_of, committed_after, first_state}
+use Rattle.commit_head.specs.Laws.{ItemsFollow, JournalGoesOn, JournalIsLawful, JournalLast, WholeJournal}
+
+pub commits : (item : Item) (s : State) → Joins item s → Commits item.batch s
+commits item s j = record { made = j.made; replies = item.replies; added = j.added }
+
+pub leads_follow : (items : List Item) (s t : State) → Leads s items t → Follows s (batches_of items) t
+leads_follow [] s t l = l
+leads_follow (item ∷ items) s t l = (commits item s l.0, leads_follow items (state_with item.batch s) t l.1)
+
+pub leads_count : (items : List Item) (s t : State) → Leads s items t → length items + s.number ≡ t.number
+leads_count [] s t l = let k : s.number ≡ t.number = ap (λ s. s.number) l in omega arith
+leads_count (item ∷ items) s t l = let k = leads_count items (state_with item.batch s) t l.1 in omega arith
+
+pub items_follow : ItemsFollow
+items_follow items older newer l = record { follows = leads_follow items older newer l; count = leads_count items older newer l }
+
+pub leads_more : (items : List Item) (item : Item) (s t : State) → Leads s items t → Joins item t → Leads s (items ++ item ∷ []) (state_with item.batch t)
+leads_more [] item s t l j = (subst (Joins item) (sym l) j, ap (state_with item.batch) l)
+leads_more (i ∷ is) item s t l j = (l.0, leads_more is item (state_with i.batch s) t l.1 j)
+
+-- ---- the list of all books
+
+first_last : (own : Bytes) → IsLast (first_state own) first_books
+first_last own = record { book = refl; place = refl }
+
+-- the plain book adds the book of the version after an item
+books_more : (item : Item) (s : State) (books : List Book) → IsLast s books → Joins item s → books_after item.batch books ≡ books ++ book_in (state_with item.batch s) ∷ []
+books_more item s books k j = ap (books_with books) (verdict_last item.batch s books k.book k.place (newest_read item.batch s (commits item s j)) ∙ j.added)
+
+batches_more : (items : List Item) (item : Item) → batches_of (items ++ item ∷ []) ≡ batches_of items ++ item.batch ∷ []
+batches_more items item = map-append (λ i. i.batch) items (item ∷ [])
+
+last_shown : (items : List Item) (h : Head) → IsJournal items h → IsLast (newest_of h) (books_of (batches_of items))
+last_shown items h k = window_last h.window (books_of (batches_of items)) k.shown
+
+pub journal_last : JournalLast
+journal_last items h k = last_shown items h k
+
+all_books : (items : List Item) (item : Item) (h : Head) → IsJournal items h → Joins item (newest_of h) → books_of (batches_of (items ++ item ∷ [])) ≡ books_of (batches_of items) ++ book_in (state_with item.batch (newest_of h)) ∷ []
+all_books items item h k j =
+    ap books_of (batches_more items item)
+    ∙ (books_join (batches_of items) (item.batch ∷ []) first_books
+    ∙ books_more item (newest_of h) (books_of (batches_of items)) (last_shown items h k) j)
+
+pub journal_goes_on : JournalGoesOn
+journal_goes_on items item old new k j a =
+    let next : State = state_with item.batch (newest_of old) in
+    let newest : new.window.newest ≡ next = ap (λ w. w.newest) a.window in
+    record {
+      leads = subst (λ s. Leads (first_state s.domain) (items ++ item ∷ []) s) (sym newest) (leads_more items item (first_state old.window.newest.domain) old.window.newest k.leads j);
+      ending = (k.ending.0, ap (λ l. l ++ item ∷ []) k.ending.1 ∙ (append_assoc k.ending.0 old.kept (item ∷ []) ∙ ap (λ l. k.ending.0 ++ l) (sym a.kept)));
+      shown = subst (λ w. StandsFor w (books_of (batches_of (items ++ item ∷ [])))) (sym a.window) (subst (StandsFor (pushed next old.window)) (sym (all_books items item old k j)) (window_goes_on old.window next (books_of (batches_of items)) k.shown (record { number = refl; domain = refl })));
+    }
+
+pub journal_begins : (own : Bytes) (h : Head) → h.window ≡ record { older = []; newest = first_state own } → h.kept ≡ [] → IsJournal [] h
+journal_begins own h w e =
+    let newest : h.window.newest ≡ first_state own = ap (λ w. w.newest) w in
+    record {
+      leads = subst (λ s. Leads (first_state s.domain) [] s) (sym newest) refl;
+      ending = ([], sym e);
+      shown = subst (λ w. StandsFor w first_books) (sym w) (window_begins (first_state own) refl);
+    }
+
+-- ---- a whole journal
+
+front_none : (front end : List Item) → length (front ++ end) ≡ length end → front ≡ []
+front_none [] end e = refl
+front_none (i ∷ is) end e = let n = length-append (i ∷ is) end in absurd (omega arith)
+
+pub whole_journal : WholeJournal
+whole_journal items h k e =
+    let n = leads_count items (first_state h.window.newest.domain) h.window.newest k.leads in
+    let same : length (k.ending.0 ++ h.kept) ≡ length h.kept = sym (ap length k.ending.1) ∙ (let q : length items ≡ length h.kept = omega arith in q) in
+    k.ending.1 ∙ ap (λ front. front ++ h.kept) (front_none k.ending.0 h.kept same)
+
+-- ---- limits
+
+pub within : (items : List Item) (h : Head) → IsJournal items h → IsWithinLimits (book_of h.window.newest.rows)
+within items h k = limits_follow (batches_of items) (first_state h.window.newest.domain) h.window.newest (record { entries = omega arith; agents = omega arith; bundles = omega arith; tokens = omega arith }) (leads_follow items (first_state h.window.newest.domain) h.window.newest k.leads)
+
+-- ---- lawful journals
+
+replied : (items : List Item) (s t : State) → Leads s items t → replies_on (batches_of items) s ≡ committed_after s.number items
+replied [] s t l = refl
+replied (item ∷ items) s t l =
+    let first : Reply = record { place = s.number + 1; outcome = (reply_with s.number (adds item.replies (book_of (state_with item.batch s).rows))).outcome } in
+    ap (λ v. reply_with s.number v ∷ replies_on (batches_of items) (state_with item.batch s)) (l.0).added ∙ ap (λ l. first ∷ l) (replied items (state_with item.batch s) t l.1)
+
+pub journal_is_lawful : JournalIsLawful
+journal_is_lawful own items s l once =
+    let follows = leads_follow items (first_state own) s l in
+    let first = first_last own in
+    record {
+      made = (domain_stays (batches_of items) (first_state own) s follows).1;
+      committed = (books_follow (batches_of items) (first_state own) s first_books (omega arith) first.book first.place follows).0;
+      replies = replies_follow (batches_of items) (first_state own) s first_books (omega arith) first follows ∙ replied items (first_state own) s l;
+      once = once;
+    }
+
+-- ---- how many commits there are
+
+pub low : (items : List Item) (h : Head) → IsJournal items h → h.window.newest.number ≤ 2 ^ 48
+low items h k =
+    let own = h.window.newest.domain in
+    let follows = leads_follow items (first_state own) h.window.newest k.leads in
+    let first = first_last own in
+    let committed = (books_follow (batches_of items) (first_state own) h.window.newest first_books (omega arith) first.book first.place follows).0 in
+    let made = (domain_stays (batches_of items) (first_state own) h.window.newest follows).1 in
+    let bounded = history_bounded own (books_of (batches_of items)) (batches_of items, record { made = made; committed = committed; books_are = refl }) in
+    let count = k.shown.count in
+    omega arith
+
+-- ---- what a finish and a checkpoint leave
+
+pub finished : (old : Head) (p : Prepared) (window : Window) (kept : List Item) (room : ℕ) → HasJournal old → Goes (newest_of old) p → window ≡ pushed p.version old.window → kept ≡ old.kept ++ p.item ∷ [] → HasJournal (record { window = window; kept = kept; room = room })
+finished old p window kept room k g w e =
+    let new : Head = record { window = window; kept = kept; room = room } in
+    (k.0 ++ p.item ∷ [], journal_goes_on k.0 p.item old new k.1 g.joins (record { window = w ∙ ap (λ s. pushed s old.window) g.version; kept = e }))
+
+pub dropped : (old : Head) (kept : List Item) (room : ℕ) → HasJournal old → kept ≡ last_items old.kept → HasJournal (record { window = old.window; kept = kept; room = room })
+dropped old kept room k e =
+    let n = length old.kept - 64 in
+    let front : old.kept ≡ take n old.kept ++ kept = sym (take-append-drop n old.kept) ∙ ap (λ l. take n old.kept ++ l) (sym e) in (
+      k.0,
+      record {
+        leads = k.1.leads;
+        ending = (k.1.ending.0 ++ take n old.kept, k.1.ending.1 ∙ (ap (λ l. k.1.ending.0 ++ l) front ∙ sym (append_assoc k.1.ending.0 (take n old.kept) kept)));
+        shown = k.1.shown;
+      },
+    )

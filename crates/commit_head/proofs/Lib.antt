@@ -1,0 +1,4 @@
+pub mod Begun
+pub mod Checking
+pub mod Journals
+pub mod Preparing

@@ -1,0 +1,114 @@
+-- What a head is, and what a commit does to it.
+use Rattle.std.specs.Prelude.{◌≡◌, ⊤, ℕ, ◌+◌, ◌-◌, ◌<◌, true, List, [], ◌∷◌, ◌++◌, drop, length, nat_lt, slice_get, Option, Some, None, if◌then◌else◌}
+use Rattle.std.specs.List.{list_any}
+use Rattle.entry_book.specs.declared.reply.Refusal.TheVariants.{Full as TooMuch}
+use Rattle.entry_book.specs.Batches.{Batch}
+use Rattle.entry_book.specs.History.{verdict, refuses, books_of}
+use Rattle.version_book.specs.CommittedRows.{State, book_of}
+use Rattle.version_book.specs.History.{any_hits, state_with}
+use Rattle.batch_work.specs.Windows.{Window, StandsFor, pushed}
+use Rattle.batch_work.specs.Working.{Base, Work, footprint_there}
+use Rattle.commit_head.specs.declared.commit.Commit.{Commit}
+use Rattle.commit_head.specs.declared.commit.Commit.TheVariants.{Conflict, Full, Committed, NoMemory}
+use Rattle.commit_head.specs.declared.item.Item.{Item}
+use Rattle.commit_head.specs.Journals.{Joins, Leads, Agrees, IsEnding, batches_of, first_state}
+
+-- What a head is: the window that is handed to those who begin, the items of the journal that it keeps, and for how many more it has room.
+pub record Head : Type 0 where
+  pub window : Window
+  pub kept : List Item
+  pub room : ℕ
+
+abbrev pub newest_of : Head → State
+newest_of h = h.window.newest
+
+abbrev pub place_of : Head → ℕ
+place_of h = h.window.newest.number
+
+-- These are all items of its journal, from the first book on: they lead to the newest version, those that it keeps are the last ones, and its window stands for the list of all their books.
+pub record IsJournal (items : List Item) (h : Head) : Type 0 where
+  pub leads : Leads (first_state h.window.newest.domain) items h.window.newest
+  pub ending : IsEnding items h.kept
+  pub shown : StandsFor h.window (books_of (batches_of items))
+
+abbrev pub HasJournal : Head → Type 0
+HasJournal h = (items : List Item) × IsJournal items h
+
+-- the item of a commit, where it is kept
+abbrev pub item_at : ℕ → Head → Option Item
+item_at n h = if nat_lt (place_of h) (n + length h.kept) then slice_get h.kept (n + length h.kept - (place_of h + 1)) else None
+
+-- the last 64 items
+abbrev pub last_items : List Item → List Item
+last_items items = drop (length items - 64) items
+
+-- nothing has changed but the room
+pub record Stays (old new : Head) : Type 0 where
+  pub window : new.window ≡ old.window
+  pub kept : new.kept ≡ old.kept
+
+-- ---- a commit that is prepared
+
+pub record Prepared : Type 0 where
+  pub item : Item
+  pub version : State
+
+-- It fits a version: its item joins it, and its version is the one after the item's batch.
+pub record Goes (newest : State) (p : Prepared) : Type 0 where
+  pub joins : Joins p.item newest
+  pub version : p.version ≡ state_with p.item.batch newest
+
+-- It fits the head, which has room for the item.
+pub record Fits (h : Head) (p : Prepared) : Type 0 where
+  pub goes : Goes (newest_of h) p
+  pub room : 0 < h.room
+
+-- It is that of this seat, call and batch.
+pub record IsOf (seat call : ℕ) (batch : Batch) (item : Item) : Type 0 where
+  pub seat_is : item.seat ≡ seat
+  pub call_is : item.call ≡ call
+  pub batch_is : item.batch ≡ batch
+
+-- The item is behind the journal, and the window has the version after its batch.
+pub record IsAppended (old : Head) (item : Item) (new : Head) : Type 0 where
+  pub window : new.window ≡ pushed (state_with item.batch (newest_of old)) old.window
+  pub kept : new.kept ≡ old.kept ++ item ∷ []
+
+-- ---- what a commit asks of a work, and what it answers
+
+-- The version on which the work began is an earlier one of the history: items that agree with those that are kept lead from it to the newest one.
+abbrev pub BeganBefore : Option Base → State → List Item → Type 0
+BeganBefore None newest kept = ⊥
+BeganBefore (Some base) newest kept = (items : List Item) × Leads base.newest items newest × Agrees items kept
+
+-- Whatever items have led there from the version on which the batch began, one of their batches hits a mark of its footprint.
+abbrev pub IsDue : Option Base → Batch → State → List Item → Type 0
+IsDue None batch newest kept = ⊥
+IsDue (Some base) batch newest kept = (items : List Item) → Leads base.newest items newest → Agrees items kept → list_any (λ m. any_hits m base.newest (batches_of items)) (footprint_there batch base) ≡ true
+
+-- it isn't committed, on this version, while these items are kept
+abbrev pub IsRefusal : State → List Item → Work → Commit → Type 0
+IsRefusal newest kept w (Conflict n) = (n ≡ newest.number) × IsDue w.base w.batch newest kept
+IsRefusal newest kept w (Full limit n) = (n ≡ newest.number) × (verdict w.batch newest.number (Some (book_of newest.rows)) ≡ refuses (TooMuch limit))
+IsRefusal newest kept w (Committed n) = ⊥
+IsRefusal newest kept w NoMemory = ⊤
+
+abbrev pub BeganOn : Option Base → Head → Type 0
+BeganOn base h = BeganBefore base (newest_of h) h.kept
+
+abbrev pub IsRefused : Head → Work → Commit → Type 0
+IsRefused h w c = IsRefusal (newest_of h) h.kept w c
+
+-- The batch is committed: its item, which joins the newest version, is behind the journal.
+pub record IsCommitted (old : Head) (seat call : ℕ) (w : Work) (n : ℕ) (new : Head) : Type 0 where
+  pub item : Item
+  pub of_work : IsOf seat call w.batch item
+  pub joins : Joins item (newest_of old)
+  pub number : n ≡ place_of old + 1
+  pub appended : IsAppended old item new
+
+abbrev pub IsCommit : Head → ℕ → ℕ → Work → Commit → Head → Type 0
+IsCommit old seat call w (Conflict n) new = Stays old new × IsRefused old w (Conflict n)
+IsCommit old seat call w (Full limit n) new = Stays old new × IsRefused old w (Full limit n)
+IsCommit old seat call w (Committed n) new = IsCommitted old seat call w n new
+IsCommit old seat call w NoMemory new = Stays old new

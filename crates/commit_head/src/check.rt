@@ -1,0 +1,69 @@
+//! Did a batch since a work's begin write what the work has read?
+
+ghost use Rattle.std.specs.Prelude.{◌≡◌, IfSome, List, false, true};
+ghost use Rattle.std.specs.List.{AllByRecursion, list_any};
+ghost use Rattle.version_book.specs.CommittedRows.{book_of};
+ghost use Rattle.version_book.specs.History.{Follows, IsEarlier, any_hits};
+ghost use Rattle.version_book.specs.Marks.{Agree, hits};
+ghost use Rattle.entry_book.specs.Batches.{Batch};
+ghost use Rattle.commit_head.specs.Journals.{Agrees, Leads, batches_of};
+ghost use Rattle.commit_head.specs.declared.item.Item.{Item as JournalItem};
+
+use crate::item::Item;
+use version_book::{Mark, Version};
+
+/// Does a write of one of these items hit the mark?
+fn is_hit(items: &[Item], mark: &Mark) -> bool
+    ensures { result ≡ list_any (λ item. list_any (λ w. hits w mark.now) item.changes) items.now }
+{
+    items.iter().any(|item| item.changes.hits(mark))
+}
+
+/// Does a write of one of these items hit one of the marks?
+fn are_hit(items: &[Item], marks: &[Mark]) -> bool
+    ensures { result ≡ list_any (λ mark. list_any (λ item. list_any (λ w. hits w mark) item.changes) items.now) marks.now }
+{
+    marks.iter().any(|mark| is_hit(items, mark))
+}
+
+/// Has one of the marks other rows than in an older version of the same history, or rows that were written since?
+fn are_changed(newest: &Version, older: &Version, marks: &[Mark]) -> bool
+    ensures agree { IsEarlier older.now newest.now → result ≡ false
+        → AllByRecursion (Agree (book_of older.now.rows) (book_of newest.now.rows)) marks.now }
+    ensures hit { (batches : List Batch) → Follows older.now batches newest.now → result ≡ true
+        → list_any (λ mark. any_hits mark older.now batches) marks.now ≡ true }
+{
+    for mark in marks {
+        if !newest.unchanged(mark, older) {
+            return true;
+        }
+    }
+    false
+}
+
+/// The items since the version, where they are no more than 63 and all of them are kept.
+fn items_since<'a>(kept: &'a [Item], newest: &Version, older: &Version) -> Option<&'a [Item]>
+    ensures { (items : List JournalItem) → Leads older.now items newest.now → Agrees items kept.now
+        → IfSome result (λ since. since.now ≡ items) }
+{
+    let commits = newest.number().checked_sub(older.number())?;
+    if commits > 63 || commits > kept.len() as u64 {
+        return None;
+    }
+    Some(&kept[kept.len() - commits as usize..])
+}
+
+/// Did a batch since the older version write what these marks read? Where few commits were made since and their items are
+/// kept, each write of them is looked at, and else the rows of both versions.
+pub(crate) fn is_conflict(kept: &[Item], newest: &Version, older: &Version, marks: &[Mark]) -> bool
+    ensures agree { (items : List JournalItem) → Leads older.now items newest.now → Agrees items kept.now → result ≡ false
+        → AllByRecursion (Agree (book_of older.now.rows) (book_of newest.now.rows)) marks.now }
+    ensures hit { (items : List JournalItem) → Leads older.now items newest.now → Agrees items kept.now → result ≡ true
+        → list_any (λ mark. any_hits mark older.now (batches_of items)) marks.now ≡ true }
+{
+    let _ = older.number();
+    match items_since(kept, newest, older) {
+        Some(since) => are_hit(since, marks),
+        None => are_changed(newest, older, marks),
+    }
+}

@@ -1,0 +1,185 @@
+//! What does a head keep, and which work may commit?
+
+ghost use Rattle.std.specs.Prelude.{◌≡◌, ◌+◌, ◌-◌, ◌≤◌, ◌<◌, ◌++◌, ◌∷◌, [], length, vec_capacity, vec_len};
+ghost use Rattle.commit_head.specs.Heads.{last_items};
+
+use crate::commit::Commit;
+use crate::item::Item;
+use crate::prepare::prepared;
+use crate::prepared::Prepared;
+use batch_work::{Status, Window, Work};
+use spiffe_name::TrustDomain;
+use std::alloc::{AllocError, Global};
+use std::marker::Model;
+use version_book::Version;
+
+/// One item more, for which there is room.
+fn push_reserved(items: &mut Vec<Item>, item: Item)
+    requires room { vec_len items.old < vec_capacity items.old }
+    ensures { items.new.items ≡ items.old.items ++ item ∷ [] }
+{
+    let Ok(()) = items.push(item) else {
+        unreachable!()
+    };
+}
+
+/// Drops all items but the last 64, and answers how many it dropped.
+fn drop_older(items: &mut Vec<Item>) -> usize
+    ensures dropped { result + length items.new.items ≡ length items.old.items }
+    ensures kept { items.new.items ≡ last_items items.old.items }
+{
+    let dropped = items.len().saturating_sub(64);
+    items.drain(..dropped);
+    dropped
+}
+
+/// The one place where the book changes. It has the window that is handed to those who begin, and the journal: one item for
+/// each commit, of which a checkpoint drops all but the last 64.
+///
+/// A reader is handed a clone of the window, and begins on it without the head. A writer prepares a commit, which checks what
+/// the work read and makes all growth, and then finishes it, which takes no memory. A check looks at the writes of the items
+/// since the work's begin, where these are at most 63 and kept, and else at the rows of both versions at each mark. A commit
+/// costs what the version's `apply` costs.
+#[derive(Drop)]
+pub struct Head {
+    window: Window,
+    kept: Vec<Item>,
+}
+
+impl Model for Head {
+    ghost use Rattle.std.specs.Prelude.{◌-◌, vec_capacity, vec_len};
+    ghost use Rattle.commit_head.specs.Heads.{HasJournal, Head};
+
+    ghost Value = { Head };
+
+    ghost view = { λ head. record {
+      window = head.window;
+      kept = head.kept.items;
+      room = vec_capacity head.kept - vec_len head.kept;
+    } };
+
+    ghost invariant = { λ head. HasJournal (record {
+      window = head.window;
+      kept = head.kept.items;
+      room = vec_capacity head.kept - vec_len head.kept;
+    }) };
+}
+
+impl Head {
+    ghost use Rattle.std.specs.Prelude.{◌≡◌, ◌+◌, ◌^◌, ◌≤◌, [], IfErr, IfOk, OnOk, length};
+    ghost use Rattle.std.specs.Option.{option_copied};
+    ghost use Rattle.batch_work.specs.Working.{status_of};
+    ghost use Rattle.commit_head.specs.Heads.{BeganOn, Fits, Goes, HasJournal, IsAppended, IsCommit, IsOf, IsRefused, Stays, item_at, place_of};
+    ghost use Rattle.commit_head.specs.Journals.{first_state};
+
+    /// A head with book 0 and no item. The error is want of memory.
+    pub fn new(alloc: Global, domain: TrustDomain) -> Result<Head, AllocError>
+        ensures window { IfOk result (λ head. head.window ≡ record { older = []; newest = first_state domain }) }
+        ensures kept { IfOk result (λ head. head.kept ≡ []) }
+    {
+        let version = Version::empty(alloc, domain)?;
+        Ok(Head {
+            window: Window::of(version),
+            kept: Vec::new(alloc),
+        })
+    }
+
+    /// The window on which works begin. Takes no memory. The number of its newest version is within the limit on commits.
+    pub fn window(&self) -> &Window
+        ensures window { result.now ≡ self.now.window }
+        ensures low { self.now.window.newest.number ≤ 2 ^ 48 }
+        ensures journal { HasJournal self.now }
+    {
+        &self.window
+    }
+
+    /// How many batches were committed: the number of the newest version. Takes no memory.
+    pub fn place(&self) -> u64
+        ensures { result ≡ place_of self.now }
+    {
+        self.window.newest().number()
+    }
+
+    /// How many items of the journal are kept. Takes no memory.
+    pub fn kept(&self) -> u64
+        ensures { result ≡ length self.now.kept }
+    {
+        self.kept.len() as u64
+    }
+
+    /// The item of a commit, where it is kept. Takes no memory.
+    pub fn item(&self, number: u64) -> Option<&Item>
+        ensures { option_copied result ≡ item_at number self.now }
+    {
+        let back = self.place().checked_sub(number)?;
+        let index = self.kept().checked_sub(back)?.checked_sub(1)?;
+        self.kept.as_slice().get(index as usize)
+    }
+
+    /// What a work that is ready comes to here: a commit that is prepared, for this seat and call, or why there is none. It
+    /// makes all growth; nothing has changed but the room. The work began on an earlier version of this head's history.
+    pub fn prepare(&mut self, seat: u32, call: u64, work: &Work) -> Result<Prepared, Commit>
+        requires ready { status_of work.now ≡ Status.Ready }
+        requires domain { work.now.batch.domain ≡ self.old.window.newest.domain }
+        requires began { BeganOn work.now.base self.old }
+        ensures stays { Stays self.old self.new }
+        ensures fits { IfOk result (Fits self.new) }
+        ensures of_work { IfOk result (λ prepared. IsOf seat call work.now.batch prepared.item) }
+        ensures refused { IfErr result (IsRefused self.old work.now) }
+    {
+        let prepared = self.prepared(seat, call, work)?;
+        match self.kept.reserve(1) {
+            Ok(()) => Ok(prepared),
+            Err(AllocError) => Err(Commit::NoMemory),
+        }
+    }
+
+    /// Adds a commit that was prepared, no other one having come between, and answers its number. Takes no memory.
+    pub fn finish(&mut self, prepared: Prepared) -> u64
+        requires fits { Fits self.old prepared }
+        ensures number { result ≡ place_of self.old + 1 }
+        ensures appended { IsAppended self.old prepared.item self.new }
+    {
+        let Prepared { item, version } = prepared;
+        let number = version.number();
+        self.window.push(version);
+        push_reserved(&mut self.kept, item);
+        number
+    }
+
+    /// Commits a work that is ready, for this seat and call, or tells why not; then nothing has changed but the room. The work
+    /// began on an earlier version of this head's history.
+    pub fn commit(&mut self, seat: u32, call: u64, work: &Work) -> Commit
+        requires ready { status_of work.now ≡ Status.Ready }
+        requires domain { work.now.batch.domain ≡ self.old.window.newest.domain }
+        requires began { BeganOn work.now.base self.old }
+        ensures { IsCommit self.old seat call work.now result self.new }
+    {
+        match self.prepare(seat, call, work) {
+            Ok(prepared) => Commit::Committed(self.finish(prepared)),
+            Err(refusal) => refusal,
+        }
+    }
+
+    /// Drops all items but the last 64, and answers how many it dropped. Place, window and versions stay. Takes no memory.
+    pub fn checkpoint(&mut self) -> u64
+        ensures dropped { result + length self.new.kept ≡ length self.old.kept }
+        ensures kept { self.new.kept ≡ last_items self.old.kept }
+        ensures window { self.new.window ≡ self.old.window }
+    {
+        drop_older(&mut self.kept) as u64
+    }
+
+    /// What a work that is ready comes to at the newest version.
+    fn prepared(&self, seat: u32, call: u64, work: &Work) -> Result<Prepared, Commit>
+        requires ready { status_of work.now ≡ Status.Ready }
+        requires domain { work.now.batch.domain ≡ self.now.window.newest.domain }
+        requires began { BeganOn work.now.base self.now }
+        ensures goes { IfOk result (Goes self.now.window.newest) }
+        ensures of_work { IfOk result (λ prepared. IsOf seat call work.now.batch prepared.item) }
+        ensures refused { IfErr result (IsRefused self.now work.now) }
+    {
+        let newest = self.window().newest();
+        prepared(seat, call, newest, self.kept.as_slice(), work)
+    }
+}

@@ -1,0 +1,99 @@
+//! What does a work that is ready come to at the newest version?
+
+ghost use Rattle.std.specs.Prelude.{◌≡◌, ◌≤◌, ◌^◌, IfErr, IfOk};
+ghost use Rattle.entry_book.specs.Laws.{IsWithinLimits};
+ghost use Rattle.entry_book.specs.Limits.{limit_passed};
+ghost use Rattle.version_book.specs.CommittedRows.{book_of};
+ghost use Rattle.batch_work.specs.Working.{status_of};
+ghost use Rattle.commit_head.specs.Heads.{BeganBefore, Goes, IsOf, IsRefusal};
+
+use crate::check::is_conflict;
+use crate::commit::Commit;
+use crate::item::Item;
+use crate::prepared::Prepared;
+use batch_work::{Status, Work};
+use entry_book::{Batch, Limit, OpReply, Sequence, Shared, limit_passed};
+use std::alloc::AllocError;
+use version_book::{Changes, Version};
+
+/// The first limit that a version's book passes that is to follow the book at this place.
+fn limit_of(place: u64, version: &Version) -> Option<Limit>
+    ensures { result ≡ limit_passed place (book_of version.now.rows) }
+{
+    let count = version.count();
+    limit_passed(
+        place,
+        count.entries,
+        count.agents,
+        count.bundles,
+        count.tokens,
+    )
+}
+
+/// What the journal is to keep of a commit. It shares what it keeps; the error is want of memory.
+fn item_of(
+    seat: u32,
+    call: u64,
+    batch: &Batch,
+    replies: &Shared<Sequence<OpReply>>,
+    changes: &Changes,
+) -> Result<Item, AllocError>
+    ensures { IfOk result (λ item. item ≡ record {
+      seat = seat;
+      call = call;
+      batch = batch.now;
+      replies = replies.now;
+      changes = changes.now;
+    }) }
+{
+    Ok(Item {
+        seat,
+        call,
+        batch: batch.clone()?,
+        replies: replies.clone()?,
+        changes: changes.clone()?,
+    })
+}
+
+/// What a work that is ready comes to at the newest version, while these items of the journal are kept: a commit that is
+/// prepared, or why there is none.
+pub(crate) fn prepared(
+    seat: u32,
+    call: u64,
+    newest: &Version,
+    kept: &[Item],
+    work: &Work,
+) -> Result<Prepared, Commit>
+    requires ready { status_of work.now ≡ Status.Ready }
+    requires domain { work.now.batch.domain ≡ newest.now.domain }
+    requires began { BeganBefore work.now.base newest.now kept.now }
+    requires within { IsWithinLimits (book_of newest.now.rows) }
+    requires low { newest.now.number ≤ 2 ^ 48 }
+    ensures goes { IfOk result (Goes newest.now) }
+    ensures of_work { IfOk result (λ prepared. IsOf seat call work.now.batch prepared.item) }
+    ensures refused { IfErr result (IsRefusal newest.now kept.now work.now) }
+{
+    let _ = work.batch().ops();
+    let place = newest.number();
+    let Some(base) = work.base() else {
+        unreachable!()
+    };
+    let _ = base.number();
+    if is_conflict(kept, newest, base, work.marks()) {
+        return Err(Commit::Conflict(place));
+    }
+    let changes = work.changes();
+    let Ok(version) = newest.apply(changes, place + 1) else {
+        return Err(Commit::NoMemory);
+    };
+    if let Some(limit) = limit_of(place, &version) {
+        return Err(Commit::Full(limit, place));
+    }
+    let Some(replies) = work.replies() else {
+        unreachable!()
+    };
+    let Ok(item) = item_of(seat, call, work.batch(), replies, changes) else {
+        return Err(Commit::NoMemory);
+    };
+    Ok(Prepared { item, version })
+}
