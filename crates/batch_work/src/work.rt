@@ -86,8 +86,8 @@ fn let_go(stage: Stage) {
 /// for its commit, or is settled. It touches nothing that is shared. A contract sees its batch, what it began on, and the
 /// number of reads made: all else follows from these.
 ///
-/// A step reads the rows of one mark, and costs what the version's `read_after` costs; it copies no row and no text that it
-/// doesn't read. Where memory is refused the work is as it was, and the same step can be made again.
+/// A step reads the rows of one mark, and costs what the version's `read_after` costs and the keeping of what it found; it copies
+/// no row and no text that it doesn't read. Where memory is refused the work is as it was, and the same step can be made again.
 #[derive(Drop)]
 pub struct Work {
     alloc: Global,
@@ -211,7 +211,7 @@ impl Work {
         self.course.marks.as_slice()
     }
 
-    /// The writes of the operations done so far; where the work is ready, those of the batch.
+    /// The writes of the operations, in order, where the work is ready; before that no contract tells them.
     pub fn changes(&self) -> &Changes
         ensures { status_of self.now ≡ Status.Ready → HasWrites self.now result.now }
     {

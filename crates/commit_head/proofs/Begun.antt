@@ -7,11 +7,39 @@ use Rattle.batch_work.specs.Windows.{StandsFor}
 use Rattle.commit_head.specs.declared.item.Item.{Item}
 use Rattle.commit_head.specs.Heads.{newest_of}
 use Rattle.commit_head.specs.Journals.{Agrees, IsEnding, Leads, batches_of, first_state}
-use Rattle.commit_head.specs.Laws.{BeganGoesOn, BeganHere, BeganStays, JournalStays}
-use Rattle.commit_head.proofs.Journals.{leads_more}
+use Rattle.commit_head.specs.Laws.{BeganGoesOn, BeganHere, BeganInside, BeganKept, BeganStays, JournalKept, JournalStays}
+use Rattle.commit_head.proofs.Journals.{leads_in_parts, leads_more, leads_to_one}
 
 pub began_here : BeganHere
 began_here base h e = ([], e, inr (h.kept, sym (append-nil h.kept)))
+
+-- two endings of one list agree
+endings_agree : (before since front kept : List Item) → before ++ since ≡ front ++ kept → Agrees since kept
+endings_agree [] since front kept e = inl (front, e)
+endings_agree (b ∷ bs) since [] kept e = inr (b ∷ bs, sym e)
+endings_agree (b ∷ bs) since (f ∷ fs) kept e = endings_agree bs since fs kept (rest e)
+  where
+    rest : b ∷ bs ++ since ≡ f ∷ fs ++ kept → bs ++ since ≡ fs ++ kept
+    rest e = cc
+
+pub began_inside : BeganInside
+began_inside before since base h j l =
+    let parts = leads_in_parts before since (first_state h.window.newest.domain) h.window.newest j.leads in
+    let same = leads_to_one before (first_state h.window.newest.domain) parts.0 base.newest parts.1 l in
+    let leads : Leads base.newest since (newest_of h) = subst (λ s. Leads s since (newest_of h)) same parts.2 in
+    let agrees : Agrees since h.kept = endings_agree before since j.ending.0 h.kept j.ending.1 in
+    record { leads = leads; agrees = agrees; began = (since, leads, agrees) }
+
+pub began_kept : BeganKept
+began_kept None old new b k = b
+began_kept (Some base) old new b k = (b.0, subst (λ w. Leads base.newest b.0 w.newest) (sym k.window) b.1, subst (Agrees b.0) (sym k.kept) b.2)
+
+pub journal_kept : JournalKept
+journal_kept items old new j k = record {
+  leads = subst (λ w. Leads (first_state w.newest.domain) items w.newest) (sym k.window) j.leads;
+  ending = (j.ending.0, j.ending.1 ∙ ap (λ l. j.ending.0 ++ l) (sym k.kept));
+  shown = subst (λ w. StandsFor w (books_of (batches_of items))) (sym k.window) j.shown;
+}
 
 ending_more : (whole end : List Item) (item : Item) → IsEnding whole end → IsEnding (whole ++ item ∷ []) (end ++ item ∷ [])
 ending_more whole end item e = (e.0, ap (λ l. l ++ item ∷ []) e.1 ∙ append_assoc e.0 end (item ∷ []))

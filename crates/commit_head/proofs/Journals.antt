@@ -4,7 +4,7 @@ use Rattle.std.proofs.lemmas.List.{append_assoc, map-append, take-append-drop}
 use Rattle.entry_book.specs.declared.reply.Reply.{Reply}
 use Rattle.entry_book.specs.Rows.{Bytes}
 use Rattle.entry_book.specs.Book.{Book}
-use Rattle.entry_book.specs.History.{adds, reply_with, books_with, books_after, books_of, first_books}
+use Rattle.entry_book.specs.History.{place_of as place_in, adds, reply_with, books_with, books_after, books_of, first_books}
 use Rattle.entry_book.specs.Laws.{IsWithinLimits}
 use Rattle.entry_book.proofs.Histories.{history_bounded}
 use Rattle.version_book.specs.CommittedRows.{State, book_of}
@@ -16,7 +16,7 @@ use Rattle.batch_work.proofs.Windows.{window_begins, window_goes_on, window_last
 use Rattle.commit_head.specs.declared.item.Item.{Item}
 use Rattle.commit_head.specs.Heads.{Goes, HasJournal, Head, IsJournal, Prepared, last_items, newest_of}
 use Rattle.commit_head.specs.Journals.{Joins, Leads, batches_of, committed_after, first_state}
-use Rattle.commit_head.specs.Laws.{ItemsFollow, JournalGoesOn, JournalIsLawful, JournalLast, WholeJournal}
+use Rattle.commit_head.specs.Laws.{ItemsFollow, JoinsOnBooks, JournalBegins, JournalGoesOn, JournalIsLawful, JournalLast, LeadsInParts, LeadsToOne, WholeJournal}
 
 pub commits : (item : Item) (s : State) → Joins item s → Commits item.batch s
 commits item s j = record { made = j.made; replies = item.replies; added = j.added }
@@ -35,6 +35,14 @@ items_follow items older newer l = record { follows = leads_follow items older n
 pub leads_more : (items : List Item) (item : Item) (s t : State) → Leads s items t → Joins item t → Leads s (items ++ item ∷ []) (state_with item.batch t)
 leads_more [] item s t l j = (subst (Joins item) (sym l) j, ap (state_with item.batch) l)
 leads_more (i ∷ is) item s t l j = (l.0, leads_more is item (state_with i.batch s) t l.1 j)
+
+pub leads_in_parts : LeadsInParts
+leads_in_parts [] second older newer l = (older, refl, l)
+leads_in_parts (item ∷ items) second older newer l = let rest = leads_in_parts items second (state_with item.batch older) newer l.1 in (rest.0, (l.0, rest.1), rest.2)
+
+pub leads_to_one : LeadsToOne
+leads_to_one [] older newer other l k = sym l ∙ k
+leads_to_one (item ∷ items) older newer other l k = leads_to_one items (state_with item.batch older) newer other l.1 k.1
 
 -- ---- the list of all books
 
@@ -60,6 +68,16 @@ all_books items item h k j =
     ∙ (books_join (batches_of items) (item.batch ∷ []) first_books
     ∙ books_more item (newest_of h) (books_of (batches_of items)) (last_shown items h k) j)
 
+pub joins_on_books : JoinsOnBooks
+joins_on_books items item h k j =
+    let s = newest_of h in
+    let books = books_of (batches_of items) in
+    let last : IsLast s books = last_shown items h k in
+    record {
+      reply = ap (reply_with (place_in books)) (verdict_last item.batch s books last.book last.place (newest_read item.batch s (commits item s j)) ∙ j.added) ∙ ap (λ n. reply_with n (adds item.replies (book_of (state_with item.batch s).rows))) last.place;
+      books = books_more item s books last j ∙ sym (all_books items item h k j);
+    }
+
 pub journal_goes_on : JournalGoesOn
 journal_goes_on items item old new k j a =
     let next : State = state_with item.batch (newest_of old) in
@@ -70,7 +88,7 @@ journal_goes_on items item old new k j a =
       shown = subst (λ w. StandsFor w (books_of (batches_of (items ++ item ∷ [])))) (sym a.window) (subst (StandsFor (pushed next old.window)) (sym (all_books items item old k j)) (window_goes_on old.window next (books_of (batches_of items)) k.shown (record { number = refl; domain = refl })));
     }
 
-pub journal_begins : (own : Bytes) (h : Head) → h.window ≡ record { older = []; newest = first_state own } → h.kept ≡ [] → IsJournal [] h
+pub journal_begins : JournalBegins
 journal_begins own h w e =
     let newest : h.window.newest ≡ first_state own = ap (λ w. w.newest) w in
     record {

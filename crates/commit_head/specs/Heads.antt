@@ -1,5 +1,5 @@
 -- What a head is, and what a commit does to it.
-use Rattle.std.specs.Prelude.{◌≡◌, ⊤, ℕ, ◌+◌, ◌-◌, ◌<◌, true, List, [], ◌∷◌, ◌++◌, drop, length, nat_lt, slice_get, Option, Some, None, if◌then◌else◌}
+use Rattle.std.specs.Prelude.{◌≡◌, ⊤, ℕ, ◌+◌, ◌-◌, ◌<◌, ◌≤◌, true, List, [], ◌∷◌, ◌++◌, drop, length, nat_lt, slice_get, Option, Some, None, if◌then◌else◌}
 use Rattle.std.specs.List.{list_any}
 use Rattle.entry_book.specs.declared.reply.Refusal.TheVariants.{Full as TooMuch}
 use Rattle.entry_book.specs.Batches.{Batch}
@@ -7,7 +7,7 @@ use Rattle.entry_book.specs.History.{verdict, refuses, books_of}
 use Rattle.version_book.specs.CommittedRows.{State, book_of}
 use Rattle.version_book.specs.History.{any_hits, state_with}
 use Rattle.batch_work.specs.Windows.{Window, StandsFor, pushed}
-use Rattle.batch_work.specs.Working.{Base, Work, footprint_there}
+use Rattle.batch_work.specs.Working.{Base, Work, HasReplies, HasWrites, footprint_there}
 use Rattle.commit_head.specs.declared.commit.Commit.{Commit}
 use Rattle.commit_head.specs.declared.commit.Commit.TheVariants.{Conflict, Full, Committed, NoMemory}
 use Rattle.commit_head.specs.declared.item.Item.{Item}
@@ -42,10 +42,11 @@ item_at n h = if nat_lt (place_of h) (n + length h.kept) then slice_get h.kept (
 abbrev pub last_items : List Item → List Item
 last_items items = drop (length items - 64) items
 
--- nothing has changed but the room
+-- nothing has changed but the room, which is no less
 pub record Stays (old new : Head) : Type 0 where
   pub window : new.window ≡ old.window
   pub kept : new.kept ≡ old.kept
+  pub room : old.room ≤ new.room
 
 -- ---- a commit that is prepared
 
@@ -63,20 +64,22 @@ pub record Fits (h : Head) (p : Prepared) : Type 0 where
   pub goes : Goes (newest_of h) p
   pub room : 0 < h.room
 
--- It is that of this seat, call and batch.
-pub record IsOf (seat call : ℕ) (batch : Batch) (item : Item) : Type 0 where
+-- It is that of this seat, call and work: the work's batch, replies and writes.
+pub record IsItemOf (seat call : ℕ) (w : Work) (item : Item) : Type 0 where
   pub seat_is : item.seat ≡ seat
   pub call_is : item.call ≡ call
-  pub batch_is : item.batch ≡ batch
+  pub batch_is : item.batch ≡ w.batch
+  pub replies : HasReplies w item.replies
+  pub changes : HasWrites w item.changes
 
--- The item is behind the journal, and the window has the version after its batch.
+-- The item is the last of the journal, and the window has the version after its batch.
 pub record IsAppended (old : Head) (item : Item) (new : Head) : Type 0 where
   pub window : new.window ≡ pushed (state_with item.batch (newest_of old)) old.window
   pub kept : new.kept ≡ old.kept ++ item ∷ []
 
 -- ---- what a commit asks of a work, and what it answers
 
--- The version on which the work began is an earlier one of the history: items that agree with those that are kept lead from it to the newest one.
+-- The version on which the work began is the newest one of the history or an earlier one: items that agree with those that are kept lead from it to the newest one.
 abbrev pub BeganBefore : Option Base → State → List Item → Type 0
 BeganBefore None newest kept = ⊥
 BeganBefore (Some base) newest kept = (items : List Item) × Leads base.newest items newest × Agrees items kept
@@ -86,7 +89,7 @@ abbrev pub IsDue : Option Base → Batch → State → List Item → Type 0
 IsDue None batch newest kept = ⊥
 IsDue (Some base) batch newest kept = (items : List Item) → Leads base.newest items newest → Agrees items kept → list_any (λ m. any_hits m base.newest (batches_of items)) (footprint_there batch base) ≡ true
 
--- it isn't committed, on this version, while these items are kept
+-- why a work that is ready isn't committed on this version, while these items are kept; of want of memory it says nothing
 abbrev pub IsRefusal : State → List Item → Work → Commit → Type 0
 IsRefusal newest kept w (Conflict n) = (n ≡ newest.number) × IsDue w.base w.batch newest kept
 IsRefusal newest kept w (Full limit n) = (n ≡ newest.number) × (verdict w.batch newest.number (Some (book_of newest.rows)) ≡ refuses (TooMuch limit))
@@ -99,10 +102,10 @@ BeganOn base h = BeganBefore base (newest_of h) h.kept
 abbrev pub IsRefused : Head → Work → Commit → Type 0
 IsRefused h w c = IsRefusal (newest_of h) h.kept w c
 
--- The batch is committed: its item, which joins the newest version, is behind the journal.
+-- The batch is committed: its item, which joins the newest version, is the last of the journal.
 pub record IsCommitted (old : Head) (seat call : ℕ) (w : Work) (n : ℕ) (new : Head) : Type 0 where
   pub item : Item
-  pub of_work : IsOf seat call w.batch item
+  pub of_work : IsItemOf seat call w item
   pub joins : Joins item (newest_of old)
   pub number : n ≡ place_of old + 1
   pub appended : IsAppended old item new

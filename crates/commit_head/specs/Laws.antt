@@ -1,13 +1,14 @@
 -- The laws of journals and heads. Each is a clause of a function of the module `laws`.
-use Rattle.std.specs.Prelude.{◌≡◌, ◌+◌, List, [], ◌∷◌, ◌++◌, length, Option, Some}
+use Rattle.std.specs.Prelude.{◌≡◌, ℕ, ◌+◌, List, [], ◌∷◌, ◌++◌, length, Option, Some}
 use Rattle.entry_book.specs.Rows.{Bytes}
-use Rattle.entry_book.specs.History.{books_of}
+use Rattle.entry_book.specs.declared.reply.Outcome.TheVariants.{Committed}
+use Rattle.entry_book.specs.History.{books_after, books_of, reply_to}
 use Rattle.version_book.specs.CommittedRows.{State}
 use Rattle.version_book.specs.History.{Follows, IsLast}
 use Rattle.batch_work.specs.Working.{Base}
 use Rattle.commit_head.specs.declared.item.Item.{Item}
-use Rattle.commit_head.specs.Heads.{BeganOn, Head, IsAppended, IsJournal, last_items, newest_of, place_of}
-use Rattle.commit_head.specs.Journals.{Joins, Leads, EachCallOnce, IsLawfulJournal, batches_of, first_state}
+use Rattle.commit_head.specs.Heads.{BeganOn, Head, IsAppended, IsJournal, Stays, last_items, newest_of, place_of}
+use Rattle.commit_head.specs.Journals.{Agrees, Joins, Leads, EachCallOnce, IsLawfulJournal, batches_of, first_state}
 
 -- items that lead from one version to another are batches that follow one another there, one for each commit
 pub record AreBatches (older : State) (items : List Item) (newer : State) : Type 0 where
@@ -17,9 +18,25 @@ pub record AreBatches (older : State) (items : List Item) (newer : State) : Type
 abbrev pub ItemsFollow : Type 0
 ItemsFollow = (items : List Item) (older newer : State) → Leads older items newer → AreBatches older items newer
 
+-- a new head has the journal without items
+abbrev pub JournalBegins : Type 0
+JournalBegins = (own : Bytes) (h : Head) → h.window ≡ record { older = []; newest = first_state own } → h.kept ≡ [] → IsJournal [] h
+
+-- where nothing has changed but the room, its journal is what it was
+abbrev pub JournalKept : Type 0
+JournalKept = (items : List Item) (old new : Head) → IsJournal items old → Stays old new → IsJournal items new
+
 -- an item that is appended is the last one of a head's journal
 abbrev pub JournalGoesOn : Type 0
 JournalGoesOn = (items : List Item) (item : Item) (old new : Head) → IsJournal items old → Joins item (newest_of old) → IsAppended old item new → IsJournal (items ++ item ∷ []) new
+
+-- On the list of all books the plain book commits the item's batch at the next number with the item's replies, and the list goes on as that of the longer journal.
+pub record IsCommittedOnBooks (items : List Item) (item : Item) (n : ℕ) : Type 0 where
+  pub reply : reply_to item.batch (books_of (batches_of items)) ≡ record { place = n; outcome = Committed item.replies }
+  pub books : books_after item.batch (books_of (batches_of items)) ≡ books_of (batches_of (items ++ item ∷ []))
+
+abbrev pub JoinsOnBooks : Type 0
+JoinsOnBooks = (items : List Item) (item : Item) (h : Head) → IsJournal items h → Joins item (newest_of h) → IsCommittedOnBooks items item (place_of h + 1)
 
 -- a head that keeps an item for each commit keeps its whole journal
 abbrev pub WholeJournal : Type 0
@@ -37,10 +54,29 @@ JournalIsLawful = (own : Bytes) (items : List Item) (s : State) → Leads (first
 abbrev pub JournalStays : Type 0
 JournalStays = (items : List Item) (old new : Head) → IsJournal items old → new.window ≡ old.window → new.kept ≡ last_items old.kept → IsJournal items new
 
--- ---- the version on which a work began is an earlier one of the head's history: where it is the newest, once an item more is appended, and after a checkpoint
+-- items in two parts lead to a version between them, which is the only one to which the first part leads
+abbrev pub LeadsInParts : Type 0
+LeadsInParts = (first second : List Item) (older newer : State) → Leads older (first ++ second) newer → (between : State) × Leads older first between × Leads between second newer
+
+abbrev pub LeadsToOne : Type 0
+LeadsToOne = (items : List Item) (older newer other : State) → Leads older items newer → Leads older items other → newer ≡ other
+
+-- ---- the version on which a work began is an earlier one of the head's history: where it is the newest, or the one after the first items of its journal; once an item more is appended; where nothing changed but the room; and after a checkpoint
 
 abbrev pub BeganHere : Type 0
 BeganHere = (base : Base) (h : Head) → base.newest ≡ newest_of h → BeganOn (Some base) h
+
+-- What a version inside a journal is to a head.
+pub record IsInside (base : Base) (since : List Item) (h : Head) : Type 0 where
+  pub leads : Leads base.newest since (newest_of h)
+  pub agrees : Agrees since h.kept
+  pub began : BeganOn (Some base) h
+
+abbrev pub BeganInside : Type 0
+BeganInside = (before since : List Item) (base : Base) (h : Head) → IsJournal (before ++ since) h → Leads (first_state h.window.newest.domain) before base.newest → IsInside base since h
+
+abbrev pub BeganKept : Type 0
+BeganKept = (base : Option Base) (old new : Head) → BeganOn base old → Stays old new → BeganOn base new
 
 abbrev pub BeganGoesOn : Type 0
 BeganGoesOn = (base : Option Base) (item : Item) (old new : Head) → BeganOn base old → Joins item (newest_of old) → IsAppended old item new → BeganOn base new

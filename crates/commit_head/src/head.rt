@@ -39,7 +39,7 @@ fn drop_older(items: &mut Vec<Item>) -> usize
 /// A reader is handed a clone of the window, and begins on it without the head. A writer prepares a commit, which checks what
 /// the work read and makes all growth, and then finishes it, which takes no memory. A check looks at the writes of the items
 /// since the work's begin, where these are at most 63 and kept, and else at the rows of both versions at each mark. A commit
-/// costs what the version's `apply` costs.
+/// costs this check and what the version's `apply` costs. That no seat commits a call twice is for the callers to see to.
 #[derive(Drop)]
 pub struct Head {
     window: Window,
@@ -69,7 +69,7 @@ impl Head {
     ghost use Rattle.std.specs.Prelude.{◌≡◌, ◌+◌, ◌^◌, ◌≤◌, [], IfErr, IfOk, OnOk, length};
     ghost use Rattle.std.specs.Option.{option_copied};
     ghost use Rattle.batch_work.specs.Working.{status_of};
-    ghost use Rattle.commit_head.specs.Heads.{BeganOn, Fits, Goes, HasJournal, IsAppended, IsCommit, IsOf, IsRefused, Stays, item_at, place_of};
+    ghost use Rattle.commit_head.specs.Heads.{BeganOn, Fits, Goes, HasJournal, IsAppended, IsCommit, IsItemOf, IsRefused, Stays, item_at, place_of};
     ghost use Rattle.commit_head.specs.Journals.{first_state};
 
     /// A head with book 0 and no item. The error is want of memory.
@@ -84,7 +84,8 @@ impl Head {
         })
     }
 
-    /// The window on which works begin. Takes no memory. The number of its newest version is within the limit on commits.
+    /// The window on which works begin. Takes no memory. The number of its newest version is within the limit on commits, and
+    /// there is a journal that leads to it.
     pub fn window(&self) -> &Window
         ensures window { result.now ≡ self.now.window }
         ensures low { self.now.window.newest.number ≤ 2 ^ 48 }
@@ -124,7 +125,7 @@ impl Head {
         requires began { BeganOn work.now.base self.old }
         ensures stays { Stays self.old self.new }
         ensures fits { IfOk result (Fits self.new) }
-        ensures of_work { IfOk result (λ prepared. IsOf seat call work.now.batch prepared.item) }
+        ensures of_work { IfOk result (λ prepared. IsItemOf seat call work.now prepared.item) }
         ensures refused { IfErr result (IsRefused self.old work.now) }
     {
         let prepared = self.prepared(seat, call, work)?;
@@ -176,7 +177,7 @@ impl Head {
         requires domain { work.now.batch.domain ≡ self.now.window.newest.domain }
         requires began { BeganOn work.now.base self.now }
         ensures goes { IfOk result (Goes self.now.window.newest) }
-        ensures of_work { IfOk result (λ prepared. IsOf seat call work.now.batch prepared.item) }
+        ensures of_work { IfOk result (λ prepared. IsItemOf seat call work.now prepared.item) }
         ensures refused { IfErr result (IsRefused self.now work.now) }
     {
         let newest = self.window().newest();

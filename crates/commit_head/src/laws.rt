@@ -3,12 +3,17 @@
 //! Each function does nothing. What it ensures is a law of the definitions, stated in `specs/Laws.antt`; a caller
 //! that calls it may rest on the law.
 
-ghost use Rattle.commit_head.specs.Laws.{BeganGoesOn, BeganHere, BeganStays, ItemsFollow, JournalGoesOn, JournalIsLawful, JournalLast, JournalStays, WholeJournal};
+ghost use Rattle.commit_head.specs.Laws.{BeganGoesOn, BeganHere, BeganInside, BeganKept, BeganStays, ItemsFollow, JoinsOnBooks, JournalBegins, JournalGoesOn, JournalIsLawful, JournalKept, JournalLast, JournalStays, LeadsInParts, LeadsToOne, WholeJournal};
 
 /// What a head's journal says of its versions and of the plain book.
 pub fn journals()
     ensures follow { ItemsFollow }
+    ensures parts { LeadsInParts }
+    ensures one { LeadsToOne }
+    ensures begins { JournalBegins }
+    ensures remains { JournalKept }
     ensures goes_on { JournalGoesOn }
+    ensures on_books { JoinsOnBooks }
     ensures stays { JournalStays }
     ensures whole { WholeJournal }
     ensures last { JournalLast }
@@ -18,6 +23,8 @@ pub fn journals()
 /// How the version on which a work began stays an earlier one of a head's history.
 pub fn begun()
     ensures here { BeganHere }
+    ensures inside { BeganInside }
+    ensures remains { BeganKept }
     ensures goes_on { BeganGoesOn }
     ensures stays { BeganStays }
 {}

@@ -2,7 +2,7 @@
 //!
 //! A batch was run on an older version, and touched nothing that is shared. A head takes its work: where no batch that was
 //! committed since then wrote what the work has read, the work's replies and writes are those of the plain book on the newest
-//! version, and the head adds the book after them; or a limit doesn't let it in. Else it is a conflict, and nothing changes.
+//! version, and the head adds the book after them; or a limit doesn't let it in. Else it may be a conflict, and nothing changes.
 //!
 //! - [`Head`]: the one place where the book changes: the window that is handed to those who begin, and the journal.
 //! - [`Item`]: what the journal has of one commit: seat, call, batch, replies and writes.

@@ -5,7 +5,7 @@ ghost use Rattle.entry_book.specs.Laws.{IsWithinLimits};
 ghost use Rattle.entry_book.specs.Limits.{limit_passed};
 ghost use Rattle.version_book.specs.CommittedRows.{book_of};
 ghost use Rattle.batch_work.specs.Working.{status_of};
-ghost use Rattle.commit_head.specs.Heads.{BeganBefore, Goes, IsOf, IsRefusal};
+ghost use Rattle.commit_head.specs.Heads.{BeganBefore, Goes, IsItemOf, IsRefusal};
 
 use crate::check::is_conflict;
 use crate::commit::Commit;
@@ -70,7 +70,7 @@ pub(crate) fn prepared(
     requires within { IsWithinLimits (book_of newest.now.rows) }
     requires low { newest.now.number ≤ 2 ^ 48 }
     ensures goes { IfOk result (Goes newest.now) }
-    ensures of_work { IfOk result (λ prepared. IsOf seat call work.now.batch prepared.item) }
+    ensures of_work { IfOk result (λ prepared. IsItemOf seat call work.now prepared.item) }
     ensures refused { IfErr result (IsRefusal newest.now kept.now work.now) }
 {
     let _ = work.batch().ops();

@@ -1,6 +1,18 @@
-use Rattle.commit_head.proofs.Begun.{journal_stays}
-use Rattle.commit_head.proofs.Journals.{items_follow, journal_goes_on, journal_is_lawful, journal_last, whole_journal}
+use Rattle.commit_head.proofs.Begun.{journal_kept, journal_stays}
+use Rattle.commit_head.proofs.Journals.{items_follow, joins_on_books, journal_begins, journal_goes_on, journal_is_lawful, journal_last, leads_in_parts, leads_to_one, whole_journal}
 use Rattle.commit_head.proofs.laws.journals.Goals as goal
 
 pub returns : goal.returns
-returns c = record { follow = items_follow; goes_on = journal_goes_on; stays = journal_stays; whole = whole_journal; last = journal_last; lawful = journal_is_lawful }
+returns c = record {
+  follow = items_follow;
+  parts = leads_in_parts;
+  one = leads_to_one;
+  begins = journal_begins;
+  remains = journal_kept;
+  goes_on = journal_goes_on;
+  on_books = joins_on_books;
+  stays = journal_stays;
+  whole = whole_journal;
+  last = journal_last;
+  lawful = journal_is_lawful;
+}
