@@ -4,15 +4,25 @@
 //!
 //! - `windows`: which versions a window has. `versions` makes them.
 //! - `worked`: the marks of works on small books, and their ends, told by tables. `playing` plays a table, `making` reads its
-//!   words, `telling` tells marks and replies.
-//! - `random`: long histories of random batches, which `draws` draws, beside the plain book.
+//!   words, `telling` tells marks and replies, and `details` all of a reply.
+//! - `random`: long histories of random batches, which `draws` draws, beside the plain book. What they read is compared with
+//!   what `footprints` tells over `plain_rows`.
+//! - `elsewhere`: random batches on pairs of books.
 //! - `running`: a work to its end, and the version after it.
 #![tactic(auto)]
 
 #[cfg(test)]
+mod details;
+#[cfg(test)]
 mod draws;
 #[cfg(test)]
+mod elsewhere;
+#[cfg(test)]
+mod footprints;
+#[cfg(test)]
 mod making;
+#[cfg(test)]
+mod plain_rows;
 #[cfg(test)]
 mod playing;
 #[cfg(test)]

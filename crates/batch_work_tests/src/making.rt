@@ -8,7 +8,7 @@ use std::alloc::Global;
 use std::test::Fail;
 use uuid::Uuid;
 
-fn words<'a>(alloc: Global, line: &'a str) -> Result<Vec<&'a str>, Fail> {
+pub fn words<'a>(alloc: Global, line: &'a str) -> Result<Vec<&'a str>, Fail> {
     let mut words = Vec::new(alloc);
     for word in line.split_whitespace() {
         words.push(word)?;
@@ -17,11 +17,11 @@ fn words<'a>(alloc: Global, line: &'a str) -> Result<Vec<&'a str>, Fail> {
 }
 
 /// The word at an index from 0; the empty one behind the last.
-fn word<'a>(words: &[&'a str], index: usize) -> &'a str {
+pub fn word<'a>(words: &[&'a str], index: usize) -> &'a str {
     words.get(index).copied().unwrap_or("")
 }
 
-fn number(words: &[&str], index: usize) -> Result<u64, Fail> {
+pub fn number(words: &[&str], index: usize) -> Result<u64, Fail> {
     Ok(word(words, index).parse::<u64>()?)
 }
 
@@ -83,12 +83,18 @@ fn text(alloc: Global) -> Result<Shared<Text>, Fail> {
     Ok(Shared::of(alloc, Text::of(String::new(alloc)))?)
 }
 
-/// An entry, of its number, parent, identity, selectors, expiry and domains.
+fn hint(alloc: Global, word: &str) -> Result<Shared<Text>, Fail> {
+    let text = String::from_str(alloc, word)?;
+    Ok(Shared::of(alloc, Text::of(text))?)
+}
+
+/// An entry, of its number, parent, identity, selectors, expiry and domains. Its hint and its times to live come of these.
 fn entry(alloc: Global, words: &[&str]) -> Result<Shared<NewEntry>, Fail> {
+    let expiry = number(words, 5)?;
     let parent = id(alloc, word(words, 2))?;
     let identity = id(alloc, word(words, 3))?;
     let selectors = selectors(alloc, word(words, 4))?;
-    let hint = text(alloc)?;
+    let hint = hint(alloc, word(words, 3))?;
     let domains = domains(alloc, words)?;
     let new = NewEntry {
         id: uuid(words, 1)?,
@@ -97,9 +103,9 @@ fn entry(alloc: Global, words: &[&str]) -> Result<Shared<NewEntry>, Fail> {
         selectors,
         hint,
         domains,
-        expiry: number(words, 5)?,
-        x509_svid_ttl: 0,
-        jwt_svid_ttl: 0,
+        expiry,
+        x509_svid_ttl: expiry.wrapping_mul(60),
+        jwt_svid_ttl: expiry.wrapping_mul(5),
     };
     Ok(Shared::of(alloc, new)?)
 }
@@ -178,7 +184,7 @@ fn op_of_id(id: Shared<SpiffeId>, kind: &str) -> Result<Op, Fail> {
 }
 
 /// The number behind this word, where a line begins with it.
-fn number_behind(alloc: Global, lines: &str, first: &str) -> Result<Option<u64>, Fail> {
+pub fn number_behind(alloc: Global, lines: &str, first: &str) -> Result<Option<u64>, Fail> {
     for line in lines.lines() {
         let words = words(alloc, line)?;
         if word(words.as_slice(), 0) == first {

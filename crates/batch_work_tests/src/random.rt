@@ -2,11 +2,13 @@
 
 ghost use Rattle.std.specs.Prelude.{◌≡◌, ◌<◌};
 
+use crate::details::{whole_committed_text, whole_text};
 use crate::draws::batch_text;
+use crate::footprints::{PlainHistory, footprint, no_history};
 use crate::making::{batch, trust_domain};
 use crate::playing::first_window;
 use crate::running::{begun, commit, run_to_end};
-use crate::telling::{accepted_text, reply_text};
+use crate::telling::marks_text;
 use batch_work::{Status, Window, Work};
 use entry_book::{Batch, Reply};
 use plain_book::PlainBook;
@@ -14,8 +16,8 @@ use std::alloc::Global;
 use std::process::Abort;
 use std::test::Fail;
 
-/// What has to come in some answer.
-const COMING: [&str; 22] = [
+/// What has to come in some answer, or behind them in some footprint.
+const COMING: [&str; 32] = [
     "committed at",
     "answered at",
     "repeated at",
@@ -38,20 +40,30 @@ const COMING: [&str; 22] = [
     "; page 1.",
     " next 1",
     "; none",
+    " x:1 x:2 /web ",
+    " 2 120 10 ",
+    " | similar 1",
+    " | without d1",
+    "token 1",
+    " | group n1 ",
+    " | users d1",
+    "expiring 1",
+    " | children /spire/server | children n1 | children /api | children n2 | children /web",
+    " | children n2 | bundle d1 | bundle d2",
 ];
 
 /// How often each of these came.
 #[derive(Debug, Drop)]
 struct Counts {
-    came: [u64; 22],
+    came: [u64; 32],
 }
 
 fn no_counts() -> Counts {
-    Counts { came: [0; 22] }
+    Counts { came: [0; 32] }
 }
 
 fn count(counts: &mut Counts, text: &str) {
-    for index in 0..22_usize {
+    for index in 0..32_usize {
         let holds = text.contains(COMING[index]);
         counts.came[index] = counts.came[index].wrapping_add(u64::from(holds));
     }
@@ -79,25 +91,43 @@ fn plain_text(alloc: Global, book: &mut PlainBook, batch: &Batch) -> Result<Stri
         return Err(Fail::from("another trust domain"));
     }
     let reply = run(book, batch)?;
-    reply_text(alloc, &reply)
+    whole_text(alloc, reply.place, &reply.outcome)
 }
 
 /// What the work has come to, told as the plain book's reply: one that is ready is committed at this place.
 fn work_text(alloc: Global, work: &Work, place: u64) -> Result<String, Fail> {
     if let Some(reply) = work.reply() {
-        return reply_text(alloc, reply.get());
+        let reply = reply.get();
+        return whole_text(alloc, reply.place, &reply.outcome);
     }
     match work.replies() {
-        Some(replies) => accepted_text(alloc, "committed", place, replies.get().as_slice()),
+        Some(replies) => whole_committed_text(alloc, place, replies.get().as_slice()),
         None => Err(Fail::from("neither ready nor settled")),
     }
 }
 
 /// The work of a batch on the window, at its end.
-fn ended(alloc: Global, window: &Window, text: &str) -> Result<Work, Fail> {
+pub fn ended(alloc: Global, window: &Window, text: &str) -> Result<Work, Fail> {
     let mut work = begun(alloc, window, batch(alloc, text)?)?;
     drop(run_to_end(alloc, &mut work)?);
     Ok(work)
+}
+
+/// The work has read what is told by hand.
+fn reads_as_told(
+    rt: &impl Abort,
+    alloc: Global,
+    history: &mut PlainHistory,
+    place: u64,
+    work: &Work,
+    text: &str,
+    counts: &mut Counts,
+) -> Result<(), Fail> {
+    let got = marks_text(alloc, work.marks())?;
+    let want = footprint(alloc, history, place, text)?;
+    assert_eq!(rt; got.as_str(), want.as_str(), "{text}");
+    count(counts, got.as_str());
+    Ok(())
 }
 
 /// Runs a batch on both, and pushes the next version where it is ready.
@@ -106,11 +136,14 @@ fn round(
     alloc: Global,
     window: &mut Window,
     book: &mut PlainBook,
+    history: &mut PlainHistory,
     text: &str,
     counts: &mut Counts,
 ) -> Result<(), Fail> {
     let work = ended(alloc, window, text)?;
-    let next = window.newest().number().wrapping_add(1);
+    let place = window.newest().number();
+    reads_as_told(rt, alloc, history, place, &work, text, counts)?;
+    let next = place.wrapping_add(1);
     let got = work_text(alloc, &work, next)?;
     let want = plain_text(alloc, book, work.batch())?;
     assert_eq!(rt; got.as_str(), want.as_str(), "{text}");
@@ -127,12 +160,13 @@ fn rounds(
     alloc: Global,
     window: &mut Window,
     book: &mut PlainBook,
+    history: &mut PlainHistory,
     counts: &mut Counts,
 ) -> Result<(), Fail> {
     let mut state = 7;
     for _ in 0..1200_u64 {
         let text = batch_text(alloc, &mut state, window.newest().number())?;
-        round(rt, alloc, window, book, text.as_str(), counts)?;
+        round(rt, alloc, window, book, history, text.as_str(), counts)?;
     }
     Ok(())
 }
@@ -145,8 +179,16 @@ fn all_came(counts: &Counts) -> bool {
 fn random_batches_come_to_what_the_plain_book_answers(rt: HostRuntime) -> Result<(), Fail> {
     let mut window = first_window(rt.alloc())?;
     let mut book = plain_book(rt.alloc())?;
+    let mut history = no_history(rt.alloc());
     let mut counts = no_counts();
-    rounds(&rt, rt.alloc(), &mut window, &mut book, &mut counts)?;
+    rounds(
+        &rt,
+        rt.alloc(),
+        &mut window,
+        &mut book,
+        &mut history,
+        &mut counts,
+    )?;
     assert_eq!(rt; window.newest().number(), book.place());
     assert!(rt; all_came(&counts), "{counts:?}");
     Ok(())

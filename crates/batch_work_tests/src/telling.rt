@@ -22,7 +22,7 @@ fn path<'a>(id: &'a SpiffeId) -> &'a str {
     text.strip_prefix("spiffe://ex.org").unwrap_or(text)
 }
 
-fn of_number(alloc: Global, kind: &str, id: &Uuid) -> Result<String, Fail> {
+pub fn of_number(alloc: Global, kind: &str, id: &Uuid) -> Result<String, Fail> {
     let number = number_of(id);
     Ok(format!(in alloc; "{kind} {number}")?)
 }
@@ -198,11 +198,10 @@ fn refused_text(alloc: Global, place: u64, code: &str, op: Option<usize>) -> Res
     }
 }
 
-/// A reply: what became of the batch, its place, and the replies to the operations, or the code of the refusal and the index
-/// of the operation refused.
-pub fn reply_text(alloc: Global, reply: &Reply) -> Result<String, Fail> {
-    let place = reply.place;
-    match &reply.outcome {
+/// What became of the batch, its place, and the replies to the operations, or the code of the refusal and the index of the
+/// operation refused.
+pub fn outcome_text(alloc: Global, place: u64, outcome: &Outcome) -> Result<String, Fail> {
+    match outcome {
         Outcome::Committed(replies) => {
             accepted_text(alloc, "committed", place, replies.get().as_slice())
         }
@@ -214,4 +213,8 @@ pub fn reply_text(alloc: Global, reply: &Reply) -> Result<String, Fail> {
         }
         Outcome::Refused(refusal) => refused_text(alloc, place, refusal.code(), refusal.op()),
     }
+}
+
+pub fn reply_text(alloc: Global, reply: &Reply) -> Result<String, Fail> {
+    outcome_text(alloc, reply.place, &reply.outcome)
 }

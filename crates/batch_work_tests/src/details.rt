@@ -1,0 +1,116 @@
+//! What `telling` leaves out of replies, told as text: all fields of entries, and the details of refusals.
+
+use crate::telling::{accepted_text, of_number, outcome_text};
+use entry_book::{Entry, OpRefusal, OpReply, Outcome, Refusal};
+use std::alloc::Global;
+use std::test::Fail;
+
+fn add_word(text: &mut String, word: &str) -> Result<(), Fail> {
+    text.push_str(" ")?;
+    text.push_str(word)?;
+    Ok(())
+}
+
+fn add_selectors(text: &mut String, entry: &Entry) -> Result<(), Fail> {
+    for selector in entry.selectors().get().as_slice() {
+        add_word(text, selector.as_str())?;
+    }
+    Ok(())
+}
+
+fn add_domains(text: &mut String, entry: &Entry) -> Result<(), Fail> {
+    for domain in entry.domains().as_slice() {
+        add_word(text, domain.get().as_str())?;
+    }
+    Ok(())
+}
+
+fn add_number(alloc: Global, text: &mut String, number: u64) -> Result<(), Fail> {
+    let word = format!(in alloc; "{number}")?;
+    add_word(text, word.as_str())
+}
+
+fn add_numbers(alloc: Global, text: &mut String, entry: &Entry) -> Result<(), Fail> {
+    add_number(alloc, text, entry.expiry())?;
+    add_number(alloc, text, entry.x509_svid_ttl())?;
+    add_number(alloc, text, entry.jwt_svid_ttl())?;
+    add_number(alloc, text, entry.revision())
+}
+
+/// Adds all fields of an entry.
+fn add_entry(alloc: Global, text: &mut String, entry: &Entry) -> Result<(), Fail> {
+    text.push_str(of_number(alloc, " | whole", entry.id())?.as_str())?;
+    add_word(text, entry.parent().get().as_str())?;
+    add_word(text, entry.identity().get().as_str())?;
+    add_selectors(text, entry)?;
+    add_word(text, entry.hint().get().as_str())?;
+    add_domains(text, entry)?;
+    add_numbers(alloc, text, entry)
+}
+
+fn add_entries(alloc: Global, text: &mut String, entries: &[Entry]) -> Result<(), Fail> {
+    for entry in entries {
+        add_entry(alloc, text, entry)?;
+    }
+    Ok(())
+}
+
+/// Adds all fields of the entries of a reply.
+fn add_op_reply(alloc: Global, text: &mut String, reply: &OpReply) -> Result<(), Fail> {
+    match reply {
+        OpReply::Entry(entry) | OpReply::EntryShown(Some(entry)) => add_entry(alloc, text, entry),
+        OpReply::Entries(entries) | OpReply::Page(entries, _) => {
+            add_entries(alloc, text, entries.as_slice())
+        }
+        _ => Ok(()),
+    }
+}
+
+fn add_op_replies(alloc: Global, text: &mut String, replies: &[OpReply]) -> Result<(), Fail> {
+    for reply in replies {
+        add_op_reply(alloc, text, reply)?;
+    }
+    Ok(())
+}
+
+/// Adds the detail of a refusal, where it has one.
+fn add_detail(alloc: Global, text: &mut String, refusal: &Refusal) -> Result<(), Fail> {
+    match refusal {
+        Refusal::OfOp(_, OpRefusal::Similar(id)) => {
+            text.push_str(of_number(alloc, " | similar", id)?.as_str())?;
+        }
+        Refusal::OfOp(_, OpRefusal::NoBundle(domain)) => {
+            text.push_str(" | without")?;
+            add_word(text, domain.get().as_str())?;
+        }
+        _ => {}
+    }
+    Ok(())
+}
+
+fn add_outcome(alloc: Global, text: &mut String, outcome: &Outcome) -> Result<(), Fail> {
+    match outcome {
+        Outcome::Committed(replies) | Outcome::Answered(replies) | Outcome::Repeated(replies) => {
+            add_op_replies(alloc, text, replies.get().as_slice())
+        }
+        Outcome::Refused(refusal) => add_detail(alloc, text, refusal),
+    }
+}
+
+/// All that became of a batch, at this place.
+pub fn whole_text(alloc: Global, place: u64, outcome: &Outcome) -> Result<String, Fail> {
+    let mut text = outcome_text(alloc, place, outcome)?;
+    add_outcome(alloc, &mut text, outcome)?;
+    Ok(text)
+}
+
+/// All that becomes of a batch that is committed at this place.
+pub fn whole_committed_text(
+    alloc: Global,
+    place: u64,
+    replies: &[OpReply],
+) -> Result<String, Fail> {
+    let mut text = accepted_text(alloc, "committed", place, replies)?;
+    add_op_replies(alloc, &mut text, replies)?;
+    Ok(text)
+}

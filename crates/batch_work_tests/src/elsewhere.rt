@@ -1,0 +1,159 @@
+//! A batch is run alike on two books that differ outside of what it reads.
+
+use crate::details::{whole_committed_text, whole_text};
+use crate::draws::batch_text;
+use crate::playing::first_window;
+use crate::random::ended;
+use crate::running::commit;
+use crate::telling::marks_text;
+use batch_work::{Status, Window, Work};
+use std::alloc::Global;
+use std::process::Abort;
+use std::test::Fail;
+use version_book::{Changes, Mark};
+
+/// How many pairs of books were found that differ outside of what a batch reads, and how many others on which the batch was run
+/// in two ways.
+#[derive(Clone, Copy, Debug, Drop)]
+struct Pairs {
+    alike: u64,
+    different: u64,
+}
+
+/// Is the run that of the book alone, whatever the place? Neither that of a batch that waits for a place is, nor that of a page of
+/// an earlier book.
+fn is_of_book(work: &Work, place: u64) -> bool {
+    work.batch().past_place().is_none() && work.batch().after() <= place
+}
+
+/// Is none of these marks hit?
+fn are_spared(marks: &[Mark], changes: &Changes) -> bool {
+    for mark in marks {
+        if changes.hits(mark) {
+            return false;
+        }
+    }
+    true
+}
+
+/// All that the work came to, places aside.
+fn placeless_text(alloc: Global, work: &Work) -> Result<String, Fail> {
+    if let Some(reply) = work.reply() {
+        return whole_text(alloc, 0, &reply.get().outcome);
+    }
+    match work.replies() {
+        Some(replies) => whole_committed_text(alloc, 0, replies.get().as_slice()),
+        None => Err(Fail::from("neither ready nor settled")),
+    }
+}
+
+/// What the work read and came to, places aside.
+fn run_text(alloc: Global, work: &Work) -> Result<String, Fail> {
+    let mut text = marks_text(alloc, work.marks())?;
+    text.push_str(" => ")?;
+    text.push_str(placeless_text(alloc, work)?.as_str())?;
+    Ok(text)
+}
+
+/// What the batch of a text reads and comes to on the window, places aside.
+fn text_on(alloc: Global, window: &Window, text: &str) -> Result<String, Fail> {
+    let work = ended(alloc, window, text)?;
+    run_text(alloc, &work)
+}
+
+/// Does the other work, which began on the same version, spare what this one read?
+fn is_spared(work: &Work, other: &Work, place: u64) -> bool {
+    is_of_book(work, place) && are_spared(work.marks(), other.changes())
+}
+
+/// Commits the batch of a work where it is ready. Is it?
+fn commits(window: &mut Window, work: &Work) -> Result<bool, Fail> {
+    if work.status() != Status::Ready {
+        return Ok(false);
+    }
+    commit(window, work)?;
+    Ok(true)
+}
+
+/// Runs another batch on the version of a work, and commits it where it is ready. Has it spared what the work read?
+fn commits_elsewhere(
+    alloc: Global,
+    window: &mut Window,
+    work: &Work,
+    other: &str,
+) -> Result<bool, Fail> {
+    let other = ended(alloc, window, other)?;
+    let is_spared = is_spared(work, &other, window.newest().number());
+    let is_ready = commits(window, &other)?;
+    Ok(is_ready && is_spared)
+}
+
+/// Compares the work of a batch with its run on the newest version.
+fn compare(
+    rt: &impl Abort,
+    alloc: Global,
+    window: &Window,
+    work: &Work,
+    text: &str,
+    is_spared: bool,
+    pairs: &mut Pairs,
+) -> Result<(), Fail> {
+    let old = run_text(alloc, work)?;
+    let new = text_on(alloc, window, text)?;
+    if is_spared {
+        assert_eq!(rt; new.as_str(), old.as_str(), "{text}");
+        pairs.alike = pairs.alike.wrapping_add(1);
+    } else if new != old {
+        pairs.different = pairs.different.wrapping_add(1);
+    }
+    Ok(())
+}
+
+/// Runs a batch on the newest version, and on the one after another batch.
+fn pair(
+    rt: &impl Abort,
+    alloc: Global,
+    window: &mut Window,
+    text: &str,
+    other: &str,
+    pairs: &mut Pairs,
+) -> Result<(), Fail> {
+    let work = ended(alloc, window, text)?;
+    let is_spared = commits_elsewhere(alloc, window, &work, other)?;
+    compare(rt, alloc, window, &work, text, is_spared, pairs)
+}
+
+/// One pair of random batches.
+fn random_pair(
+    rt: &impl Abort,
+    alloc: Global,
+    window: &mut Window,
+    state: &mut u64,
+    pairs: &mut Pairs,
+) -> Result<(), Fail> {
+    let place = window.newest().number();
+    let text = batch_text(alloc, state, place)?;
+    let other = batch_text(alloc, state, place)?;
+    pair(rt, alloc, window, text.as_str(), other.as_str(), pairs)
+}
+
+/// So many pairs, one after another.
+fn random_pairs(rt: &impl Abort, alloc: Global, window: &mut Window) -> Result<Pairs, Fail> {
+    let mut state = 11;
+    let mut pairs = Pairs {
+        alike: 0,
+        different: 0,
+    };
+    for _ in 0..1500_u64 {
+        random_pair(rt, alloc, window, &mut state, &mut pairs)?;
+    }
+    Ok(pairs)
+}
+
+#[test]
+fn a_batch_runs_alike_on_books_that_differ_elsewhere(rt: HostRuntime) -> Result<(), Fail> {
+    let mut window = first_window(rt.alloc())?;
+    let pairs = random_pairs(&rt, rt.alloc(), &mut window)?;
+    assert!(rt; 100 <= pairs.alike && 30 <= pairs.different, "{pairs:?}");
+    Ok(())
+}

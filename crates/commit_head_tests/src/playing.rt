@@ -1,0 +1,144 @@
+//! Histories on a desk, told by a table.
+
+use crate::desk::Desk;
+use crate::making::{batch, number, trust_domain, word, words};
+use crate::telling::{commit_text, item_text};
+use commit_head::Commit;
+use std::alloc::Global;
+use std::process::Abort;
+use std::test::Fail;
+
+pub fn first_desk(alloc: Global) -> Result<Desk, Fail> {
+    Desk::new(alloc, trust_domain(alloc, "ex.org")?)
+}
+
+/// Begins a work of the batch that a text tells, which has to be ready in the end.
+fn begins(alloc: Global, desk: &mut Desk, text: &str) -> Result<(), Fail> {
+    let batch = batch(alloc, text)?;
+    if !desk.begin(alloc, batch)? {
+        return Err(Fail::from("not ready"));
+    }
+    Ok(())
+}
+
+/// What became of the work that began last, committed for seat 0.
+fn commits_last(desk: &mut Desk, call: u64) -> Result<Commit, Fail> {
+    let (commit, _) = desk.commit(desk.waiting().wrapping_sub(1), 0, call)?;
+    Ok(commit)
+}
+
+/// Begins a batch and commits it at once, which has to come about.
+fn goes_on(alloc: Global, desk: &mut Desk, text: &str) -> Result<(), Fail> {
+    begins(alloc, desk, text)?;
+    match commits_last(desk, desk.head().place())? {
+        Commit::Committed(_) => Ok(()),
+        _ => Err(Fail::from("not committed")),
+    }
+}
+
+/// The same batch, so many times one after another.
+fn goes_on_often(alloc: Global, desk: &mut Desk, times: u64, text: &str) -> Result<(), Fail> {
+    for _ in 0..times {
+        goes_on(alloc, desk, text)?;
+    }
+    Ok(())
+}
+
+/// The seat that the second word tells.
+fn seat(words: &[&str]) -> Result<u32, Fail> {
+    Ok(word(words, 1).parse::<u32>()?)
+}
+
+/// What became of the work at an index, for a seat and a call: these three are words of a text.
+fn commits(alloc: Global, desk: &mut Desk, text: &str) -> Result<String, Fail> {
+    let words = words(alloc, text)?;
+    let (index, seat) = (number(words.as_slice(), 0)?, seat(words.as_slice())?);
+    let call = number(words.as_slice(), 2)?;
+    let (commit, _) = desk.commit(index as usize, seat, call)?;
+    commit_text(alloc, &commit)
+}
+
+/// The same, in two calls.
+fn commits_in_two(alloc: Global, desk: &mut Desk, text: &str) -> Result<String, Fail> {
+    let words = words(alloc, text)?;
+    let (index, seat) = (number(words.as_slice(), 0)?, seat(words.as_slice())?);
+    let call = number(words.as_slice(), 2)?;
+    let (commit, same) = desk.commit_in_two(index as usize, seat, call)?;
+    if !same {
+        return Err(Fail::from("prepare has changed the head"));
+    }
+    commit_text(alloc, &commit)
+}
+
+fn number_text(alloc: Global, number: u64) -> Result<String, Fail> {
+    Ok(format!(in alloc; "{number}")?)
+}
+
+fn item(alloc: Global, desk: &Desk, text: &str) -> Result<String, Fail> {
+    match desk.head().item(text.parse::<u64>()?) {
+        Some(item) => item_text(alloc, item),
+        None => Ok(String::from_str(alloc, "none")?),
+    }
+}
+
+/// Place, count of items kept, and the number of the newest version.
+fn state_text(alloc: Global, desk: &Desk) -> Result<String, Fail> {
+    let (place, kept) = (desk.head().place(), desk.head().kept());
+    let newest = desk.head().window().newest().number();
+    Ok(format!(in alloc; "place {place} kept {kept} newest {newest}")?)
+}
+
+fn answer(alloc: Global, desk: &mut Desk, question: &str) -> Result<String, Fail> {
+    if let Some(text) = question.strip_prefix("COMMIT ") {
+        return commits(alloc, desk, text);
+    }
+    if let Some(text) = question.strip_prefix("PREPARE AND FINISH ") {
+        return commits_in_two(alloc, desk, text);
+    }
+    if let Some(text) = question.strip_prefix("ITEM ") {
+        return item(alloc, desk, text);
+    }
+    match question {
+        "HEAD" => state_text(alloc, desk),
+        "CHECKPOINT" => number_text(alloc, desk.checkpoint()),
+        _ => Err(Fail::from("no such question")),
+    }
+}
+
+/// A line with no answer: `BEGIN` and a batch, `AGAIN`, a number and a batch, or a batch alone.
+fn runs(alloc: Global, desk: &mut Desk, line: &str) -> Result<(), Fail> {
+    if let Some(text) = line.strip_prefix("BEGIN ") {
+        return begins(alloc, desk, text);
+    }
+    let Some(text) = line.strip_prefix("AGAIN ") else {
+        return goes_on(alloc, desk, line);
+    };
+    match text.split_once(" ") {
+        Some((times, text)) => goes_on_often(alloc, desk, times.parse::<u64>()?, text),
+        None => Err(Fail::from("no such line")),
+    }
+}
+
+/// Plays a line of a table.
+fn plays_line(rt: &impl Abort, alloc: Global, desk: &mut Desk, line: &str) -> Result<(), Fail> {
+    if let Some((question, want)) = line.split_once(" => ") {
+        let got = answer(alloc, desk, question)?;
+        assert_eq!(rt; got.as_str(), want, "{line}");
+    } else if !line.is_empty() {
+        runs(alloc, desk, line)?;
+    }
+    Ok(())
+}
+
+/// Plays a table, from the empty book on. `BEGIN` begins a work, which waits behind the others. A question and its answer stand in
+/// a line with ` => ` between them: `COMMIT` and `PREPARE AND FINISH`, with an index from 0 among the works that wait, a seat and a
+/// call, ask what becomes of that work, which then waits no longer; `ITEM` asks for an item of the journal, `HEAD` for place,
+/// journal and window, `CHECKPOINT` for how many items it drops. `AGAIN` and a number begin and commit a batch so many times, and
+/// each other line that isn't empty tells a batch that is begun and committed at once.
+pub fn plays(rt: &impl Abort, alloc: Global, table: &str) -> Result<(), Fail> {
+    let mut desk = first_desk(alloc)?;
+    for line in table.lines() {
+        plays_line(rt, alloc, &mut desk, line)?;
+    }
+    Ok(())
+}

@@ -1,0 +1,235 @@
+//! Random batches, many of which are under way at once: what commits is what the plain book commits, and what is refused was
+//! hit by a commit since.
+
+ghost use Rattle.std.specs.Prelude.{◌≡◌};
+
+use crate::desk::Desk;
+use crate::draws::{batch_text, below};
+use crate::making::{batch, trust_domain};
+use crate::playing::first_desk;
+use crate::telling::{accepted_text, reply_text};
+use batch_work::Work;
+use commit_head::{Commit, Head, Item};
+use entry_book::{Batch, Reply};
+use plain_book::PlainBook;
+use std::alloc::Global;
+use std::process::Abort;
+use std::test::Fail;
+use version_book::Mark;
+
+/// How many works were committed, and refused after up to 63 other commits, and after more.
+#[derive(Debug, Drop)]
+struct Counts {
+    committed: u64,
+    conflicts: u64,
+    late_conflicts: u64,
+}
+
+fn no_counts() -> Counts {
+    Counts {
+        committed: 0,
+        conflicts: 0,
+        late_conflicts: 0,
+    }
+}
+
+fn plain_book(alloc: Global) -> Result<PlainBook, Fail> {
+    Ok(PlainBook::new(alloc, trust_domain(alloc, "ex.org")?)?)
+}
+
+/// The plain book's reply. A run that is refused memory has changed nothing, and is made again.
+fn run(book: &mut PlainBook, batch: &Batch) -> Result<Reply, Fail>
+    requires { batch.now.domain ≡ book.old.domain }
+{
+    let found = book.place();
+    match book.run(batch) {
+        Ok(reply) => Ok(reply),
+        Err(_) if book.place() == found => Ok(book.run(batch)?),
+        Err(_) => Err(Fail::from("changed without memory")),
+    }
+}
+
+/// What the plain book answers, told as text.
+fn plain_text(alloc: Global, book: &mut PlainBook, batch: &Batch) -> Result<String, Fail> {
+    if batch.domain() != book.domain() {
+        return Err(Fail::from("another trust domain"));
+    }
+    let reply = run(book, batch)?;
+    reply_text(alloc, &reply)
+}
+
+/// The item of this number, which has to be kept.
+fn kept_item<'a>(head: &'a Head, number: u64) -> Result<&'a Item, Fail> {
+    match head.item(number) {
+        Some(item) => Ok(item),
+        None => Err(Fail::from("no such item")),
+    }
+}
+
+/// The committed batch of this number is one that the plain book commits, with the same replies.
+fn is_as_told(
+    rt: &impl Abort,
+    alloc: Global,
+    head: &Head,
+    book: &mut PlainBook,
+    number: u64,
+) -> Result<(), Fail> {
+    let item = kept_item(head, number)?;
+    let want = plain_text(alloc, book, &item.batch)?;
+    let got = accepted_text(alloc, "committed", number, item.replies.get().as_slice())?;
+    assert_eq!(rt; got.as_str(), want.as_str());
+    Ok(())
+}
+
+/// Does a write of the item hit one of the marks?
+fn hits_one(item: &Item, marks: &[Mark]) -> bool {
+    marks.iter().any(|mark| item.changes.hits(mark))
+}
+
+/// Does a write of one of the items behind the first number, up to the last one, hit one of the marks?
+fn is_hit(head: &Head, first: u64, last: u64, marks: &[Mark]) -> Result<bool, Fail> {
+    let mut hit = false;
+    for number in first..last {
+        let item = kept_item(head, number.wrapping_add(1))?;
+        hit = hits_one(item, marks) || hit;
+    }
+    Ok(hit)
+}
+
+/// The number of the version on which the work began.
+fn base_number(work: &Work) -> Result<u64, Fail> {
+    match work.base() {
+        Some(base) => Ok(base.number()),
+        None => Err(Fail::from("not begun")),
+    }
+}
+
+/// Where at most 63 batches were committed between the work's begin and the book of this number, it is a conflict exactly if one
+/// of them wrote what the work has read. Were they so few?
+fn is_due(
+    rt: &impl Abort,
+    head: &Head,
+    work: &Work,
+    last: u64,
+    conflict: bool,
+) -> Result<bool, Fail> {
+    let first = base_number(work)?;
+    if last.wrapping_sub(first) > 63 {
+        return Ok(false);
+    }
+    assert_eq!(rt; is_hit(head, first, last, work.marks())?, conflict);
+    Ok(true)
+}
+
+/// Holds what became of a work against the plain book, and against the commits since its begin.
+fn holds(
+    rt: &impl Abort,
+    alloc: Global,
+    head: &Head,
+    book: &mut PlainBook,
+    commit: &Commit,
+    work: &Work,
+    counts: &mut Counts,
+) -> Result<(), Fail> {
+    match commit {
+        Commit::Committed(number) => {
+            counts.committed = counts.committed.wrapping_add(1);
+            is_due(rt, head, work, number.wrapping_sub(1), false)?;
+            is_as_told(rt, alloc, head, book, *number)
+        }
+        Commit::Conflict(place) => {
+            assert_eq!(rt; *place, head.place());
+            let few = is_due(rt, head, work, *place, true)?;
+            counts.conflicts = counts.conflicts.wrapping_add(u64::from(few));
+            counts.late_conflicts = counts.late_conflicts.wrapping_add(u64::from(!few));
+            Ok(())
+        }
+        _ => Err(Fail::from("neither committed nor a conflict")),
+    }
+}
+
+/// Begins a work of a random batch; one that awaits no commit doesn't stay.
+fn begins_one(alloc: Global, desk: &mut Desk, state: &mut u64) -> Result<(), Fail> {
+    let text = batch_text(alloc, state, desk.head().place())?;
+    desk.begin(alloc, batch(alloc, text.as_str())?)?;
+    Ok(())
+}
+
+/// Commits one of the works that wait.
+fn commits_one(
+    rt: &impl Abort,
+    alloc: Global,
+    desk: &mut Desk,
+    book: &mut PlainBook,
+    index: usize,
+    counts: &mut Counts,
+) -> Result<(), Fail> {
+    let (commit, work) = desk.commit(index, 0, 0)?;
+    holds(rt, alloc, desk.head(), book, &commit, &work, counts)
+}
+
+/// The index of one of so many works, three times of four of the one that began last: the others get old.
+fn index_of_one(state: &mut u64, count: usize) -> usize {
+    if count == 0 {
+        return 0;
+    }
+    if below(state, 4) > 0 {
+        return count - 1;
+    }
+    below(state, count as u64)
+}
+
+/// So many random steps, each a begin or a commit, with at most so many works that wait. Then the journal is cut.
+fn rounds(
+    rt: &impl Abort,
+    alloc: Global,
+    desk: &mut Desk,
+    book: &mut PlainBook,
+    state: &mut u64,
+    most: usize,
+    counts: &mut Counts,
+) -> Result<(), Fail> {
+    for _ in 0..600_u64 {
+        let waiting = desk.waiting();
+        let begins = waiting < most && below(state, 8) > 0;
+        if begins || waiting == 0 {
+            begins_one(alloc, desk, state)?;
+        } else {
+            let index = index_of_one(state, waiting);
+            commits_one(rt, alloc, desk, book, index, counts)?;
+        }
+    }
+    desk.checkpoint();
+    Ok(())
+}
+
+/// Rounds with few works at once, and with many.
+fn all_rounds(
+    rt: &impl Abort,
+    alloc: Global,
+    desk: &mut Desk,
+    book: &mut PlainBook,
+    counts: &mut Counts,
+) -> Result<(), Fail> {
+    let mut state = 7;
+    for most in [1_usize, 2, 4, 100, 100, 8, 100, 4, 3] {
+        rounds(rt, alloc, desk, book, &mut state, most, counts)?;
+    }
+    Ok(())
+}
+
+fn all_came(counts: &Counts) -> bool {
+    counts.committed > 200 && counts.conflicts > 50 && counts.late_conflicts > 0
+}
+
+#[test]
+fn works_that_began_at_once_commit_as_in_the_plain_book(rt: HostRuntime) -> Result<(), Fail> {
+    let mut desk = first_desk(rt.alloc())?;
+    let mut book = plain_book(rt.alloc())?;
+    let mut counts = no_counts();
+    all_rounds(&rt, rt.alloc(), &mut desk, &mut book, &mut counts)?;
+    assert_eq!(rt; desk.head().place(), book.place());
+    assert_eq!(rt; desk.head().place(), counts.committed);
+    assert!(rt; all_came(&counts), "{counts:?}");
+    Ok(())
+}
