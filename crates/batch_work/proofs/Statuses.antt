@@ -3,6 +3,7 @@ use Rattle.std.proofs.Common.{◌≡◌, ℕ, ◌+◌, Bool, true, false, cond, 
 use Rattle.std.specs.Prelude.{nat_lt, option_map}
 use Rattle.std.proofs.lemmas.Bool.{lt-ltb, both_ways}
 use Rattle.entry_book.specs.declared.reply.OpReply.{OpReply}
+use Rattle.entry_book.specs.declared.reply.Reply.{Reply}
 use Rattle.spiffe_name.specs.Id.{server_text}
 use Rattle.entry_book.specs.Rows.{Bytes}
 use Rattle.entry_book.specs.Writes.{RowWrite}
@@ -16,7 +17,7 @@ use Rattle.batch_work.specs.declared.stage.Found.{Found}
 use Rattle.batch_work.specs.declared.stage.Found.TheVariants as found
 use Rattle.batch_work.specs.declared.stage.Stage.{Stage}
 use Rattle.batch_work.specs.declared.stage.Stage.TheVariants as stage
-use Rattle.batch_work.specs.declared.status.Status.TheVariants.{Running, Ready}
+use Rattle.batch_work.specs.declared.status.Status.TheVariants.{Running, Ready, Settled}
 use Rattle.batch_work.specs.Reads.{footprint_on, footprint_over, token_marks}
 use Rattle.batch_work.specs.Windows.{book_in}
 use Rattle.batch_work.specs.Working.{Base, version_read, footprint_there, end_status, status_on, status_from, IsAccepted, IsAcceptedOn}
@@ -79,3 +80,28 @@ ready_writes (Some begun) g batch marks changes replies h e = ready_at batch (ba
 pub ready_replies : (begun : Option Begun) (g : Stage) (batch : Batch) (marks : List MarkKind) (changes : List RowWrite) (replies all : List OpReply) → Stands begun g batch marks changes replies → g ≡ stage.Ready all → (writes : List RowWrite) × IsAcceptedOn (option_map base_of begun) batch all writes
 ready_replies None g batch marks changes replies all h e = let n : IsNew (stage.Ready all) = subst IsNew e h.0 in absurd n
 ready_replies (Some begun) g batch marks changes replies all h e = let r : IsReady batch (base_of begun) marks changes all = subst (λ g. StandsAt g batch (base_of begun) marks changes replies) e h.1 in (changes, r.accepted)
+
+-- ---- settled
+
+of_settled : (t w : Bool) → cond t Running (end_status w) ≡ Settled → (t ≡ false) × (w ≡ false)
+of_settled true w e = cc
+of_settled false true e = cc
+of_settled false false e = (refl, refl)
+
+module _ (batch : Batch) (base : Base) (marks : List MarkKind) (changes : List RowWrite) (replies : List OpReply) where
+  not_settled : nat_lt (length marks) (length (footprint_there batch base)) ≡ true → status_on batch base (length marks) ≡ Settled → ⊥
+  not_settled h e = both_ways _ (of_settled _ _ e).0 h
+
+  settled_at : (g : Stage) → StandsAt g batch base marks changes replies → ((r : Reply) → g ≡ stage.Settled r → ⊥) → status_on batch base (length marks) ≡ Settled → ⊥
+  settled_at stage.New h f e = absurd h
+  settled_at (stage.Token k) h f e = not_settled (token_more batch base marks changes replies k h.0 h.1) e
+  settled_at stage.Gone h f e = not_settled (gone_more batch base marks changes replies h.0 h.1) e
+  settled_at (stage.At n p) h f e = not_settled (left_more batch base marks changes replies n p h.at_hand h.left h.plays h.reads_are) e
+  settled_at (stage.Read m g) h f e = not_settled (found_more batch base marks changes replies m g h) e
+  settled_at (stage.Ready all) h f e = both_ways _ (of_settled _ _ e).1 h.waits
+  settled_at (stage.Settled reply) h f e = f reply refl
+
+-- a work at another stage isn't settled
+pub unsettled : (begun : Option Begun) (g : Stage) (batch : Batch) (marks : List MarkKind) (changes : List RowWrite) (replies : List OpReply) → Stands begun g batch marks changes replies → ((r : Reply) → g ≡ stage.Settled r → ⊥) → status_from (option_map base_of begun) batch (length marks) ≡ Settled → ⊥
+unsettled None g batch marks changes replies h f e = cc
+unsettled (Some begun) g batch marks changes replies h f e = settled_at batch (base_of begun) marks changes replies g h.1 f e

@@ -247,4 +247,16 @@ impl Work {
         let Work { batch, .. } = self;
         batch
     }
+
+    /// The reply to the batch, where the work is settled, to keep; the versions and all else are let go.
+    pub fn into_reply(self) -> Option<Shared<Reply>>
+        ensures settled { IsSome result ↔ (status_of self ≡ Status.Settled) }
+        ensures answer { IfSome result (λ reply. IsAnswer self reply) }
+    {
+        let Work { stage, .. } = self;
+        match stage {
+            Stage::Settled(answer) => Some(answer),
+            _ => None,
+        }
+    }
 }
