@@ -1,0 +1,17 @@
+pub mod Changed
+pub mod Decisions
+pub mod Events
+pub mod Heads
+pub mod Journal
+pub mod Line
+pub mod Lists
+pub mod Logs
+pub mod Order
+pub mod PlainBook
+pub mod Rows
+pub mod Runs
+pub mod Slots
+pub mod Sound
+pub mod Ties
+pub mod Turns
+pub mod Whole

@@ -1,0 +1,26 @@
+use Rattle.std.proofs.Common.{◌≡◌, ap, subst, ◌∙◌, rules}
+use Rattle.std.specs.Prelude.{map, filter}
+use Rattle.std.specs.List.Sorted.{IsPermutation}
+use Rattle.std.proofs.lemmas.List.Sorted.{IsNonDecreasingBy-from_sort_by_key}
+use Rattle.std.proofs.lemmas.Result.{IfOk-weaker}
+use Rattle.call_machine.specs.Calls.{State}
+use Rattle.call_machine.specs.Laws.{is_listed, turn_of, turn_in, number_in}
+use Rattle.call_machine.proofs.Whole.{headline_holds, replies_held}
+use Rattle.call_machine.proofs.machine.Machine.order.Goals as goal
+
+pub returns-clause-order : goal.returns-clause-order
+returns-clause-order c =
+    let sorted = c.sort_by_key.new.self.items in
+    let listed : c.in_ok-turns.turns.items ≡ map turn_of (filter is_listed c.args.self.now.calls) = c.in_ok-turns.ensures ∙ ap (λ (s : State). map turn_of (filter is_listed s.calls)) c.self.view_is in
+    IfOk-weaker c.numbers_of.result _ _ (λ order h. record {
+      turns = sorted;
+      listed = subst (λ l. IsPermutation l sorted) listed c.sort_by_key.ensures.permutation;
+      by_turn = IsNonDecreasingBy-from_sort_by_key turn_in sorted c.in_ok-sort_by_key.ensures.sorted (λ a r f k. search rules);
+      numbers = h ∙ ap (map number_in) c.deref.ensures.value;
+    }) c.numbers_of.ensures
+
+pub returns-clause-headline : goal.returns-clause-headline
+returns-clause-headline c = IfOk-weaker c.numbers_of.result _ _ (λ order o own events answers r. headline_holds own events answers c.args.self.now order.items r o) (returns-clause-order c)
+
+pub returns-clause-held : goal.returns-clause-held
+returns-clause-held c = IfOk-weaker c.numbers_of.result _ _ (λ order o own events answers r. replies_held own events answers c.args.self.now order.items r o) (returns-clause-order c)

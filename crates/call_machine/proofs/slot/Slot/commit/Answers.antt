@@ -1,0 +1,24 @@
+use Rattle.std.proofs.Common.{refl, ◌∙◌, ap}
+use Rattle.batch_work.specs.declared.status.Status.TheVariants.{Ready}
+use Rattle.call_machine.specs.Kept.{new_work, stage_kept}
+use Rattle.call_machine.proofs.Slots.{open_is}
+use Rattle.call_machine.proofs.slot.Slot.commit.Goals as goal
+
+pub decide-requires-clause-ready : goal.decide-requires-clause-ready
+decide-requires-clause-ready c = (open_is c.args.self.now.end c.args.self.now.work Ready c.in-Ready.ensures (λ q. cc)).1
+
+pub returns-clause-ok : goal.returns-clause-ok
+returns-clause-ok c =
+    let old = c.args.self.now in
+    let open_work = open_is old.end old.work Ready c.in-Ready.ensures (λ q. cc) in
+    let d = c.in-Some.ensures.some in
+    record {
+      base = d.base;
+      in_turn = ap (λ e. stage_kept e old.work) open_work.0 ∙ d.in_turn;
+      decided = d.decided;
+      goes_on = d.goes_on;
+      let_go = c.new.ensures ∙ ap new_work (c.in-Ok.ensures.cases ∙ c.batch.ensures);
+      invoked = refl;
+      turn_is = refl;
+      replied = refl;
+    }

@@ -1,0 +1,92 @@
+-- What a machine knows of its calls.
+use Rattle.std.specs.Prelude.{ℕ, ◌+◌, Bool, true, false, List, [], ◌∷◌, length, take, nat_eq, nat_lt, Option, Some, None, if◌then◌else◌}
+use Rattle.entry_book.specs.declared.reply.Reply.{Reply}
+use Rattle.entry_book.specs.Rows.{Bytes}
+use Rattle.entry_book.specs.Book.{Book}
+use Rattle.entry_book.specs.Batches.{Batch}
+use Rattle.entry_book.specs.History.{books_of, reply_to}
+use Rattle.batch_work.specs.Reads.{footprint_of, awaits_commit}
+use Rattle.batch_work.specs.declared.status.Status.{Status}
+use Rattle.batch_work.specs.declared.status.Status.TheVariants.{New, Running, Ready, Settled}
+use Rattle.call_machine.specs.declared.event.Told.{Told}
+use Rattle.call_machine.specs.declared.event.Told.TheVariants.{Replied, Conflicted}
+
+-- Where a call stands. Its base is the place that its begin found.
+pub data Stage : Type 0 where
+  waiting : Stage
+  -- so many of its reads are made
+  running : (base made : ℕ) → Stage
+  -- its changes await their commit
+  ready : (base : ℕ) → Stage
+  -- it is settled, or its commit was full
+  answered : Reply → Stage
+  committed : Reply → Stage
+  conflict : (place : ℕ) → Stage
+
+pub record Call : Type 0 where
+  pub number : ℕ
+  pub batch : Batch
+  pub stage : Stage
+  -- the accepted number of its invoke
+  pub invoked : ℕ
+  -- that of its begin, and once it had one of its commit; 0 before
+  pub turn : ℕ
+  -- that of its reply
+  pub replied : Option ℕ
+
+pub record State : Type 0 where
+  pub domain : Bytes
+  -- the committed batches, in order
+  pub journal : List Batch
+  -- how many events were accepted
+  pub count : ℕ
+  -- in the order of their invokes
+  pub calls : List Call
+
+abbrev pub first_state : Bytes → State
+first_state own = record { domain = own; journal = []; count = 0; calls = [] }
+
+abbrev pub call_at : ℕ → List Call → Option Call
+call_at n [] = None
+call_at n (c ∷ cs) = if nat_eq n c.number then Some c else call_at n cs
+
+-- the calls, with this one in the place of the one of its number
+abbrev pub with_call : Call → List Call → List Call
+with_call c [] = []
+with_call c (d ∷ ds) = if nat_eq c.number d.number then c ∷ ds else d ∷ with_call c ds
+
+-- one more event is accepted, and this call replaces the one of its number
+abbrev pub moved : Call → State → State
+moved c s = record s { count = s.count + 1; calls = with_call c s.calls }
+
+-- ---- stages
+
+-- what its reply tells, once it has one
+abbrev pub told_of : Stage → Option Told
+told_of waiting = None
+told_of (running base made) = None
+told_of (ready base) = None
+told_of (answered r) = Some (Replied r)
+told_of (committed r) = Some (Replied r)
+told_of (conflict n) = Some (Conflicted n)
+
+abbrev pub status_at : Stage → Status
+status_at waiting = New
+status_at (running base made) = Running
+status_at (ready base) = Ready
+status_at (answered r) = Settled
+status_at (committed r) = Settled
+status_at (conflict n) = Settled
+
+-- where a batch stands after its last read: does it await its commit, and what is its reply, if it doesn't?
+abbrev pub stage_settled : Bool → ℕ → Reply → Stage
+stage_settled true base reply = ready base
+stage_settled false base reply = answered reply
+
+-- where it stands on these books when so many of its reads are made
+abbrev pub stage_on : Batch → List Book → ℕ → ℕ → Stage
+stage_on batch books base made = if nat_lt made (length (footprint_of batch books)) then running base made else stage_settled (awaits_commit batch books) base (reply_to batch books)
+
+-- the same on the books up to its base, of these committed batches
+abbrev pub stage_after : Batch → List Batch → ℕ → ℕ → Stage
+stage_after batch journal base made = stage_on batch (books_of (take base journal)) base made

@@ -1,0 +1,209 @@
+-- What a machine's fields stand for, and what an event does to one call. For this crate's own contracts.
+use Rattle.std.specs.Prelude.{◌≡◌, ℕ, ◌+◌, ◌≤◌, Bool, true, false, ◌&&◌, ◌⊎◌, List, ◌∷◌, ◌++◌, [], map, length, take, slice_get, nat_lt, Option, Some, None, Result, Ok, Err, is_none, if◌then◌else◌}
+use Rattle.std.specs.List.{AllByRecursion}
+use Rattle.entry_book.specs.declared.limit.Limit.{Limit}
+use Rattle.entry_book.specs.declared.reply.Outcome.TheVariants.{Committed, Refused}
+use Rattle.entry_book.specs.declared.reply.Refusal.TheVariants.{Full}
+use Rattle.entry_book.specs.Rows.{Bytes}
+use Rattle.entry_book.specs.Book.{Book}
+use Rattle.entry_book.specs.Batches.{Batch, IsMadeFor}
+use Rattle.entry_book.specs.History.{books_of, commits, reply_to}
+use Rattle.version_book.specs.declared.mark.MarkKind.{MarkKind}
+use Rattle.batch_work.specs.declared.status.Status.{Status}
+use Rattle.batch_work.specs.Reads.{footprint_of, awaits_commit}
+use Rattle.batch_work.specs.Working.{Base, Work, footprint_there, awaits_there, reply_there}
+use Rattle.commit_head.specs.declared.item.Item.{Item}
+use Rattle.commit_head.specs.Heads.{Head, IsAppended, IsJournal, place_of}
+use Rattle.commit_head.specs.Journals.{Leads, batches_of, first_state}
+use Rattle.call_machine.specs.declared.event.Decision.{Decision}
+use Rattle.call_machine.specs.declared.event.Decision.TheVariants as to
+use Rattle.call_machine.specs.declared.event.Done.{Done}
+use Rattle.call_machine.specs.declared.event.Event.{Event}
+use Rattle.call_machine.specs.declared.event.EventRefusal.{EventRefusal}
+use Rattle.call_machine.specs.declared.event.EventRefusal.TheVariants.{NotNow, NoMemory}
+use Rattle.call_machine.specs.declared.slot.End.{End}
+use Rattle.call_machine.specs.declared.slot.End.TheVariants as is
+use Rattle.call_machine.specs.declared.slot.Slot.{Slot}
+use Rattle.call_machine.specs.Schedules.{Answer, IsDue}
+use Rattle.call_machine.specs.Calls.{Stage, waiting, running, ready, answered, committed, conflict, Call, State, stage_settled, stage_after, status_at}
+use Rattle.call_machine.specs.Machine.{is_waiting, is_ready, is_running, is_over}
+
+-- ---- a call
+
+-- where a work stands
+abbrev pub stage_from : Option Base → Batch → ℕ → Stage
+stage_from None batch n = waiting
+stage_from (Some base) batch n = if nat_lt n (length (footprint_there batch base)) then running base.newest.number n else stage_settled (awaits_there batch base) base.newest.number (reply_there batch base)
+
+abbrev pub stage_at_end : End → Stage
+stage_at_end (is.Answered r) = answered r
+stage_at_end (is.Committed r) = committed r
+stage_at_end (is.Conflict n) = conflict n
+
+abbrev pub stage_kept : Option End → Work → Stage
+stage_kept None w = stage_from w.base w.batch w.steps
+stage_kept (Some e) w = stage_at_end e
+
+abbrev pub stage_of_slot : Slot → Stage
+stage_of_slot slot = stage_kept slot.end slot.work
+
+abbrev pub new_work : Batch → Work
+new_work batch = record { batch = batch; base = None; steps = 0 }
+
+abbrev pub new_slot : Batch → ℕ → Slot
+new_slot batch invoked = record { work = new_work batch; end = None; invoked = invoked; turn = 0; replied = None }
+
+abbrev pub call_kept : ℕ → Slot → Call
+call_kept n slot = record { number = n; batch = slot.work.batch; stage = stage_of_slot slot; invoked = slot.invoked; turn = slot.turn; replied = slot.replied }
+
+abbrev pub calls_kept : List (ℕ × Slot) → List Call
+calls_kept es = map (λ e. call_kept e.0 e.1) es
+
+-- ---- what a work has to do with the journal
+
+-- On what it began on, the batch reads, awaits its commit and answers as on these books.
+pub record IsOn (batch : Batch) (base : Base) (books : List Book) : Type 0 where
+  pub reads : footprint_there batch base ≡ footprint_of batch books
+  pub wait : awaits_there batch base ≡ awaits_commit batch books
+  pub reply : reply_there batch base ≡ reply_to batch books
+
+-- It began on the version that the first items of the journal led to.
+pub record BeganInside (own : Bytes) (items : List Item) (batch : Batch) (base : Base) : Type 0 where
+  pub low : base.newest.number ≤ length items
+  pub leads : Leads (first_state own) (take base.newest.number items) base.newest
+  pub is_on : IsOn batch base (books_of (take base.newest.number (batches_of items)))
+
+abbrev pub BeganWithin : Bytes → List Item → Batch → ℕ → Option Base → Type 0
+BeganWithin own items batch steps None = steps ≡ 0
+BeganWithin own items batch steps (Some base) = BeganInside own items batch base
+
+-- The work's batch was made for the trust domain; it has read nothing, or it has begun inside the journal.
+pub record RestsOn (own : Bytes) (items : List Item) (w : Work) : Type 0 where
+  pub made : IsMadeFor own w.batch
+  pub began : BeganWithin own items w.batch w.steps w.base
+
+abbrev pub AllRest : Bytes → List Item → List (ℕ × Slot) → Type 0
+AllRest own items es = AllByRecursion (λ e. RestsOn own items e.1.work) es
+
+-- the head keeps its whole journal
+abbrev pub IsWhole : Head → Type 0
+IsWhole h = IsJournal h.kept h
+
+abbrev pub domain_of : Head → Bytes
+domain_of h = h.window.newest.domain
+
+abbrev pub journal_of : Head → List Batch
+journal_of h = batches_of h.kept
+
+abbrev pub state_of : Head → ℕ → List (ℕ × Slot) → State
+state_of h count es = record { domain = domain_of h; journal = journal_of h; count = count; calls = calls_kept es }
+
+-- What always holds of a machine's fields.
+pub record Holds (h : Head) (es : List (ℕ × Slot)) : Type 0 where
+  pub whole : IsWhole h
+  pub rest : AllRest (domain_of h) h.kept es
+
+-- want of memory comes only where no other refusal is due
+abbrev pub IsRefusalOr : Option EventRefusal → EventRefusal → Type 0
+IsRefusalOr due r = (due ≡ Some r) ⊎ ((due ≡ None) × (r ≡ NoMemory))
+
+-- ---- one call's events
+
+abbrev pub is_waiting_slot : Slot → Bool
+is_waiting_slot slot = is_waiting (stage_of_slot slot)
+
+abbrev pub is_running_slot : Slot → Bool
+is_running_slot slot = is_running (stage_of_slot slot)
+
+abbrev pub is_ready_slot : Slot → Bool
+is_ready_slot slot = is_ready (stage_of_slot slot)
+
+abbrev pub may_reply : Slot → Bool
+may_reply slot = is_none slot.replied && is_over (stage_of_slot slot)
+
+abbrev pub SlotRefuses : Bool → EventRefusal → Type 0
+SlotRefuses in_turn r = ((r ≡ NotNow) × (in_turn ≡ false)) ⊎ ((r ≡ NoMemory) × (in_turn ≡ true))
+
+pub record SlotBegins (h : Head) (old : Slot) (turn : ℕ) (status : Status) (later : Slot) : Type 0 where
+  pub in_turn : stage_of_slot old ≡ waiting
+  pub stage : stage_of_slot later ≡ stage_after old.work.batch (journal_of h) (length (journal_of h)) 0
+  pub told : status ≡ status_at (stage_of_slot later)
+  pub batch : later.work.batch ≡ old.work.batch
+  pub invoked : later.invoked ≡ old.invoked
+  pub turn_is : later.turn ≡ turn
+  pub replied : later.replied ≡ old.replied
+  pub rests : RestsOn (domain_of h) h.kept later.work
+
+pub record SlotSteps (own : Bytes) (items : List Item) (old : Slot) (mark : MarkKind) (status : Status) (later : Slot) : Type 0 where
+  pub base : ℕ
+  pub made : ℕ
+  pub in_turn : stage_of_slot old ≡ running base made
+  pub mark_is : slice_get (footprint_of old.work.batch (books_of (take base (batches_of items)))) made ≡ Some mark
+  pub stage : stage_of_slot later ≡ stage_after old.work.batch (batches_of items) base (made + 1)
+  pub told : status ≡ status_at (stage_of_slot later)
+  pub batch : later.work.batch ≡ old.work.batch
+  pub invoked : later.invoked ≡ old.invoked
+  pub turn : later.turn ≡ old.turn
+  pub replied : later.replied ≡ old.replied
+  pub rests : RestsOn own items later.work
+
+-- ---- a commit
+
+-- what a decision is to the machine's journal, and to the call's stage
+pub record DecidesCommitted (journal : List Batch) (batch : Batch) (decision : Decision) (place : ℕ) (stage : Stage) (after : List Batch) : Type 0 where
+  pub commits : commits batch (books_of journal) ≡ true
+  pub stage_is : stage ≡ committed (reply_to batch (books_of journal))
+  pub decision_is : decision ≡ to.Committed
+  pub place_is : place ≡ length journal + 1
+  pub journal_is : after ≡ journal ++ batch ∷ []
+
+pub record DecidesFull (journal : List Batch) (batch : Batch) (decision : Decision) (place : ℕ) (stage : Stage) (after : List Batch) : Type 0 where
+  pub limit : Limit
+  pub full : reply_to batch (books_of journal) ≡ record { place = length journal; outcome = Refused (Full limit) }
+  pub stage_is : stage ≡ answered (reply_to batch (books_of journal))
+  pub decision_is : decision ≡ to.Full limit
+  pub place_is : place ≡ length journal
+  pub journal_is : after ≡ journal
+
+pub record DecidesConflict (journal : List Batch) (batch : Batch) (base : ℕ) (decision : Decision) (place : ℕ) (stage : Stage) (after : List Batch) : Type 0 where
+  pub due : IsDue journal batch base
+  pub stage_is : stage ≡ conflict (length journal)
+  pub decision_is : decision ≡ to.Conflict
+  pub place_is : place ≡ length journal
+  pub journal_is : after ≡ journal
+
+abbrev pub Decides : List Batch → Batch → ℕ → Decision → ℕ → Stage → List Batch → Type 0
+Decides journal batch base decision place stage after = DecidesCommitted journal batch decision place stage after ⊎ (DecidesFull journal batch decision place stage after ⊎ DecidesConflict journal batch base decision place stage after)
+
+-- The head has the journal that it had, or one that goes on.
+pub record GoesOn (old new : Head) : Type 0 where
+  pub domain : domain_of new ≡ domain_of old
+  pub more : List Item
+  pub kept : new.kept ≡ old.kept ++ more
+  pub whole : IsWhole new
+
+-- A commit that was prepared is finished: the call's end has its reply, and the head its item.
+pub record Finishes (old : Head) (item : Item) (end : End) (place : ℕ) (new : Head) : Type 0 where
+  pub end_is : end ≡ is.Committed (record { place = place_of old + 1; outcome = Committed item.replies })
+  pub place_is : place ≡ place_of old + 1
+  pub appended : IsAppended old item new
+
+pub record IsDecided (old : Head) (w : Work) (end : End) (decision : Decision) (place : ℕ) (new : Head) : Type 0 where
+  pub base : ℕ
+  pub in_turn : stage_kept None w ≡ ready base
+  pub decided : Decides (journal_of old) w.batch base decision place (stage_at_end end) (journal_of new)
+  pub goes_on : GoesOn old new
+
+pub record SlotDecides (old_head : Head) (old : Slot) (turn : ℕ) (decision : Decision) (place : ℕ) (later : Slot) (head : Head) : Type 0 where
+  pub base : ℕ
+  pub in_turn : stage_of_slot old ≡ ready base
+  pub decided : Decides (journal_of old_head) old.work.batch base decision place (stage_of_slot later) (journal_of head)
+  pub goes_on : GoesOn old_head head
+  pub let_go : later.work ≡ new_work old.work.batch
+  pub invoked : later.invoked ≡ old.invoked
+  pub turn_is : later.turn ≡ turn
+  pub replied : later.replied ≡ old.replied
+
+abbrev pub with_event : Result Done EventRefusal → Event → Answer
+with_event (Ok done) event = Ok done
+with_event (Err refusal) event = Err (record { refusal = refusal; event = event })

@@ -1,0 +1,91 @@
+-- The order that a machine answers, and the laws of it and of runs. Each law is a clause of a function of the module `laws`.
+use Rattle.std.specs.Prelude.{◌≡◌, ℕ, ◌+◌, ◌<◌, ◌≤◌, Bool, true, false, ⊤, List, [], ◌∷◌, ◌++◌, filter, map, Option, Some, is_some}
+use Rattle.std.specs.List.{AllByRecursion}
+use Rattle.std.specs.List.Sorted.{IsPermutation, IsNonDecreasingBy}
+use Rattle.entry_book.specs.Rows.{Bytes}
+use Rattle.entry_book.specs.Book.{Book}
+use Rattle.entry_book.specs.History.{books_after, first_books, reply_to}
+use Rattle.call_machine.specs.declared.event.Event.{Event}
+use Rattle.call_machine.specs.declared.event.Event.TheVariants.{Invoke}
+use Rattle.call_machine.specs.declared.event.Event.TheVariants as on
+use Rattle.call_machine.specs.declared.event.Done.{Done}
+use Rattle.call_machine.specs.declared.event.Done.TheVariants.{Answered}
+use Rattle.call_machine.specs.declared.event.Told.{Told}
+use Rattle.call_machine.specs.declared.event.Told.TheVariants.{Replied}
+use Rattle.call_machine.specs.Schedules.{Answer, At, Happened, Headline, accepted}
+use Rattle.call_machine.specs.Calls.{Stage, waiting, running, ready, answered, committed, conflict, Call, State, call_at, first_state, told_of}
+use Rattle.call_machine.specs.Machine.{Applies, Runs}
+
+-- committed, or replied otherwise than by a conflict
+abbrev pub is_listed_at : Stage → Option ℕ → Bool
+is_listed_at waiting r = false
+is_listed_at (running base made) r = false
+is_listed_at (ready base) r = false
+is_listed_at (answered reply) r = is_some r
+is_listed_at (committed reply) r = true
+is_listed_at (conflict n) r = false
+
+abbrev pub is_listed : Call → Bool
+is_listed c = is_listed_at c.stage c.replied
+
+-- each before all later ones
+abbrev pub AscendingTurns : List Call → Type 0
+AscendingTurns [] = ⊤
+AscendingTurns (c ∷ cs) = AllByRecursion (λ d. c.turn < d.turn) cs × AscendingTurns cs
+
+abbrev pub number_of : Call → ℕ
+number_of c = c.number
+
+-- its place among the deciding events, with its number
+abbrev pub turn_of : Call → ℕ × ℕ
+turn_of c = (c.turn, c.number)
+
+abbrev pub turn_in : ℕ × ℕ → ℕ
+turn_in p = p.0
+
+abbrev pub number_in : ℕ × ℕ → ℕ
+number_in p = p.1
+
+-- The listed calls, in the order of their deciding events.
+pub record IsOrder (s : State) (order : List ℕ) : Type 0 where
+  pub turns : List (ℕ × ℕ)
+  pub listed : IsPermutation (map turn_of (filter is_listed s.calls)) turns
+  pub by_turn : IsNonDecreasingBy turn_in turns
+  pub numbers : order ≡ map number_in turns
+
+abbrev pub HeadlineHolds : Type 0
+HeadlineHolds = (own : Bytes) (events : List Event) (answers : List Answer) (s : State) (order : List ℕ) → Runs (first_state own) events answers s → IsOrder s order → Headline (accepted events answers) order
+
+-- ---- the accepted numbers that calls keep
+
+-- The call has the number under which its batch was handed in, and that under which it gave its answer out, once it did.
+pub record IsStamped (log : List Happened) (call : Call) : Type 0 where
+  pub invoked : (done : Done) × At log call.invoked (Invoke call.number call.batch) done
+  pub replied : (n : ℕ) → call.replied ≡ Some n → (told : Told) × (told_of call.stage ≡ Some told) × At log n (on.Reply call.number) (Answered call.number told)
+
+abbrev pub CallsAreStamped : Type 0
+CallsAreStamped = (own : Bytes) (events : List Event) (answers : List Answer) (s : State) (c : ℕ) (call : Call) → Runs (first_state own) events answers s → call_at c s.calls ≡ Some call → IsStamped (accepted events answers) call
+
+-- ---- how a run goes on
+
+-- one more event: its answer is the last
+abbrev pub RunsGoOn : Type 0
+RunsGoOn = (events : List Event) (answers : List Answer) (s t u : State) (event : Event) (answer : Answer) → Runs s events answers t → Applies t event answer u → Runs s (events ++ event ∷ []) (answers ++ answer ∷ []) u
+
+-- What one event leaves: the trust domain, and a count that is one more at most.
+pub record AreLeft (s t : State) : Type 0 where
+  pub domain : t.domain ≡ s.domain
+  pub count : t.count ≤ s.count + 1
+
+abbrev pub EventLeaves : Type 0
+EventLeaves = (s : State) (event : Event) (answer : Answer) (t : State) → Applies s event answer t → AreLeft s t
+
+-- ---- the replies that calls hold
+
+-- running the plain book through these calls' batches gives each of them the reply that the machine holds of it, given out or not
+abbrev pub HoldReplies : List Call → List Book → List ℕ → Type 0
+HoldReplies calls books [] = ⊤
+HoldReplies calls books (c ∷ cs) = (call : Call) × (call_at c calls ≡ Some call) × (told_of call.stage ≡ Some (Replied (reply_to call.batch books))) × HoldReplies calls (books_after call.batch books) cs
+
+abbrev pub RepliesHeld : Type 0
+RepliesHeld = (own : Bytes) (events : List Event) (answers : List Answer) (s : State) (order : List ℕ) → Runs (first_state own) events answers s → IsOrder s order → HoldReplies s.calls first_books order

@@ -1,0 +1,186 @@
+-- What is promised of a schedule, in the words of whoever handed it in: of the events, of what each was answered, and of the order that is answered in the end. Nothing here knows how a machine works: a reader who believes the plain book, and what a batch reads and writes, can believe this.
+use Rattle.std.specs.Prelude.{◌≡◌, ◌↔◌, ℕ, ◌+◌, ◌<◌, ◌≤◌, true, ⊤, ◌⊎◌, List, [], ◌∷◌, ◌++◌, length, take, slice_get, Some, Result, Ok, Err}
+use Rattle.std.specs.List.{AllByRecursion}
+use Rattle.entry_book.specs.declared.reply.Reply.{Reply}
+use Rattle.entry_book.specs.Order.{Within}
+use Rattle.entry_book.specs.Book.{Book}
+use Rattle.entry_book.specs.Writes.{RowWrite}
+use Rattle.entry_book.specs.Batches.{Batch}
+use Rattle.entry_book.specs.History.{first_books, last_book, books_of, books_after, reply_to, is_committed}
+use Rattle.version_book.specs.declared.mark.MarkKind.{MarkKind}
+use Rattle.version_book.specs.Marks.{hits}
+use Rattle.version_book.specs.History.{writes_of}
+use Rattle.batch_work.specs.Reads.{footprint_of}
+use Rattle.batch_work.specs.declared.status.Status.{Status}
+use Rattle.call_machine.specs.declared.event.Event.{Event}
+use Rattle.call_machine.specs.declared.event.Event.TheVariants.{Invoke, Begin, Commit}
+use Rattle.call_machine.specs.declared.event.Event.TheVariants as on
+use Rattle.call_machine.specs.declared.event.Decision.TheVariants as is
+use Rattle.call_machine.specs.declared.event.Done.{Done}
+use Rattle.call_machine.specs.declared.event.Done.TheVariants.{Invoked, Begun, Stepped, Decided, Answered}
+use Rattle.call_machine.specs.declared.event.Told.TheVariants.{Replied, Conflicted}
+use Rattle.call_machine.specs.declared.event.RefusedEvent.{RefusedEvent}
+
+-- ---- a schedule
+
+-- what an event is answered
+abbrev pub Answer : Type 0
+Answer = Result Done RefusedEvent
+
+-- An event that was accepted, with its answer.
+pub record Happened : Type 0 where
+  pub event : Event
+  pub done : Done
+
+-- the accepted events, in order: those that weren't refused
+abbrev pub accepted : List Event → List Answer → List Happened
+accepted [] answers = []
+accepted (e ∷ es) [] = []
+accepted (e ∷ es) (Ok d ∷ answers) = record { event = e; done = d } ∷ accepted es answers
+accepted (e ∷ es) (Err r ∷ answers) = accepted es answers
+
+-- accepted events are numbered from 1; this is the one of number n
+abbrev pub At : List Happened → ℕ → Event → Done → Type 0
+At log n event done = (k : ℕ) × (n ≡ k + 1) × (slice_get log k ≡ Some (record { event = event; done = done }))
+
+-- ---- what became of a call
+
+abbrev pub HandedIn : List Happened → ℕ → Batch → Type 0
+HandedIn log c batch = (n : ℕ) × (done : Done) × At log n (Invoke c batch) done
+
+-- its begin found this place
+abbrev pub BeganAt : List Happened → ℕ → ℕ → Type 0
+BeganAt log c base = (n : ℕ) × (status : Status) × At log n (Begin c) (Begun c base status)
+
+-- its commit was answered committed, at this place
+abbrev pub CommittedAt : List Happened → ℕ → ℕ → Type 0
+CommittedAt log c place = (n : ℕ) × At log n (Commit c) (Decided c is.Committed place)
+
+-- it gave out this reply
+abbrev pub GaveOut : List Happened → ℕ → Reply → Type 0
+GaveOut log c reply = (n : ℕ) × At log n (on.Reply c) (Answered c (Replied reply))
+
+-- a committed call, replied or not, or a call that has replied otherwise than by a conflict
+abbrev pub IsListed : List Happened → ℕ → Type 0
+IsListed log c = ((place : ℕ) × CommittedAt log c place) ⊎ ((reply : Reply) × GaveOut log c reply)
+
+-- The reply of the first call stands at a smaller accepted number than the invoke of the second.
+pub record EndedBefore (log : List Happened) (first second : ℕ) : Type 0 where
+  pub reply_number : ℕ
+  pub invoke_number : ℕ
+  pub told : Done
+  pub batch : Batch
+  pub done : Done
+  pub reply : At log reply_number (on.Reply first) told
+  pub invoke : At log invoke_number (Invoke second batch) done
+  pub earlier : reply_number < invoke_number
+
+-- ---- serial
+
+abbrev pub Different : List ℕ → Type 0
+Different [] = ⊤
+Different (c ∷ cs) = AllByRecursion (λ d. c ≡ d → ⊥) cs × Different cs
+
+-- Each listed call stands in the order once, and no other does.
+pub record IsSerial (log : List Happened) (order : List ℕ) : Type 0 where
+  pub listed : (c : ℕ) → Within order c ↔ IsListed log c
+  pub once : Different order
+
+-- ---- legal
+
+-- A reply that the call gave out is this one; where its commit was answered committed, this reply is that of a committed batch, at that place.
+pub record IsReplyOf (log : List Happened) (c : ℕ) (reply : Reply) : Type 0 where
+  pub given : (out : Reply) → GaveOut log c out → out ≡ reply
+  pub committed : (place : ℕ) → CommittedAt log c place → (place ≡ reply.place) × (is_committed reply.outcome ≡ true)
+
+-- running the plain book through these calls' batches gives each of them the reply that it gave out, place and all; of a committed call that hasn't replied the answers show the place alone, and `HoldReplies` in `Laws` says the rest
+abbrev pub RunsFrom : List Happened → List Book → List ℕ → Type 0
+RunsFrom log books [] = ⊤
+RunsFrom log books (c ∷ cs) = (batch : Batch) × HandedIn log c batch × IsReplyOf log c (reply_to batch books) × RunsFrom log (books_after batch books) cs
+
+abbrev pub IsLegal : List Happened → List ℕ → Type 0
+IsLegal log order = RunsFrom log first_books order
+
+-- ---- strict
+
+abbrev pub StandsBefore : List ℕ → ℕ → ℕ → Type 0
+StandsBefore [] a b = ⊥
+StandsBefore (c ∷ cs) a b = ((c ≡ a) × Within cs b) ⊎ StandsBefore cs a b
+
+-- a call that ended before another began stands in front of it
+abbrev pub IsStrict : List Happened → List ℕ → Type 0
+IsStrict log order = (a b : ℕ) → IsListed log a → IsListed log b → EndedBefore log a b → StandsBefore order a b
+
+-- ---- conflicts
+
+-- the batches of these calls
+abbrev pub BatchesOf : List Happened → List ℕ → List Batch → Type 0
+BatchesOf log [] [] = ⊤
+BatchesOf log [] (batch ∷ batches) = ⊥
+BatchesOf log (c ∷ cs) [] = ⊥
+BatchesOf log (c ∷ cs) (batch ∷ batches) = HandedIn log c batch × BatchesOf log cs batches
+
+abbrev pub commit_of : Done → List ℕ
+commit_of (Invoked c) = []
+commit_of (Begun c place status) = []
+commit_of (Stepped c mark status) = []
+commit_of (Decided c is.Committed place) = c ∷ []
+commit_of (Decided c is.Conflict place) = []
+commit_of (Decided c (is.Full limit) place) = []
+commit_of (Answered c told) = []
+
+-- the calls whose commit was answered committed, in the order of their commits
+abbrev pub commits_in : List Happened → List ℕ
+commits_in [] = []
+commits_in (h ∷ hs) = commit_of h.done ++ commits_in hs
+
+-- These committed batches have one, `other`, that was committed as book `length before + 1`, which is after book `base`. One of its writes, on the book that it found, hits a mark of the footprint that `batch` has on book `base`.
+pub record IsDue (journal : List Batch) (batch : Batch) (base : ℕ) : Type 0 where
+  pub before : List Batch
+  pub other : Batch
+  pub later : List Batch
+  pub split : journal ≡ before ++ other ∷ later
+  pub since : base ≤ length before
+  pub mark : MarkKind
+  pub read : Within (footprint_of batch (books_of (take base journal))) mark
+  pub write : RowWrite
+  pub is_made : Within (writes_of other (length before + 1) (last_book (books_of before))) write
+  pub hit : hits write mark ≡ true
+
+-- After these accepted events the call's commit may be answered a conflict at this place. The journal has the batches of the calls committed so far.
+pub record IsDueConflict (log : List Happened) (c place : ℕ) : Type 0 where
+  pub journal : List Batch
+  pub journal_is : BatchesOf log (commits_in log) journal
+  pub batch : Batch
+  pub handed_in : HandedIn log c batch
+  pub base : ℕ
+  pub began : BeganAt log c base
+  pub place_is : place ≡ length journal
+  pub due : IsDue journal batch base
+
+abbrev pub ConflictsAreDue : List Happened → Type 0
+ConflictsAreDue log = (k c place : ℕ) → slice_get log k ≡ Some (record { event = Commit c; done = Decided c is.Conflict place }) → IsDueConflict (take k log) c place
+
+-- a call whose commit was a conflict is listed nowhere
+abbrev pub ConflictsAreOver : List Happened → Type 0
+ConflictsAreOver log = (n c place : ℕ) → At log n (Commit c) (Decided c is.Conflict place) → IsListed log c → ⊥
+
+-- a conflict is given out by a call whose commit was answered so, and by no other
+abbrev pub ConflictsWereMet : List Happened → Type 0
+ConflictsWereMet log = (n c place : ℕ) → At log n (on.Reply c) (Answered c (Conflicted place)) → (m : ℕ) × At log m (Commit c) (Decided c is.Conflict place)
+
+-- ---- the headline
+
+-- a call has one batch
+abbrev pub OneBatch : List Happened → Type 0
+OneBatch log = (c : ℕ) (batch other : Batch) → HandedIn log c batch → HandedIn log c other → batch ≡ other
+
+-- Each call has one batch. The order is serial, legal and strict. Each conflict is due, and its call is over: it is listed nowhere, so that nobody runs its batch.
+pub record Headline (log : List Happened) (order : List ℕ) : Type 0 where
+  pub one_batch : OneBatch log
+  pub serial : IsSerial log order
+  pub legal : IsLegal log order
+  pub strict : IsStrict log order
+  pub conflicts : ConflictsAreDue log
+  pub over : ConflictsAreOver log
+  pub met : ConflictsWereMet log

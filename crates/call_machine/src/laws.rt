@@ -1,0 +1,21 @@
+//! Which laws hold of schedules?
+//!
+//! Each function does nothing. What it ensures is a law of the definitions, stated in `specs/Laws.antt`; a caller that calls
+//! it may rest on the law.
+
+ghost use Rattle.call_machine.specs.Laws.{CallsAreStamped, EventLeaves, HeadlineHolds, RepliesHeld, RunsGoOn};
+
+/// The headline: whatever events led a machine to where it stands, its order is serial, legal and strict, and every
+/// conflict was due; each call of it holds the reply that the plain book gives it there; and a call
+/// has the accepted numbers of its invoke and of its reply.
+pub fn headline()
+    ensures headline { HeadlineHolds }
+    ensures held { RepliesHeld }
+    ensures stamped { CallsAreStamped }
+{}
+
+/// How a run goes on, event by event.
+pub fn runs()
+    ensures goes_on { RunsGoOn }
+    ensures leaves { EventLeaves }
+{}

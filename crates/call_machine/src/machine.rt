@@ -1,0 +1,264 @@
+//! Which calls does a machine have, and what does an event do to them?
+
+ghost use Rattle.std.specs.Prelude.{◌≡◌, IfOk, filter, map};
+ghost use Rattle.call_machine.specs.Kept.{calls_kept, with_event};
+ghost use Rattle.call_machine.specs.Laws.{is_listed, number_in, turn_of};
+
+use crate::call::KnownCall;
+use crate::event::{Done, Event, EventRefusal, RefusedEvent};
+use crate::slot::Slot;
+use commit_head::Head;
+use entry_book::Batch;
+use indexmap::IndexMap;
+use spiffe_name::TrustDomain;
+use std::alloc::{AllocError, Global};
+use std::marker::Model;
+
+/// The calls of many callers at once over one book, moved on by events, one at a time: any list of them, in any order. An
+/// event out of turn is refused, handed back, and changes nothing. A contract sees the machine as the record of its trust
+/// domain, the committed batches, the count of accepted events, and its calls in the order of their invokes.
+///
+/// A machine has at most 4,096 calls, and keeps each as long as it lives, with its batch and its reply; of a call that is over no
+/// version is kept. An event costs what its work or its commit costs, and finding the call, by a hash.
+#[derive(Drop)]
+pub struct Machine {
+    alloc: Global,
+    head: Head,
+    count: u64,
+    calls: IndexMap<u64, Slot>,
+}
+
+impl Model for Machine {
+    ghost use Rattle.call_machine.specs.Calls.{State};
+    ghost use Rattle.call_machine.specs.Kept.{Holds, state_of};
+
+    ghost Value = { State };
+
+    ghost view = { λ machine. state_of machine.head machine.count machine.calls.entries };
+
+    ghost invariant = { λ machine. Holds machine.head machine.calls.entries };
+}
+
+impl Machine {
+    ghost use Rattle.std.specs.Prelude.{◌≡◌, ◌+◌, ◌<◌, ◌^◌, ◌⊎◌, List, length, IfOk, IfErr, OnOk, OnErr, MatchResult, Some};
+    ghost use Rattle.entry_book.specs.Rows.{Bytes};
+    ghost use Rattle.entry_book.specs.History.{first_books};
+    ghost use Rattle.call_machine.specs.declared.event.Event.{Event as AnEvent};
+    ghost use Rattle.call_machine.specs.Schedules.{Answer, accepted, Headline};
+    ghost use Rattle.call_machine.specs.Calls.{call_at, first_state};
+    ghost use Rattle.call_machine.specs.Known.{Tells};
+    ghost use Rattle.call_machine.specs.declared.event.Event.TheVariants as event;
+    ghost use Rattle.call_machine.specs.Kept.{IsRefusalOr};
+    ghost use Rattle.call_machine.specs.Machine.{Applies, IsFor, AreFor, Begins, Commits, Invokes, Replies, Runs, Steps, refusal_of};
+    ghost use Rattle.call_machine.specs.Laws.{HoldReplies, IsOrder};
+
+    /// The machine of a trust domain's server: no calls, the empty book at place 0. The error is want of memory.
+    pub fn new(alloc: Global, domain: TrustDomain) -> Result<Machine, AllocError>
+        ensures { IfOk result (λ machine. machine ≡ first_state domain) }
+    {
+        Ok(Machine {
+            alloc,
+            head: Head::new(alloc, domain)?,
+            count: 0,
+            calls: IndexMap::new(alloc),
+        })
+    }
+
+    /// One event: what it is answered, or why it is refused; then nothing has changed. A batch that is handed in was made for
+    /// the machine's trust domain, and fewer than 2^64 events are accepted in all.
+    pub fn apply(&mut self, event: Event) -> Result<Done, RefusedEvent>
+        requires numbers { self.old.count + 1 < 2 ^ 64 }
+        requires domain { IsFor self.old.domain event }
+        ensures { Applies self.old event result self.new }
+    {
+        match event {
+            Event::Invoke(number, batch) => match self.invoke(number, batch) {
+                Ok(done) => Ok(done),
+                Err((refusal, batch)) => {
+                    let event = Event::Invoke(number, batch);
+                    Err(RefusedEvent { refusal, event })
+                }
+            },
+            Event::Begin(number) => handed_back(self.begin(number), Event::Begin(number)),
+            Event::Step(number) => handed_back(self.step(number), Event::Step(number)),
+            Event::Commit(number) => handed_back(self.commit(number), Event::Commit(number)),
+            Event::Reply(number) => handed_back(self.reply(number), Event::Reply(number)),
+        }
+    }
+
+    /// Each event in turn, as `apply` does it, and the answer to each. The error is want of memory for the list of answers, and nothing has
+    /// changed then.
+    pub fn run(&mut self, events: Vec<Event>) -> Result<Vec<Result<Done, RefusedEvent>>, AllocError>
+        requires numbers { self.old.count + length events.items < 2 ^ 64 }
+        requires domain { AreFor self.old.domain events.items }
+        ensures ran { IfOk result (λ answers. Runs self.old events.items answers.items self.new) }
+        ensures err { OnErr result (self.new ≡ self.old) }
+    {
+        let mut answers = Vec::with_capacity(self.alloc, events.len())?;
+        for event in events {
+            let answer = self.apply(event);
+            answers.push(answer).unwrap();
+        }
+        Ok(answers)
+    }
+
+    /// The committed calls, and those that have replied otherwise than by a conflict, in the order of their deciding events: begin
+    /// for queries, repeats and refusals but for those by a limit, commit for committed and full ones. The error is want of
+    /// memory.
+    pub fn order(&self) -> Result<Vec<u64>, AllocError>
+        ensures order { IfOk result (λ order. IsOrder self.now order.items) }
+        ensures headline { IfOk result (λ order. (own : Bytes) (events : List AnEvent) (answers : List Answer)
+            → Runs (first_state own) events answers self.now → Headline (accepted events answers) order.items) }
+        ensures held { IfOk result (λ order. (own : Bytes) (events : List AnEvent) (answers : List Answer)
+            → Runs (first_state own) events answers self.now → HoldReplies self.now.calls first_books order.items) }
+    {
+        let mut turns = turns_of(self.alloc, &self.calls)?;
+        turns.sort_by_key(|turn| turn.0)?;
+        numbers_of(self.alloc, &turns)
+    }
+
+    /// What is known of a call; none for an unknown one.
+    pub fn call(&self, number: u64) -> Option<KnownCall<'_>>
+        ensures { Tells (call_at number self.now.calls) result }
+    {
+        match self.calls.get(&number) {
+            Some(slot) => Some(slot.known()),
+            None => None,
+        }
+    }
+
+    /// A call's batch is handed in. Refused, it is handed back.
+    fn invoke(&mut self, number: u64, batch: Batch) -> Result<Done, (EventRefusal, Batch)>
+        requires numbers { self.old.count + 1 < 2 ^ 64 }
+        requires domain { batch.domain ≡ self.old.domain }
+        ensures ok { IfOk result (λ done. Invokes self.old number batch done self.new) }
+        ensures err { IfErr result (λ r. (r.1 ≡ batch) × IsRefusalOr (refusal_of self.old (event.Invoke number batch)) r.0) }
+        ensures stays { OnErr result (self.new ≡ self.old) }
+    {
+        // this tells the contract that the batch was made for its trust domain
+        let _ = batch.ops();
+        if self.calls.contains_key(&number) {
+            return Err((EventRefusal::CallTaken, batch));
+        }
+        if self.calls.len() >= 4_096 {
+            return Err((EventRefusal::TooManyCalls, batch));
+        }
+        if self.calls.reserve(1).is_err() {
+            return Err((EventRefusal::NoMemory, batch));
+        }
+        let invoked = self.count + 1;
+        let slot = Slot::new(self.alloc, batch, invoked);
+        self.calls.insert(number, slot).unwrap();
+        self.count = invoked;
+        Ok(Done::Invoked(number))
+    }
+
+    /// A call's work begins on the newest book.
+    fn begin(&mut self, number: u64) -> Result<Done, EventRefusal>
+        requires numbers { self.old.count + 1 < 2 ^ 64 }
+        ensures ok { IfOk result (λ done. Begins self.old number done self.new) }
+        ensures err { IfErr result (IsRefusalOr (refusal_of self.old (event.Begin number))) }
+        ensures stays { OnErr result (self.new ≡ self.old) }
+    {
+        let turn = self.count + 1;
+        let Some(slot) = self.calls.get_mut(&number) else {
+            return Err(EventRefusal::UnknownCall);
+        };
+        let status = match slot.begin(self.alloc, &self.head, turn) {
+            Ok(status) => status,
+            Err(refusal) => return Err(refusal),
+        };
+        self.count = turn;
+        Ok(Done::Begun(number, self.head.place(), status))
+    }
+
+    /// A call's work makes its next read.
+    fn step(&mut self, number: u64) -> Result<Done, EventRefusal>
+        requires numbers { self.old.count + 1 < 2 ^ 64 }
+        ensures ok { IfOk result (λ done. Steps self.old number done self.new) }
+        ensures err { IfErr result (IsRefusalOr (refusal_of self.old (event.Step number))) }
+        ensures stays { OnErr result (self.new ≡ self.old) }
+    {
+        let Some(slot) = self.calls.get_mut(&number) else {
+            return Err(EventRefusal::UnknownCall);
+        };
+        let (mark, status) = match slot.step(self.alloc) {
+            Ok(read) => read,
+            Err(refusal) => return Err(refusal),
+        };
+        self.count += 1;
+        Ok(Done::Stepped(number, mark, status))
+    }
+
+    /// A call's changes are to be committed.
+    fn commit(&mut self, number: u64) -> Result<Done, EventRefusal>
+        requires numbers { self.old.count + 1 < 2 ^ 64 }
+        ensures ok { IfOk result (λ done. Commits self.old number done self.new) }
+        ensures err { IfErr result (IsRefusalOr (refusal_of self.old (event.Commit number))) }
+        ensures stays { OnErr result (self.new ≡ self.old) }
+    {
+        let turn = self.count + 1;
+        let Some(slot) = self.calls.get_mut(&number) else {
+            return Err(EventRefusal::UnknownCall);
+        };
+        let (decision, place) = match slot.commit(self.alloc, &mut self.head, number, turn) {
+            Ok(decided) => decided,
+            Err(refusal) => return Err(refusal),
+        };
+        self.count = turn;
+        Ok(Done::Decided(number, decision, place))
+    }
+
+    /// A call's answer is given out.
+    fn reply(&mut self, number: u64) -> Result<Done, EventRefusal>
+        requires numbers { self.old.count + 1 < 2 ^ 64 }
+        ensures ok { IfOk result (λ done. Replies self.old number done self.new) }
+        ensures err { IfErr result (IsRefusalOr (refusal_of self.old (event.Reply number))) }
+        ensures stays { OnErr result (self.new ≡ self.old) }
+    {
+        let turn = self.count + 1;
+        let Some(slot) = self.calls.get_mut(&number) else {
+            return Err(EventRefusal::UnknownCall);
+        };
+        let told = match slot.reply(turn) {
+            Ok(told) => told,
+            Err(refusal) => return Err(refusal),
+        };
+        self.count = turn;
+        Ok(Done::Answered(number, told))
+    }
+}
+
+/// The turns of the listed calls, with their numbers.
+fn turns_of(alloc: Global, calls: &IndexMap<u64, Slot>) -> Result<Vec<(u64, u64)>, AllocError>
+    ensures { IfOk result (λ turns. turns.items ≡ map turn_of (filter is_listed (calls_kept calls.now.entries))) }
+{
+    let mut turns = Vec::new(alloc);
+    for (number, slot) in calls.iter() {
+        if slot.is_listed() {
+            turns.push((slot.turn(), *number))?;
+        }
+    }
+    Ok(turns)
+}
+
+/// Their numbers, in this order.
+fn numbers_of(alloc: Global, turns: &[(u64, u64)]) -> Result<Vec<u64>, AllocError>
+    ensures { IfOk result (λ numbers. numbers.items ≡ map number_in turns.now) }
+{
+    let mut numbers = Vec::new(alloc);
+    for (_, number) in turns {
+        numbers.push(*number)?;
+    }
+    Ok(numbers)
+}
+
+/// A refusal hands its event back.
+fn handed_back(answer: Result<Done, EventRefusal>, event: Event) -> Result<Done, RefusedEvent>
+    ensures { result ≡ with_event answer event }
+{
+    match answer {
+        Ok(done) => Ok(done),
+        Err(refusal) => Err(RefusedEvent { refusal, event }),
+    }
+}
