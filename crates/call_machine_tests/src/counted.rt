@@ -1,0 +1,108 @@
+//! A machine, and what a test has to know of it: its trust domain, how many events it was handed, and its calls.
+
+ghost use Rattle.std.specs.Prelude.{◌≡◌, IfOk, true};
+ghost use Rattle.call_machine.specs.Machine.{AreFor, IsFor};
+
+use call_machine::{Done, Event, EventRefusal, KnownCall, Machine, RefusedEvent};
+use spiffe_name::TrustDomain;
+use std::alloc::Global;
+use std::marker::Model;
+use std::test::Fail;
+
+/// No test hands in so many events.
+const EVENTS: u64 = 1_000_000;
+
+/// May the event be handed to a machine of this trust domain?
+fn is_for(domain: &TrustDomain, event: &Event) -> bool
+    ensures { result ≡ true → IsFor domain.now event.now }
+{
+    match event {
+        Event::Invoke(_, batch) => batch.domain() == domain,
+        _ => true,
+    }
+}
+
+/// May each of the events?
+fn are_for(domain: &TrustDomain, events: &[Event]) -> bool
+    ensures { result ≡ true → AreFor domain.now events.now }
+{
+    match events.split_first() {
+        Some((event, others)) => is_for(domain, event) && are_for(domain, others),
+        None => true,
+    }
+}
+
+/// A machine, with a bound on the events that it has accepted.
+#[derive(Drop)]
+pub struct Counted {
+    domain: TrustDomain,
+    machine: Machine,
+    events: u64,
+}
+
+impl Model for Counted {
+    ghost use Rattle.std.specs.Prelude.{◌≡◌, ◌≤◌};
+    ghost use Rattle.call_machine.specs.Calls.{State};
+
+    ghost Value = { State };
+
+    ghost view = { λ counted. counted.machine };
+
+    ghost invariant = { λ counted. (counted.machine.domain ≡ counted.domain) × (counted.machine.count ≤ counted.events) };
+}
+
+impl Counted {
+    /// The machine of a trust domain's server.
+    pub fn new(alloc: Global, domain: TrustDomain) -> Result<Counted, Fail> {
+        let machine = Machine::new(alloc, domain.clone()?)?;
+        Ok(Counted {
+            domain,
+            machine,
+            events: 0,
+        })
+    }
+
+    /// One event. Want of memory is an error.
+    pub fn apply(&mut self, event: Event) -> Result<Result<Done, RefusedEvent>, Fail> {
+        if self.events >= EVENTS || !is_for(&self.domain, &event) {
+            return Err(Fail::from("not for this machine"));
+        }
+        self.events += 1;
+        match self.machine.apply(event) {
+            Ok(done) => Ok(Ok(done)),
+            Err(refused) if refused.refusal == EventRefusal::NoMemory => {
+                Err(Fail::from("no memory"))
+            }
+            Err(refused) => Ok(Err(refused)),
+        }
+    }
+
+    pub fn order(&self) -> Result<Vec<u64>, Fail> {
+        Ok(self.machine.order()?)
+    }
+
+    pub fn call(&self, number: u64) -> Option<KnownCall<'_>> {
+        self.machine.call(number)
+    }
+}
+
+/// A machine of this trust domain, which was handed no event.
+fn new_machine(alloc: Global, domain: &TrustDomain) -> Result<Machine, Fail>
+    ensures domain { IfOk result (λ machine. machine.domain ≡ domain.now) }
+    ensures count { IfOk result (λ machine. machine.count ≡ 0) }
+{
+    Ok(Machine::new(alloc, domain.clone()?)?)
+}
+
+/// The answers of a new machine of this trust domain to a list of events.
+pub fn run_at_once(
+    alloc: Global,
+    domain: &TrustDomain,
+    events: Vec<Event>,
+) -> Result<Vec<Result<Done, RefusedEvent>>, Fail> {
+    if events.len() > 1_000 || !are_for(domain, events.as_slice()) {
+        return Err(Fail::from("not for this machine"));
+    }
+    let mut machine = new_machine(alloc, domain)?;
+    Ok(machine.run(events)?)
+}

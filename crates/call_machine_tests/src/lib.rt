@@ -1,0 +1,21 @@
+//! What is each event answered, and what do all the answers together come to?
+//!
+//! The crate has tests alone, over the public calls of `call_machine`:
+//!
+//! - `worked`: small schedules, told by tables, which `playing` plays. `making` reads batches and events, `telling` tells answers
+//!   and replies.
+//! - `counted`: a machine, and what a test has to know of it; `refused`: that a refused event is handed back and changes nothing.
+#![tactic(auto)]
+
+#[cfg(test)]
+mod counted;
+#[cfg(test)]
+mod making;
+#[cfg(test)]
+mod playing;
+#[cfg(test)]
+mod refused;
+#[cfg(test)]
+mod telling;
+#[cfg(test)]
+mod worked;
