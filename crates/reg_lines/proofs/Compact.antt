@@ -29,8 +29,8 @@ use Rattle.reg_lines.specs.declared.fault.Fault.{Fault}
 use Rattle.reg_lines.specs.declared.fault.Field.{Field}
 use Rattle.reg_lines.specs.declared.printing.refusal.LineRefusal.{LineRefusal}
 use Rattle.reg_lines.specs.Refusals.{fault_json, failure_json, no_memory_json, op_member, refusal_json}
-use Rattle.reg_lines.specs.Replies.{agent_json, bundle_json, detail_member, dropped_json, entry_json, given_lifetime, lifetime_member, op_reply_json, selector_json, uuid_json, uuid_text, under, done_json, refused_json, outcome_json, reply_json, page_json}
-use Rattle.reg_lines.specs.Values.{whole, if_due, list_data, option_data, uuid_data, selector_data, agent_data, bundle_data, dropped_data, entry_data, op_reply_data, done_data, refused_data, outcome_data, reply_data, fault_data, failure_data, refusal_data, page_data}
+use Rattle.reg_lines.specs.Replies.{agent_json, bundle_json, detail_member, dropped_json, entry_json, given_lifetime, lifetime_member, op_reply_json, selector_json, uuid_json, uuid_text, under, done_json, refused_json, outcome_json, reply_json, page_json, conflict_json}
+use Rattle.reg_lines.specs.Values.{whole, if_due, list_data, option_data, uuid_data, selector_data, agent_data, bundle_data, dropped_data, entry_data, op_reply_data, done_data, refused_data, outcome_data, reply_data, fault_data, failure_data, refusal_data, page_data, conflict_data}
 
 same_for_all : (f g : ℕ → List ℕ) → ((b : ℕ) → f b ≡ g b) → (s : List ℕ) → flat_map f s ≡ flat_map g s
 same_for_all f g h [] = refl
@@ -65,15 +65,15 @@ agent_json-is a = simp (append_assoc, text_json-is, selectors-are) refl
 
 -- ---- pieces one behind another, from the left and from the right
 
-abbrev left : List ℕ → List (List ℕ) → List ℕ
+abbrev pub left : List ℕ → List (List ℕ) → List ℕ
 left a [] = a
 left a (p ∷ ps) = left (a ++ p) ps
 
-abbrev right : List (List ℕ) → List ℕ
+abbrev pub right : List (List ℕ) → List ℕ
 right [] = []
 right (p ∷ ps) = p ++ right ps
 
-left-right : (a : List ℕ) (ps : List (List ℕ)) → left a ps ≡ a ++ right ps
+pub left-right : (a : List ℕ) (ps : List (List ℕ)) → left a ps ≡ a ++ right ps
 left-right a [] = sym (append-nil a)
 left-right a (p ∷ ps) = left-right (a ++ p) ps ∙ append_assoc a p (right ps)
 
@@ -250,6 +250,12 @@ outcome_json-is call place (outcome.Refused r) = refused_json-is call place r
 pub reply_json-is : (call : ℕ) (reply : Reply) → reply_json call reply ≡ compact_text (reply_data call reply)
 reply_json-is call reply = outcome_json-is call reply.place reply.outcome
 
+pub conflict_json-is : (call place : ℕ) → conflict_json call place ≡ compact_text (conflict_data call place)
+unfolding conflict_json serde_json_on_literals
+conflict_json-is call place =
+    left-right (codes "{\"call\":") (decimal call ∷ codes ",\"place\":" ∷ decimal place ∷ codes ",\"result\":\"conflict\"}" ∷ [])
+    ∙ refl
+
 fault_json-is : (line : ℕ) (c : Code) (field : Option Field) (op : Option ℕ) → fault_json line (record { code = c; field = field; op = op }) ≡ compact_text (fault_data line (record { code = c; field = field; op = op }))
 unfolding fault_json serde_json_on_literals
 fault_json-is line c None None = simp (append_assoc, text_json-is) refl
@@ -270,7 +276,7 @@ refusal_json-is r = failure_json-is r.line r.failure
 
 -- ---- no value has a float
 
-list-no_float : {A : Type 0} (g : A → Data) → ((x : A) → has_float (g x) ≡ false) → (xs : List A) → has_float (list_data g xs) ≡ false
+pub list-no_float : {A : Type 0} (g : A → Data) → ((x : A) → has_float (g x) ≡ false) → (xs : List A) → has_float (list_data g xs) ≡ false
 list-no_float g h [] = refl
 list-no_float g h (x ∷ xs) = ap (λ b. b || has_float (list_data g xs)) (h x) ∙ list-no_float g h xs
 
@@ -346,6 +352,9 @@ outcome-no_float call place (outcome.Refused (Full limit.Tokens)) = refl
 
 pub reply-no_float : (call : ℕ) (reply : Reply) → has_float (reply_data call reply) ≡ false
 reply-no_float call reply = outcome-no_float call reply.place reply.outcome
+
+pub conflict-no_float : (call place : ℕ) → has_float (conflict_data call place) ≡ false
+conflict-no_float call place = refl
 
 fault-no_float : (line : ℕ) (c : Code) (field : Option Field) (op : Option ℕ) → has_float (fault_data line (record { code = c; field = field; op = op })) ≡ false
 fault-no_float line c None None = refl

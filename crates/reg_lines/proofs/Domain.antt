@@ -17,7 +17,7 @@ use Rattle.reg_lines.specs.Operations.{ops_in}
 use Rattle.reg_lines.specs.Requests.{request_in, framed, value_in, object_in, spelled}
 
 -- what holds of each value that the second reader gives holds of what both give
-then_ok : {A B : Type 0} (P : B → Type 0) (r : Result A Fault) (f : A → Result B Fault) → ((x : A) → IfOk (f x) P) → IfOk (r >>= f) P
+pub then_ok : {A B : Type 0} (P : B → Type 0) (r : Result A Fault) (f : A → Result B Fault) → ((x : A) → IfOk (f x) P) → IfOk (r >>= f) P
 then_ok P (Ok x) f h = h x
 then_ok P (Err e) f h = tt
 
@@ -29,10 +29,10 @@ made domain read = read.0.batch.domain ≡ domain
 
 -- ---- a batch
 
-abbrev ReadBatch : Type 0
+abbrev pub ReadBatch : Type 0
 ReadBatch = Result (Batch × ChaCha) Fault
 
-abbrev batch_made : List ℕ → Batch × ChaCha → Type 0
+abbrev pub batch_made : List ℕ → Batch × ChaCha → Type 0
 batch_made domain read = read.0.domain ≡ domain
 
 abbrev batch_and : ChaCha → Batch → ReadBatch
@@ -42,7 +42,7 @@ unless_refused-domain : (o : Option BatchRefusal) (batch : Batch) (ids : ChaCha)
 unless_refused-domain None batch ids = refl
 unless_refused-domain (Some r) batch ids = tt
 
-batch_in-domain : (domain : List ℕ) (ids : ChaCha) (listed : Listed) → IfOk (batch_in domain ids listed) (batch_made domain)
+pub batch_in-domain : (domain : List ℕ) (ids : ChaCha) (listed : Listed) → IfOk (batch_in domain ids listed) (batch_made domain)
 unfolding batch_in
 batch_in-domain domain ids listed =
     let batch : List Op → Batch = λ ops. record { domain = domain; ops = ops; after = listed.after; token = listed.token } in
@@ -52,7 +52,7 @@ batch_in-domain domain ids listed =
 -- ---- a request
 
 -- what holds of each value that the first reader gives, and then of what the second makes of it, holds of what both give
-both_ok : {A B : Type 0} (Q : A → Type 0) (P : B → Type 0) (r : Result A Fault) (f : A → Result B Fault) → IfOk r Q → ((x : A) → Q x → IfOk (f x) P) → IfOk (r >>= f) P
+pub both_ok : {A B : Type 0} (Q : A → Type 0) (P : B → Type 0) (r : Result A Fault) (f : A → Result B Fault) → IfOk r Q → ((x : A) → Q x → IfOk (f x) P) → IfOk (r >>= f) P
 both_ok Q P (Ok x) f q h = h x q
 both_ok Q P (Err e) f q h = tt
 

@@ -8,11 +8,13 @@ use Rattle.std.specs.Prelude.{⊤, Result, Ok, nat_lt, ◌||◌, drop}
 use Rattle.std.specs.Io.BufRead.{ends_with_byte, strip_last}
 use Rattle.rand_chacha.specs.ChaCha.{ChaCha}
 use Rattle.serde_json.specs.Find.{as_object}
+use Rattle.call_machine.specs.declared.event.Event.{Event}
 use Rattle.reg_lines.specs.declared.fault.Code.TheVariants as code
 use Rattle.reg_lines.specs.declared.fault.Fault.{Fault}
 use Rattle.reg_lines.specs.declared.reading.request.Request.{Request}
 use Rattle.reg_lines.specs.Fields.{◌>>=◌, at_line}
-use Rattle.reg_lines.specs.Kept.{KeptSpells}
+use Rattle.reg_lines.specs.Events.{event_in, spelled_event}
+use Rattle.reg_lines.specs.Kept.{KeptSpells, KeptSpellsEvent}
 use Rattle.reg_lines.specs.Lines.{has_lf, kept, kept_bytes, IsLine}
 use Rattle.reg_lines.specs.Requests.{framed, line_limit, request_in, object_in, spelled, value_in}
 
@@ -65,6 +67,12 @@ spelled-long domain ids line e =
     let next : ⊤ → Result (Request × ChaCha) Fault = λ none. value_in line >>= (λ d. object_in (as_object d) >>= (λ ms. request_in domain ids d ms)) in
     ap (λ r. r >>= next) e
 
+spelled_event-long : (domain : List ℕ) (ids : ChaCha) (line : List ℕ) → framed line ≡ at_line code.LineTooLong → spelled_event domain ids line ≡ at_line code.LineTooLong
+unfolding spelled_event
+spelled_event-long domain ids line e =
+    let next : ⊤ → Result (Event × ChaCha) Fault = λ none. value_in line >>= (λ d. object_in (as_object d) >>= (λ ms. event_in domain ids d ms)) in
+    ap (λ r. r >>= next) e
+
 take_none : (n : ℕ) (front : List ℕ) → has_lf front ≡ false → has_lf (take n front) ≡ false
 take_none n front none =
     no_more _ (has_lf (drop n front)) (sym (list_any-append (λ b. b == 10) (take n front) (drop n front)) ∙ (ap has_lf (take-append-drop n front) ∙ none))
@@ -76,16 +84,20 @@ cut_none n line (inl w) l =
     ap has_lf (ap (take n) w.2 ∙ take-append-le n w.0 (10 ∷ []) (omega (arith, e, l))) ∙ take_none n w.0 w.1
 cut_none n line (inr r) l = take_none n line r.0
 
-kept_spells-long : (n : ℕ) (domain : List ℕ) (ids : ChaCha) (line : List ℕ) → n ≡ line_limit + 1 → IsLine line → n < length line → spelled domain ids (take n line) ≡ spelled domain ids line
-kept_spells-long n domain ids line is a l =
+-- a reader that tells of a line that is too long nothing else
+abbrev TellsTooLong : {A : Type 0} → (List ℕ → Result A Fault) → Type 0
+TellsTooLong read = (line : List ℕ) → framed line ≡ at_line code.LineTooLong → read line ≡ at_line code.LineTooLong
+
+kept_reads-long : {A : Type 0} (read : List ℕ → Result A Fault) (n : ℕ) (line : List ℕ) → TellsTooLong read → n ≡ line_limit + 1 → IsLine line → n < length line → read (take n line) ≡ read line
+kept_reads-long read n line too_long is a l =
     let e = length-take-le n line (omega (arith, l)) in
     let longer = cut_longer (ends_with_byte 10 line) line in
-    spelled-long domain ids (take n line) (framed-cut (take n line) (cut_none n line a l) (omega (arith, e, is)))
-    ∙ sym (spelled-long domain ids line (framed-long line (omega (arith, longer, is, l))))
+    too_long (take n line) (framed-cut (take n line) (cut_none n line a l) (omega (arith, e, is)))
+    ∙ sym (too_long line (framed-long line (omega (arith, longer, is, l))))
 
-kept_spells-by : (domain : List ℕ) (ids : ChaCha) (line : List ℕ) → IsLine line → (length line ≤ kept_bytes) ⊎ (kept_bytes < length line) → spelled domain ids (kept line) ≡ spelled domain ids line
-kept_spells-by domain ids line a (inl l) = ap (spelled domain ids) (take_all kept_bytes line l)
-kept_spells-by domain ids line a (inr l) = kept_spells-long kept_bytes domain ids line limit_is a l
+kept_reads-by : {A : Type 0} (read : List ℕ → Result A Fault) (line : List ℕ) → TellsTooLong read → IsLine line → (length line ≤ kept_bytes) ⊎ (kept_bytes < length line) → read (kept line) ≡ read line
+kept_reads-by read line too_long a (inl l) = ap read (take_all kept_bytes line l)
+kept_reads-by read line too_long a (inr l) = kept_reads-long read kept_bytes line too_long limit_is a l
 
 split_at : (a b : ℕ) → (a ≤ b) ⊎ (b < a)
 split_at zero b = inl (omega arith)
@@ -93,4 +105,7 @@ split_at (suc a) zero = inr (omega arith)
 split_at (suc a) (suc b) = elim (split_at a b) [ inl l ↦ inl (omega (arith, l)) | inr l ↦ inr (omega (arith, l)) ]
 
 pub kept_spells : KeptSpells
-kept_spells domain ids line a = kept_spells-by domain ids line a (split_at (length line) kept_bytes)
+kept_spells domain ids line a = kept_reads-by (spelled domain ids) line (spelled-long domain ids) a (split_at (length line) kept_bytes)
+
+pub kept_spells_event : KeptSpellsEvent
+kept_spells_event domain ids line a = kept_reads-by (spelled_event domain ids) line (spelled_event-long domain ids) a (split_at (length line) kept_bytes)

@@ -8,6 +8,7 @@ pub mod InputLemmas
 pub mod Puts
 pub mod Escapes
 pub mod Items
+pub mod MarkTexts
 pub mod Lifetimes
 pub mod RunLemmas
 pub mod LinesLaw
@@ -15,6 +16,8 @@ pub mod Front
 pub mod Utf8
 pub mod Rows
 pub mod Domain
+pub mod EventDomain
 pub mod Kept
 pub mod Compact
+pub mod CompactEvents
 pub mod Others

@@ -1,6 +1,6 @@
 -- Which batch an object spells. An object that holds a batch has keys of the batch's own; a line that has further keys beside them looks at those next, and then come the operations.
-use Rattle.std.specs.Prelude.{ℕ, List, Option, Some, None, Result, Ok, Err, option_and_then, unwrap_or}
-use Rattle.serde_json.specs.Data.{Data, Items}
+use Rattle.std.specs.Prelude.{ℕ, List, [], ◌∷◌, Option, Some, None, Result, Ok, Err, option_and_then, unwrap_or}
+use Rattle.serde_json.specs.Data.{Data, Items, Members}
 use Rattle.serde_json.specs.Find.{get, as_array}
 use Rattle.rand_chacha.specs.ChaCha.{ChaCha}
 use Rattle.entry_book.specs.Batches.{Batch, batch_refusal}
@@ -13,7 +13,7 @@ use Rattle.reg_lines.specs.declared.fault.Key.TheVariants as key
 use Rattle.reg_lines.specs.declared.reading.ids.MissingId.{MissingId}
 use Rattle.reg_lines.specs.declared.reading.ids.MissingId.TheVariants.{Drawn, Refused}
 use Rattle.reg_lines.specs.Codes.{key_name}
-use Rattle.reg_lines.specs.Fields.{◌>>=◌, required, optional_number_at, optional_uuid_at}
+use Rattle.reg_lines.specs.Fields.{◌>>=◌, required, optional_number_at, optional_uuid_at, no_others}
 use Rattle.reg_lines.specs.Operations.{ops_in}
 
 -- ---- a batch's own keys
@@ -56,3 +56,10 @@ batch_in domain ids listed = do
   ops ← ops_in 0 (missing_beside listed.token) ids listed.items
   batch ← batch_of domain ops.0 listed.after listed.token
   Ok (batch, ops.1)
+
+-- the batch of an object that has no further keys
+unfoldable pub batch_alone_in : List ℕ → ChaCha → Data → Members → Result (Batch × ChaCha) Fault
+batch_alone_in domain ids d ms = do
+  listed ← listed_in d
+  none ← no_others (key.Ops ∷ key.After ∷ key.Token ∷ []) ms
+  batch_in domain ids listed

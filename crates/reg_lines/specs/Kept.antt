@@ -2,8 +2,13 @@
 use Rattle.std.specs.Prelude.{◌≡◌, List, ℕ}
 use Rattle.rand_chacha.specs.ChaCha.{ChaCha}
 use Rattle.reg_lines.specs.Lines.{kept, IsLine}
+use Rattle.reg_lines.specs.Events.{spelled_event}
 use Rattle.reg_lines.specs.Requests.{spelled}
 
 -- What is kept of a line spells what the line spells: a line of which less is kept is too long whatever follows.
 abbrev pub KeptSpells : Type 0
 KeptSpells = (domain : List ℕ) (ids : ChaCha) (line : List ℕ) → IsLine line → spelled domain ids (kept line) ≡ spelled domain ids line
+
+-- The same of a line that spells an event.
+abbrev pub KeptSpellsEvent : Type 0
+KeptSpellsEvent = (domain : List ℕ) (ids : ChaCha) (line : List ℕ) → IsLine line → spelled_event domain ids (kept line) ≡ spelled_event domain ids line

@@ -9,7 +9,10 @@ pub mod Fields
 pub mod Operations
 pub mod Batches
 pub mod Requests
+pub mod Events
 pub mod Kept
 pub mod Refusals
 pub mod Replies
 pub mod Values
+pub mod EventAnswers
+pub mod EventValues

@@ -145,3 +145,10 @@ outcome_json call place (outcome.Refused refusal) = refused_json call place refu
 
 abbrev pub reply_json : ℕ → Reply → List ℕ
 reply_json call reply = outcome_json call reply.place reply.outcome
+
+-- a call whose changes were given up at this place
+unfoldable pub conflict_json : ℕ → ℕ → List ℕ
+conflict_json call place =
+    codes "{\"call\":" ++ decimal call
+    ++ codes ",\"place\":" ++ decimal place
+    ++ codes ",\"result\":\"conflict\"}"

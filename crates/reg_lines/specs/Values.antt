@@ -24,7 +24,7 @@ use Rattle.reg_lines.specs.declared.fault.Field.{Field}
 use Rattle.reg_lines.specs.declared.printing.refusal.LineRefusal.{LineRefusal}
 use Rattle.reg_lines.specs.Codes.{code_text, field_text}
 use Rattle.reg_lines.specs.Refusals.{refusal_json}
-use Rattle.reg_lines.specs.Replies.{given_lifetime, reply_json, uuid_text}
+use Rattle.reg_lines.specs.Replies.{conflict_json, given_lifetime, reply_json, uuid_text}
 
 abbrev pub whole : ℕ → Data
 whole n = number (unsigned n)
@@ -143,6 +143,13 @@ outcome_data call place (outcome.Refused refusal) = refused_data call place refu
 abbrev pub reply_data : ℕ → Reply → Data
 reply_data call reply = outcome_data call reply.place reply.outcome
 
+abbrev pub conflict_data : ℕ → ℕ → Data
+conflict_data call place = object (
+    put (codes "call") (whole call) (
+    put (codes "place") (whole place) (
+    put (codes "result") (string (codes "conflict"))
+    no_members)))
+
 abbrev pub field_data : Field → Data
 field_data field = string (field_text field)
 
@@ -166,12 +173,18 @@ refusal_data r = failure_data r.line r.failure
 abbrev pub RepliesAreCompact : Type 0
 RepliesAreCompact = (call : ℕ) (reply : Reply) → reply_json call reply ≡ compact_text (reply_data call reply)
 
+abbrev pub ConflictsAreCompact : Type 0
+ConflictsAreCompact = (call place : ℕ) → conflict_json call place ≡ compact_text (conflict_data call place)
+
 abbrev pub RefusalsAreCompact : Type 0
 RefusalsAreCompact = (r : LineRefusal) → refusal_json r ≡ compact_text (refusal_data r)
 
 -- so the compact text is what `serde_json` writes of the value
 abbrev pub RepliesHaveNoFloat : Type 0
 RepliesHaveNoFloat = (call : ℕ) (reply : Reply) → has_float (reply_data call reply) ≡ false
+
+abbrev pub ConflictsHaveNoFloat : Type 0
+ConflictsHaveNoFloat = (call place : ℕ) → has_float (conflict_data call place) ≡ false
 
 abbrev pub RefusalsHaveNoFloat : Type 0
 RefusalsHaveNoFloat = (r : LineRefusal) → has_float (refusal_data r) ≡ false

@@ -17,6 +17,12 @@ pub enum Key {
     Token,
     /// How often a batch may be tried.
     Tries,
+    /// What happens to a call.
+    Event,
+    /// The number of a call.
+    Call,
+    /// The batch that a call hands in.
+    Batch,
     /// Which operation an object is.
     Op,
     /// An entry's key.
@@ -69,6 +75,9 @@ impl Key {
             Key::After => "after",
             Key::Token => "token",
             Key::Tries => "tries",
+            Key::Event => "event",
+            Key::Call => "call",
+            Key::Batch => "batch",
             Key::Op => "op",
             Key::Id => "id",
             Key::Parent => "parent",
@@ -114,7 +123,7 @@ impl Field {
     }
 }
 
-/// Why a line spells no request.
+/// Why a line spells nothing that can be answered.
 #[derive(Clone, Copy, Debug, PartialEq, Eq, Drop)]
 pub enum Code {
     /// The line has over 1,048,576 bytes before its LF.
@@ -159,7 +168,7 @@ impl Code {
 /// What is wrong with a line: the first fault found.
 #[derive(Drop)]
 pub struct Fault {
-    /// Why the line spells no request.
+    /// Why the line spells nothing that can be answered.
     pub code: Code,
     /// The key at which the fault lies, where it lies at one.
     pub field: Option<Field>,

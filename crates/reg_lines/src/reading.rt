@@ -1,16 +1,19 @@
-//! Which request does a line spell?
+//! Which request, or which event, does a line spell?
 //!
-//! - `request`: a line, and its keys beside the batch; `tries`: how often a batch may be tried.
+//! - `request`: a line, and a request's keys beside the batch; `tries`: how often a batch may be tried.
+//! - `event`: a line that tells what happens to a call.
 //! - `batch`, `ops`: an object that holds a batch, and its operations; `ids`: the ids of entries that come without one.
 //! - `fields`: what a value spells at its keys.
 
 pub(crate) mod batch;
+pub(crate) mod event;
 pub(crate) mod fields;
 pub(crate) mod ids;
 pub(crate) mod ops;
 pub(crate) mod request;
 pub(crate) mod tries;
 
+pub use event::read_event;
 pub use fields::unknown_keys_law;
 pub use ids::{Ids, ids_law};
 pub use request::{Request, read_request};

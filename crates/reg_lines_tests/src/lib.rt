@@ -4,6 +4,8 @@
 //! it succeeds. Runs over devices that are slow or fail are tests of `regd`.
 //!
 //! - `frames`, `requests`, `operations`, `pages`, `tokens` and `ids`: what lines spell, told in the words of `spelled`.
+//! - `events`: what the lines of events spell.
+//! - `schedules`: the lines of a schedule: what is printed for each answer to an event.
 //! - `texts` and `replies`: what is printed, by `answers`, which runs a plain book on lines.
 //! - `bytes`: lines of memory, of devices that are interrupted, and of one that is full, by the engine of `engine`. What it
 //!   answers stands in `specs/Numbered.antt`.
@@ -16,6 +18,8 @@ mod bytes;
 #[cfg(test)]
 mod engine;
 #[cfg(test)]
+mod events;
+#[cfg(test)]
 mod frames;
 #[cfg(test)]
 mod ids;
@@ -27,6 +31,8 @@ mod pages;
 mod replies;
 #[cfg(test)]
 mod requests;
+#[cfg(test)]
+mod schedules;
 #[cfg(test)]
 mod spelled;
 #[cfg(test)]

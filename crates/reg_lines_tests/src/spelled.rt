@@ -1,7 +1,7 @@
 //! Which operations does a line spell, in a text that tables tell?
 
 use crate::answers::{line_of, new_ids, printed, trust_domain};
-use entry_book::{NewEntry, Op, PageQuery, SelectorMatch};
+use entry_book::{Batch, NewEntry, Op, PageQuery, SelectorMatch};
 use reg_lines::{Ids, PrintJson, Request, read_request};
 use spiffe_name::Failure;
 use std::alloc::Global;
@@ -123,28 +123,28 @@ fn op_text(alloc: Global, op: &Op) -> Result<String, Fail> {
     Ok(format!(in alloc; "{name} {fields}")?)
 }
 
-/// How often a request may be tried, after which place it may run, where it may not at every one, and its token.
-fn keys_text(alloc: Global, request: &Request) -> Result<String, Fail> {
-    let mut text = number_text(alloc, Some(request.tries.count()))?;
-    let after = request.batch.after();
+/// The text, and behind it after which place a batch may run, where it may not at every one, its token, and its operations.
+pub(crate) fn with_batch(alloc: Global, text: String, batch: &Batch) -> Result<String, Fail> {
+    let mut text = text;
+    let after = batch.after();
     if after != 0 {
         text.push_str(format!(in alloc; " after {after}")?.as_str())?;
     }
-    if let Some(token) = &request.batch.token() {
+    if let Some(token) = &batch.token() {
         text.push_str(" token ")?;
         text.push_str(printed(alloc, token)?.as_str())?;
     }
-    Ok(text)
-}
-
-/// The keys of a request, and its operations.
-fn request_text(alloc: Global, request: &Request) -> Result<String, Fail> {
-    let mut text = keys_text(alloc, request)?;
-    for op in request.batch.ops() {
+    for op in batch.ops() {
         text.push_str("; ")?;
         text.push_str(op_text(alloc, op)?.as_str())?;
     }
     Ok(text)
+}
+
+/// How often a request may be tried, and its batch.
+fn request_text(alloc: Global, request: &Request) -> Result<String, Fail> {
+    let tries = number_text(alloc, Some(request.tries.count()))?;
+    with_batch(alloc, tries, &request.batch)
 }
 
 /// What a line spells in the trust domain `ex.org`: its keys and its operations; or the printed refusal. Want of memory is an error, so that no table has to know of it.

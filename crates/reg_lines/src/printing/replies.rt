@@ -1,7 +1,7 @@
 //! Which line prints the reply to a batch?
 
 ghost use Rattle.std.specs.Prelude.{◌++◌, codes};
-ghost use Rattle.reg_lines.specs.Replies.{detail_member, done_json, dropped_json, op_detail_member, op_reply_json, page_json, refused_json, reply_json, under};
+ghost use Rattle.reg_lines.specs.Replies.{conflict_json, detail_member, done_json, dropped_json, op_detail_member, op_reply_json, page_json, refused_json, reply_json, under};
 ghost use Rattle.reg_lines.specs.Stream.{Puts};
 
 use crate::devices::output::Output;
@@ -184,4 +184,25 @@ fn put_detail_of<T: PrintJson, S: Sink>(value: &T, output: &mut Output<S>)
 {
     output.put(b",\"detail\":");
     value.print_to(output);
+}
+
+/// That a call's changes were given up for those of others, as a reply line tells it.
+#[derive(Clone, Copy, Debug, PartialEq, Eq, Drop)]
+pub struct CallConflict {
+    /// The number of the call.
+    pub call: u64,
+    /// The place at which the conflict was found.
+    pub place: u64,
+}
+
+impl PrintJson for CallConflict {
+    ghost text = { λ c. conflict_json c.call c.place };
+
+    fn print_to<S: Sink>(&self, output: &mut Output<S>) {
+        output.put(b"{\"call\":");
+        print_number(self.call, output);
+        output.put(b",\"place\":");
+        print_number(self.place, output);
+        output.put(b",\"result\":\"conflict\"}");
+    }
 }

@@ -58,7 +58,7 @@ fn put_escaped<S: Sink>(byte: u8, output: &mut Output<S>)
 }
 
 /// Puts each run of bytes that stand as they are at once.
-fn put_all_escaped<S: Sink>(bytes: &[u8], output: &mut Output<S>)
+pub(crate) fn put_all_escaped<S: Sink>(bytes: &[u8], output: &mut Output<S>)
     ensures { Puts output.old output.new (flat_map escaped bytes.now) }
 {
     let mut rest = bytes;

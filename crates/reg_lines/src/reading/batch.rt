@@ -1,19 +1,19 @@
 //! Which batch does an object spell?
 //!
 //! An object that holds a batch has keys of the batch's own, which [`listed_in`] reads; [`batch_in`] then reads the
-//! operations. A line that has further keys looks at them in between.
+//! operations. A line that has further keys looks at them in between; [`batch_alone_in`] reads an object that has none.
 
 ghost use Rattle.std.specs.Prelude.{◌≡◌};
-ghost use Rattle.serde_json.specs.View.{items_view, view};
-ghost use Rattle.reg_lines.specs.Batches.{batch_in, batch_of, items_at, listed_in, missing_beside};
+ghost use Rattle.serde_json.specs.View.{items_view, members_view, view};
+ghost use Rattle.reg_lines.specs.Batches.{batch_alone_in, batch_in, batch_of, items_at, listed_in, missing_beside};
 ghost use Rattle.reg_lines.specs.Fields.{Gives};
 
 use crate::fault::{Code, Fault, Key};
-use crate::reading::fields::{at_key, optional_number_at, optional_uuid_at, value_at};
+use crate::reading::fields::{at_key, no_others, optional_number_at, optional_uuid_at, value_at};
 use crate::reading::ids::{Ids, MissingId};
 use crate::reading::ops::ops_in;
 use entry_book::{Batch, Op, Sequence};
-use serde_json::Value;
+use serde_json::{Map, Value};
 use spiffe_name::{Failure, TrustDomain};
 use std::alloc::Global;
 use uuid::Uuid;
@@ -108,4 +108,21 @@ pub(crate) fn batch_in(
     let missing = missing_beside(&listed.token);
     let ops = ops_in(alloc, missing, ids, listed.items)?;
     batch_of(alloc, domain, ops, listed.after, listed.token)
+}
+
+/// The batch of an object that has no further keys.
+#[tactic(auto, unfolding(crate::specs::Batches::batch_alone_in))]
+pub(crate) fn batch_alone_in(
+    alloc: Global,
+    domain: &TrustDomain,
+    ids: &mut Ids,
+    object: &Value,
+    members: &Map<String, Value>,
+) -> Result<Batch, Failure<Fault>>
+    ensures { Gives (λ batch. (batch, ids.new)) result
+        (batch_alone_in domain.now ids.old (view object.now) (members_view members.now.entries)) }
+{
+    let listed = listed_in(object)?;
+    no_others(members, &[Key::Ops, Key::After, Key::Token])?;
+    batch_in(alloc, domain, ids, &listed)
 }

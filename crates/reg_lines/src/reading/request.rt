@@ -49,7 +49,7 @@ fn len_before_lf(line: &[u8]) -> usize
 
 /// Refuses a line that is too long, or has no LF.
 #[tactic(auto, unfolding(crate::specs::Requests::framed, crate::specs::Requests::line_limit))]
-fn framed(line: &[u8]) -> Result<(), Failure<Fault>>
+pub(super) fn framed(line: &[u8]) -> Result<(), Failure<Fault>>
     ensures { Gives (λ _. tt) result (framed line.now) }
 {
     if len_before_lf(line) > LINE_LIMIT {
@@ -63,7 +63,7 @@ fn framed(line: &[u8]) -> Result<(), Failure<Fault>>
 
 /// The value that the line's text is.
 #[tactic(auto, unfolding(crate::specs::Requests::value_in))]
-fn value_in(alloc: Global, line: &[u8]) -> Result<Value, Failure<Fault>>
+pub(super) fn value_in(alloc: Global, line: &[u8]) -> Result<Value, Failure<Fault>>
     ensures { Gives view result (value_in line.now) }
 {
     let Ok(text) = str::from_utf8(line) else {
@@ -79,7 +79,7 @@ fn value_in(alloc: Global, line: &[u8]) -> Result<Value, Failure<Fault>>
     }
 }
 
-fn object_in(value: &Value) -> Result<&Map<String, Value>, Failure<Fault>>
+pub(super) fn object_in(value: &Value) -> Result<&Map<String, Value>, Failure<Fault>>
     ensures { Gives (λ m. members_view m.now.entries) result (object_in (as_object (view value.now))) }
 {
     match value.as_object() {

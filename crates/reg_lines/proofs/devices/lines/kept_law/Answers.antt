@@ -1,5 +1,8 @@
-use Rattle.reg_lines.proofs.Kept.{kept_spells}
+use Rattle.reg_lines.proofs.Kept.{kept_spells, kept_spells_event}
 use Rattle.reg_lines.proofs.devices.lines.kept_law.Goals as goal
 
-pub returns : goal.returns
-returns c = kept_spells
+pub returns-clause-requests : goal.returns-clause-requests
+returns-clause-requests c = kept_spells
+
+pub returns-clause-events : goal.returns-clause-events
+returns-clause-events c = kept_spells_event

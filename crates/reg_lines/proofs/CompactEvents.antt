@@ -1,0 +1,123 @@
+-- The printed lines of a schedule are the compact texts of values.
+use Rattle.std.proofs.Common.{◌≡◌, ℕ, false, List, [], ◌∷◌, refl, ◌∙◌, append_assoc}
+use Rattle.std.specs.Prelude.{codes, decimal}
+use Rattle.serde_json.specs.Written.{compact_text, has_float}
+use Rattle.serde_json.proofs.OnLiterals.{serde_json_on_literals}
+use Rattle.entry_book.specs.declared.limit.Limit.{Limit}
+use Rattle.entry_book.specs.Codes.{limit_code}
+use Rattle.version_book.specs.declared.mark.MarkKind.{MarkKind}
+use Rattle.batch_work.specs.declared.status.Status.{Status}
+use Rattle.call_machine.specs.Machine.{event_code}
+use Rattle.call_machine.specs.declared.event.Decision.{Decision}
+use Rattle.call_machine.specs.declared.event.Decision.TheVariants as is
+use Rattle.call_machine.specs.declared.event.Done.TheVariants.{Invoked, Begun, Stepped, Decided, Answered}
+use Rattle.call_machine.specs.declared.event.Told.{Told}
+use Rattle.call_machine.specs.declared.event.Told.TheVariants.{Replied, Conflicted}
+use Rattle.reg_lines.specs.EventAnswers.{begun_json, commit_json, decided_json, event_refusal_json, full_json, invoked_json, mark_json, order_json, status_json, stepped_json, told_json}
+use Rattle.reg_lines.specs.EventValues.{begun_data, commit_data, decided_data, full_data, invoked_data, stepped_data, told_data}
+use Rattle.reg_lines.specs.EventValues.{EventsAreCompact, EventsHaveNoFloat, EventRefusalsAreCompact, EventRefusalsHaveNoFloat, OrdersAreCompact, OrdersHaveNoFloat}
+use Rattle.reg_lines.specs.Json.{list_json, text_json}
+use Rattle.reg_lines.specs.Values.{list_data, whole}
+use Rattle.reg_lines.proofs.Compact.{text_json-is, list_json-is, left-right, reply_json-is, conflict_json-is, reply-no_float, conflict-no_float, list-no_float}
+
+-- ---- accepted events
+
+invoked_json-is : (call : ℕ) → invoked_json call ≡ compact_text (invoked_data call)
+unfolding invoked_json serde_json_on_literals
+invoked_json-is call = left-right (codes "{\"call\":") (decimal call ∷ codes ",\"state\":\"new\"}" ∷ []) ∙ refl
+
+begun_json-is : (call place : ℕ) (status : Status) → begun_json call place status ≡ compact_text (begun_data call place status)
+unfolding begun_json serde_json_on_literals
+begun_json-is call place status =
+    left-right (codes "{\"call\":") (
+    decimal call
+    ∷ codes ",\"place\":" ∷ decimal place
+    ∷ codes ",\"state\":" ∷ status_json status
+    ∷ codes "}" ∷ [])
+    ∙ simp text_json-is refl
+
+stepped_json-is : (call : ℕ) (read : MarkKind) (status : Status) → stepped_json call read status ≡ compact_text (stepped_data call read status)
+unfolding stepped_json serde_json_on_literals
+stepped_json-is call read status =
+    left-right (codes "{\"call\":") (
+    decimal call
+    ∷ codes ",\"read\":" ∷ mark_json read
+    ∷ codes ",\"state\":" ∷ status_json status
+    ∷ codes "}" ∷ [])
+    ∙ simp text_json-is refl
+
+commit_json-is : (call : ℕ) (word : List ℕ) (place : ℕ) → commit_json call word place ≡ compact_text (commit_data call word place)
+unfolding commit_json serde_json_on_literals
+commit_json-is call word place =
+    left-right (codes "{\"call\":") (
+    decimal call
+    ∷ codes ",\"commit\":" ∷ text_json word
+    ∷ codes ",\"place\":" ∷ decimal place
+    ∷ codes "}" ∷ [])
+    ∙ simp text_json-is refl
+
+full_json-is : (call : ℕ) (limit : Limit) (place : ℕ) → full_json call limit place ≡ compact_text (full_data call limit place)
+unfolding full_json serde_json_on_literals
+full_json-is call limit place =
+    left-right (codes "{\"call\":") (
+    decimal call
+    ∷ codes ",\"code\":" ∷ text_json (limit_code limit)
+    ∷ codes ",\"commit\":\"full\",\"place\":" ∷ decimal place
+    ∷ codes "}" ∷ [])
+    ∙ simp text_json-is refl
+
+decided_json-is : (call : ℕ) (decision : Decision) (place : ℕ) → decided_json call decision place ≡ compact_text (decided_data call decision place)
+decided_json-is call is.Committed place = commit_json-is call (codes "committed") place
+decided_json-is call is.Conflict place = commit_json-is call (codes "conflict") place
+decided_json-is call (is.Full limit) place = full_json-is call limit place
+
+told_json-is : (call : ℕ) (told : Told) → told_json call told ≡ compact_text (told_data call told)
+told_json-is call (Replied reply) = reply_json-is call reply
+told_json-is call (Conflicted place) = conflict_json-is call place
+
+pub event_json-is : EventsAreCompact
+event_json-is (Invoked call) = invoked_json-is call
+event_json-is (Begun call place status) = begun_json-is call place status
+event_json-is (Stepped call read status) = stepped_json-is call read status
+event_json-is (Decided call decision place) = decided_json-is call decision place
+event_json-is (Answered call told) = told_json-is call told
+
+-- ---- refused events, and the order
+
+pub event_refusal_json-is : EventRefusalsAreCompact
+unfolding event_refusal_json serde_json_on_literals
+event_refusal_json-is line r =
+    left-right (codes "{\"code\":") (text_json (event_code r) ∷ codes ",\"line\":" ∷ decimal line ∷ codes "}" ∷ [])
+    ∙ simp text_json-is refl
+
+numbers-are : (ns : List ℕ) → list_json decimal ns ≡ compact_text (list_data whole ns)
+unfolding serde_json_on_literals
+numbers-are ns = list_json-is decimal whole (λ n. refl) ns
+
+pub order_json-is : OrdersAreCompact
+unfolding order_json serde_json_on_literals
+order_json-is calls = simp (append_assoc, numbers-are) refl
+
+-- ---- no value has a float
+
+decided-no_float : (call : ℕ) (decision : Decision) (place : ℕ) → has_float (decided_data call decision place) ≡ false
+decided-no_float call is.Committed place = refl
+decided-no_float call is.Conflict place = refl
+decided-no_float call (is.Full limit) place = refl
+
+told-no_float : (call : ℕ) (told : Told) → has_float (told_data call told) ≡ false
+told-no_float call (Replied reply) = reply-no_float call reply
+told-no_float call (Conflicted place) = conflict-no_float call place
+
+pub event-no_float : EventsHaveNoFloat
+event-no_float (Invoked call) = refl
+event-no_float (Begun call place status) = refl
+event-no_float (Stepped call read status) = refl
+event-no_float (Decided call decision place) = decided-no_float call decision place
+event-no_float (Answered call told) = told-no_float call told
+
+pub event_refusal-no_float : EventRefusalsHaveNoFloat
+event_refusal-no_float line r = refl
+
+pub order-no_float : OrdersHaveNoFloat
+order-no_float calls = simp (list-no_float whole (λ n. refl)) refl

@@ -1,0 +1,7 @@
+use Rattle.reg_lines.specs.EventAnswers.{begun_json}
+use Rattle.reg_lines.proofs.Rows.{◌▸◌}
+use Rattle.reg_lines.proofs.printing.events.print_begun.Goals as goal
+
+pub returns : goal.returns
+unfolding begun_json
+returns g c = c.put.ensures ▸ c.print_number.ensures ▸ c.put-2.ensures ▸ c.print_number-2.ensures ▸ c.put-3.ensures ▸ c.print_to.ensures ▸ c.put-4.ensures

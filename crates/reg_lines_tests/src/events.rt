@@ -1,0 +1,220 @@
+//! Which events do lines spell?
+
+use crate::answers::{line_of, new_ids, printed, trust_domain};
+use crate::spelled::with_batch;
+use call_machine::Event;
+use reg_lines::{Ids, read_event};
+use spiffe_name::Failure;
+use std::alloc::Global;
+use std::process::Abort;
+use std::test::Fail;
+
+/// The event's name, its call, and the batch that it hands in.
+fn event_text(alloc: Global, event: &Event) -> Result<String, Fail> {
+    match event {
+        Event::Invoke(call, batch) => {
+            with_batch(alloc, format!(in alloc; "invoke {call}")?, batch)
+        }
+        Event::Begin(call) => Ok(format!(in alloc; "begin {call}")?),
+        Event::Step(call) => Ok(format!(in alloc; "step {call}")?),
+        Event::Commit(call) => Ok(format!(in alloc; "commit {call}")?),
+        Event::Reply(call) => Ok(format!(in alloc; "reply {call}")?),
+    }
+}
+
+/// What a line spells in the trust domain `ex.org`: an event; or the printed refusal. Want of memory is an error, so that
+/// no table has to know of it.
+fn spelled(alloc: Global, ids: &mut Ids, line: &[u8], number: u64) -> Result<String, Fail> {
+    let domain = trust_domain(alloc, "ex.org")?;
+    match read_event(alloc, &domain, ids, line, number) {
+        Ok(event) => event_text(alloc, &event),
+        Err(refusal) => {
+            if let Failure::NoMemory = &refusal.failure {
+                return Err(Fail::from("no memory"));
+            }
+            printed(alloc, &refusal)
+        }
+    }
+}
+
+/// Each line of the table is an event's line and what it spells, with what the lines before left of the ids.
+fn spells(rt: &impl Abort, alloc: Global, table: &str) -> Result<(), Fail> {
+    let mut ids = new_ids();
+    for case in table.lines() {
+        if let Some((text, want)) = case.split_once(" => ") {
+            let line = line_of(alloc, text)?;
+            let got = spelled(alloc, &mut ids, &line, 1)?;
+            assert_eq!(rt; got.as_str(), want, "{text}");
+        }
+    }
+    Ok(())
+}
+
+/// Lines, and what each spells.
+const TABLE: &str = r#"
+# each event
+{"event":"invoke","call":1,"batch":{"ops":[{"op":"show","id":"00000000-0000-0000-0000-000000000001"}]}} => invoke 1; show "00000000-0000-0000-0000-000000000001"
+{"event":"begin","call":1} => begin 1
+{"event":"step","call":1} => step 1
+{"event":"commit","call":1} => commit 1
+{"event":"reply","call":1} => reply 1
+
+# keys in any order, calls of any number, escapes
+{"call":18446744073709551615,"event":"commit"} => commit 18446744073709551615
+{"event":"step","call":0} => step 0
+{"batch":{"ops":[{"agent":"spiffe://ex.org/spire/agent/n1","op":"authorised"}]},"call":7,"event":"invoke"} => invoke 7; authorised "spiffe://ex.org/spire/agent/n1"
+{"\u0065vent":"\u0062egin","call":1} => begin 1
+{"event":"begin","event":"step","call":"x","call":2} => step 2
+
+# the batch's own keys
+{"event":"invoke","call":1,"batch":{"ops":[{"op":"prune","before":7},{"op":"show","id":"00000000-0000-0000-0000-000000000001"}],"after":3,"token":"00000000-0000-0000-0000-000000000009"}} => invoke 1 after 3 token "00000000-0000-0000-0000-000000000009"; prune 7; show "00000000-0000-0000-0000-000000000001"
+{"event":"invoke","call":1,"batch":{"after":null,"token":null,"ops":[{"op":"show","id":"00000000-0000-0000-0000-000000000001"}]}} => invoke 1; show "00000000-0000-0000-0000-000000000001"
+
+# no JSON text, or no object
+{"event":"begin","call":1 => {"code":"L2","line":1}
+ => {"code":"L2","line":1}
+["begin",1] => {"code":"L4","line":1}
+"begin" => {"code":"L4","line":1}
+
+# the event comes first
+{} => {"code":"L5","field":"event","line":1}
+{"call":1} => {"code":"L5","field":"event","line":1}
+{"call":"x","zz":1} => {"code":"L5","field":"event","line":1}
+{"event":null,"call":1} => {"code":"L5","field":"event","line":1}
+{"event":7,"call":"x"} => {"code":"L5","field":"event","line":1}
+{"event":["begin"],"call":"x"} => {"code":"L5","field":"event","line":1}
+{"event":"Begin","call":"x"} => {"code":"L5","field":"event","line":1}
+{"event":"end","call":null,"aa":1} => {"code":"L5","field":"event","line":1}
+{"event":"","batch":7} => {"code":"L5","field":"event","line":1}
+{"event":"invoked","call":1,"batch":{"ops":[{"op":"show","id":"00000000-0000-0000-0000-000000000001"}]}} => {"code":"L5","field":"event","line":1}
+
+# then its call
+{"event":"begin"} => {"code":"L5","field":"call","line":1}
+{"event":"begin","call":null} => {"code":"L5","field":"call","line":1}
+{"event":"begin","call":"1","aa":1} => {"code":"L5","field":"call","line":1}
+{"event":"step","call":-1} => {"code":"L5","field":"call","line":1}
+{"event":"step","call":-0} => {"code":"L5","field":"call","line":1}
+{"event":"commit","call":1.0} => {"code":"L5","field":"call","line":1}
+{"event":"commit","call":1e2} => {"code":"L5","field":"call","line":1}
+{"event":"reply","call":18446744073709551616} => {"code":"L5","field":"call","line":1}
+{"event":"reply","call":[1]} => {"code":"L5","field":"call","line":1}
+{"event":"begin","batch":{},"aa":1} => {"code":"L5","field":"call","line":1}
+{"event":"invoke","batch":{},"aa":1} => {"code":"L5","field":"call","line":1}
+{"event":"invoke","call":true} => {"code":"L5","field":"call","line":1}
+
+# then, where a call is handed in, its batch
+{"event":"invoke","call":1} => {"code":"L5","field":"batch","line":1}
+{"event":"invoke","call":1,"aa":1} => {"code":"L5","field":"batch","line":1}
+{"event":"invoke","call":1,"batch":null} => {"code":"L5","field":"batch","line":1}
+{"event":"invoke","call":1,"batch":7} => {"code":"L5","field":"batch","line":1}
+{"event":"invoke","call":1,"batch":"x"} => {"code":"L5","field":"batch","line":1}
+{"event":"invoke","call":1,"batch":[],"aa":1} => {"code":"L5","field":"batch","line":1}
+{"event":"invoke","call":1,"batch":true} => {"code":"L5","field":"batch","line":1}
+
+# which no other event has
+{"event":"begin","call":1,"batch":{"ops":[{"op":"show","id":"00000000-0000-0000-0000-000000000001"}]}} => {"code":"L5","field":"batch","line":1}
+{"event":"step","call":1,"batch":{"ops":[{"op":"show","id":"00000000-0000-0000-0000-000000000001"}]}} => {"code":"L5","field":"batch","line":1}
+{"event":"commit","call":1,"batch":{"ops":[{"op":"show","id":"00000000-0000-0000-0000-000000000001"}]}} => {"code":"L5","field":"batch","line":1}
+{"event":"reply","call":1,"batch":{"ops":[{"op":"show","id":"00000000-0000-0000-0000-000000000001"}]}} => {"code":"L5","field":"batch","line":1}
+{"event":"reply","call":1,"batch":null} => {"code":"L5","field":"batch","line":1}
+{"event":"begin","call":1,"batch":{},"zz":1} => {"code":"L5","field":"batch","line":1}
+{"event":"begin","call":1,"batch":{},"aa":1} => {"code":"L5","field":"aa","line":1}
+
+# keys that aren't known, in the order of their bytes
+{"event":"begin","call":1,"aa":1,"Zz":null} => {"code":"L5","field":"Zz","line":1}
+{"event":"step","call":1,"ops":[]} => {"code":"L5","field":"ops","line":1}
+{"event":"commit","call":1,"tries":1} => {"code":"L5","field":"tries","line":1}
+{"event":"reply","call":1,"":1} => {"code":"L5","field":"","line":1}
+
+# they come before the batch's keys
+{"event":"invoke","call":1,"batch":{},"zz":1} => {"code":"L5","field":"zz","line":1}
+{"event":"invoke","call":1,"batch":{"ops":7,"aa":1},"zz":1} => {"code":"L5","field":"zz","line":1}
+{"event":"invoke","call":1,"batch":{},"tries":1} => {"code":"L5","field":"tries","line":1}
+{"event":"invoke","call":1,"batch":{"ops":[7]},"token":null,"after":0} => {"code":"L5","field":"after","line":1}
+
+# the batch's keys in their order
+{"event":"invoke","call":1,"batch":{}} => {"code":"L5","field":"ops","line":1}
+{"event":"invoke","call":1,"batch":{"ops":null,"after":-1,"token":7,"aa":1}} => {"code":"L5","field":"ops","line":1}
+{"event":"invoke","call":1,"batch":{"ops":{},"after":-1}} => {"code":"L5","field":"ops","line":1}
+{"event":"invoke","call":1,"batch":{"ops":[7],"after":-1,"token":7,"aa":1}} => {"code":"L5","field":"after","line":1}
+{"event":"invoke","call":1,"batch":{"ops":[7],"token":7,"aa":1}} => {"code":"L5","field":"token","line":1}
+{"event":"invoke","call":1,"batch":{"ops":[7],"token":"x","aa":1}} => {"code":"U1","field":"token","line":1}
+{"event":"invoke","call":1,"batch":{"ops":[7],"zz":1,"aa":1}} => {"code":"L5","field":"aa","line":1}
+{"event":"invoke","call":1,"batch":{"ops":[{"op":"show","id":"00000000-0000-0000-0000-000000000001"}],"tries":1}} => {"code":"L5","field":"tries","line":1}
+{"event":"invoke","call":1,"batch":{"ops":[7],"tries":null}} => {"code":"L5","field":"tries","line":1}
+{"event":"invoke","call":1,"batch":{"ops":[7],"event":"invoke"}} => {"code":"L5","field":"event","line":1}
+{"event":"invoke","call":1,"batch":{"ops":[7],"call":1}} => {"code":"L5","field":"call","line":1}
+{"event":"invoke","call":1,"batch":{"ops":[7],"batch":{}}} => {"code":"L5","field":"batch","line":1}
+
+# its operations, and what they are together
+{"event":"invoke","call":1,"batch":{"ops":[7]}} => {"code":"L5","field":"ops","line":1,"op":0}
+{"event":"invoke","call":1,"batch":{"ops":[{"op":"show","id":"00000000-0000-0000-0000-000000000001"},{"op":"mint"}]}} => {"code":"L5","field":"op","line":1,"op":1}
+{"event":"invoke","call":1,"batch":{"ops":[{"op":"show","id":"x","zz":1}]}} => {"code":"U1","field":"id","line":1,"op":0}
+{"event":"invoke","call":1,"batch":{"ops":[{"op":"children","parent":"spiffe://ex.org/a//b"}]}} => {"code":"I6","field":"parent","line":1,"op":0}
+{"event":"invoke","call":1,"batch":{"ops":[{"op":"set_agent","agent":"spiffe://ex.org/spire/agent/n1","selectors":["unix",7]}]}} => {"code":"S2","field":"selectors","line":1,"op":0}
+{"event":"invoke","call":1,"batch":{"ops":[]}} => {"code":"B1","line":1}
+{"event":"invoke","call":1,"batch":{"ops":[{"op":"show","id":"00000000-0000-0000-0000-000000000001"},{"op":"authorised","agent":"spiffe://other.org/spire/agent/n1"}]}} => {"code":"B3","line":1,"op":1}
+{"event":"invoke","call":1,"batch":{"ops":[{"op":"show","id":"00000000-0000-0000-0000-000000000001"}],"token":"00000000-0000-0000-0000-000000000009"}} => {"code":"B14","line":1}
+"#;
+
+#[test]
+fn the_keys_of_events_are_read_in_their_turn(rt: HostRuntime) -> Result<(), Fail> {
+    spells(&rt, rt.alloc(), TABLE)
+}
+
+/// Lines with the ids of the seed of zeros, and what each spells.
+const DRAWN: &str = r#"
+# the first ids of the seed of zeros
+{"event":"invoke","call":1,"batch":{"ops":[{"op":"create","parent":"spiffe://ex.org/a","identity":"spiffe://ex.org/b","selectors":["u:1"]}]}} => invoke 1; create "76b8e0ad-a0f1-4d90-805d-6ae55386bd28" "spiffe://ex.org/a" "spiffe://ex.org/b" ["u:1"] "" [] 0
+# a line that is refused draws none
+{"event":"invoke","call":1,"batch":{"ops":[{"op":"create","parent":"spiffe://ex.org/a","identity":"spiffe://ex.org/b","selectors":["u:1"]},7]}} => {"code":"L5","field":"ops","line":1,"op":1}
+{"event":"invoke","call":1,"batch":{"ops":[{"op":"create","parent":"spiffe://ex.org/a","identity":"spiffe://ex.org/b","selectors":["u:1"]},{"op":"create","parent":"spiffe://ex.org","identity":"spiffe://ex.org/b","selectors":["u:1"]}]}} => {"code":"B4","line":1,"op":1}
+{"event":"invoke","call":1,"batch":{"ops":[{"op":"create","parent":"spiffe://ex.org/a","identity":"spiffe://ex.org/b","selectors":["u:1"]}]},"aa":1} => {"code":"L5","field":"aa","line":1}
+{"event":"invoke","call":1,"batch":{"ops":[{"op":"create","parent":"spiffe://ex.org/a","identity":"spiffe://ex.org/b","selectors":["u:1"]}],"tries":1}} => {"code":"L5","field":"tries","line":1}
+# beside a token each create has its id
+{"event":"invoke","call":1,"batch":{"ops":[{"op":"create","parent":"spiffe://ex.org/a","identity":"spiffe://ex.org/b","selectors":["u:1"]}],"token":"00000000-0000-0000-0000-000000000009"}} => {"code":"L5","field":"id","line":1,"op":0}
+# other events draw none
+{"event":"begin","call":1} => begin 1
+# the next ids, the same call or another
+{"event":"invoke","call":1,"batch":{"ops":[{"op":"create","parent":"spiffe://ex.org/a","identity":"spiffe://ex.org/b","selectors":["u:1"]},{"op":"create","parent":"spiffe://ex.org/a","identity":"spiffe://ex.org/b","selectors":["u:1"]}]}} => invoke 1; create "bdd219b8-a08d-4d1a-a836-efcc8b770dc7" "spiffe://ex.org/a" "spiffe://ex.org/b" ["u:1"] "" [] 0; create "da41597c-5157-488d-b724-e03fb8d84a37" "spiffe://ex.org/a" "spiffe://ex.org/b" ["u:1"] "" [] 0
+"#;
+
+#[test]
+fn only_batches_that_are_handed_in_draw_ids(rt: HostRuntime) -> Result<(), Fail> {
+    spells(&rt, rt.alloc(), DRAWN)
+}
+
+/// Lines that aren't framed as they should be, each the seventh, and what is told of it.
+const FRAMES: [(&[u8], &str); 3] = [
+    (
+        b"{\"event\":\"begin\",\"call\":1}",
+        r#"{"code":"L3","line":7}"#,
+    ),
+    (b"\xff\n", r#"{"code":"L2","line":7}"#),
+    (b"{\"event\":\"begin\",\"call\":1}\r\n", "begin 1"),
+];
+
+fn frames_are_told(rt: &impl Abort, alloc: Global) -> Result<(), Fail> {
+    for (line, want) in FRAMES {
+        let got = spelled(alloc, &mut new_ids(), line, 7)?;
+        assert_eq!(rt; got.as_str(), want);
+    }
+    Ok(())
+}
+
+/// An event with spaces behind it, so many bytes before its LF, is told so.
+fn long_is_told(rt: &impl Abort, alloc: Global, len: usize, want: &str) -> Result<(), Fail> {
+    let mut line = Vec::from_slice(alloc, b"{\"event\":\"reply\",\"call\":3}")?;
+    line.resize(len, b' ')?;
+    line.push(b'\n')?;
+    let got = spelled(alloc, &mut new_ids(), &line, 7)?;
+    assert_eq!(rt; got.as_str(), want);
+    Ok(())
+}
+
+#[test]
+fn an_event_is_framed_as_any_line(rt: HostRuntime) -> Result<(), Fail> {
+    frames_are_told(&rt, rt.alloc())?;
+    long_is_told(&rt, rt.alloc(), 1_048_576, "reply 3")?;
+    long_is_told(&rt, rt.alloc(), 1_048_577, r#"{"code":"L1","line":7}"#)
+}
