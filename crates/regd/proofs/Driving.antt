@@ -1,13 +1,13 @@
 -- A run of lines on its way, whatever it is that answers them.
-use Rattle.std.proofs.Common.{◌≡◌, ◌+◌, ◌≤◌, ◌<◌, ℕ, Bool, true, false, List, [], ◌∷◌, ◌++◌, drop, Option, None, Some, Result, Ok, Err, refl, sym, ◌∙◌, append-nil, arith, subst}
-use Rattle.std.specs.Prelude.{MatchBool, OnOk, IfErr, IfSome}
+use Rattle.std.proofs.Common.{◌≡◌, ◌+◌, ◌≤◌, ◌<◌, ℕ, Bool, true, false, ◌⊎◌, inl, inr, ⊎_elim, List, [], ◌∷◌, ◌++◌, drop, Option, None, Some, Result, Ok, Err, refl, sym, ◌∙◌, append-nil, arith, subst}
+use Rattle.std.specs.Prelude.{MatchBool, OnErr, OnOk, IfErr, IfSome}
 use Rattle.std.specs.Io.KnownBytes.{Consumes, IsAtEnd}
 use Rattle.reg_lines.specs.Lines.{has_lf, most_lines, TakesLine}
-use Rattle.reg_lines.specs.Runs.{IsRun, StepsKept, first_lines}
+use Rattle.reg_lines.specs.Runs.{AppendsRun, IsRun, StepsKept, first_lines}
 use Rattle.reg_lines.specs.Stream.{InputState, IsOut, OutputState, Puts}
 use Rattle.reg_lines.proofs.Puts.{Puts-then, Puts-same}
 use Rattle.reg_lines.proofs.RunLemmas.{RunsFrom, RunsFrom-start, RunsFrom-flush, RunsFrom-more, IsRun-on, IsRun-append, AppendsRun-so_far, all_put, front_put, front_longer, lines_done, lines_end, lines_more}
-use Rattle.regd.specs.Driver.{AnswersKept, AppendsClosed, AppendsClosedFront, Closes, RunsOver, Steps}
+use Rattle.regd.specs.Driver.{AnswersKept, AppendsClosed, AppendsClosedFront, Closes, FailsToClose, MayClose, RunsOver, Steps}
 use Rattle.regd.specs.declared.faults.RunFault.{RunFault}
 use Rattle.regd.specs.declared.faults.RunFault.TheVariants as fault
 
@@ -110,22 +110,30 @@ pub Closes-flushed : {State : Type 0} (closes : State → List ℕ → Type 0) (
 Closes-flushed closes now a b c k p = (k.0, k.1, Puts-same _ _ _ _ (append-nil k.0) (Puts-then _ _ _ _ _ k.2 p))
 
 -- however far the run has come, what was written is a beginning
-pub AppendsClosedFront-of : {State : Type 0} (step : State → List ℕ → State → List ℕ → Type 0) (closes : State → List ℕ → Type 0) → ((s : State) (l : List ℕ) → (next : State) × (reply : List ℕ) × step s l next reply) → ((s : State) → (end : List ℕ) × closes s end) → (first : State) (all left : Option (List ℕ)) (start now : OutputState) (count most : ℕ) (last : State) → start.failures ≡ 0 → start.held ≡ [] → count ≤ most → RunsFrom step first all left start now count last → IfSome all (λ bytes. AppendsClosedFront step closes first (first_lines most bytes) start.written now.written)
-AppendsClosedFront-of step closes some some_end first None left start now count most last f h l w = tt
-AppendsClosedFront-of step closes some some_end first (Some xs) None start now count most last f h l w = absurd w
-AppendsClosedFront-of step closes some some_end first (Some xs) (Some ys) start now count most last f h l w =
+pub AppendsClosedFront-of : {State : Type 0} (step : State → List ℕ → State → List ℕ → Type 0) (closes : State → List ℕ → Type 0) → ((s : State) (l : List ℕ) → (next : State) × (reply : List ℕ) × step s l next reply) → (first : State) (all left : Option (List ℕ)) (start now : OutputState) (count most : ℕ) (last : State) → start.failures ≡ 0 → start.held ≡ [] → count ≤ most → RunsFrom step first all left start now count last → IfSome all (λ bytes. AppendsClosedFront step (MayClose closes) first (first_lines most bytes) start.written now.written)
+AppendsClosedFront-of step closes some first None left start now count most last f h l w = tt
+AppendsClosedFront-of step closes some first (Some xs) None start now count most last f h l w = absurd w
+AppendsClosedFront-of step closes some first (Some xs) (Some ys) start now count most last f h l w =
     let more = IsRun-on step some last (drop count (first_lines most xs)) in
-    let end = some_end more.0 in
     let P : List (List ℕ) → Type 0 = λ ls. IsRun step first ls last w.text in
     let Q : List (List ℕ) → Type 0 = λ ls. IsRun step first ls more.0 (w.text ++ more.1) in
     let so_far = subst P (lines_done xs ys w.done count w.lines w.counted) w.run in
     let run = subst Q (lines_more xs count most l) (IsRun-append step first last more.0 _ _ w.text more.1 so_far more.2) in
-    ((w.text ++ more.1) ++ end.0, (more.0, w.text ++ more.1, end.0, run, end.1, refl), front_longer _ _ _ _ (front_longer _ _ _ _ (front_put _ _ _ f h w.put)))
+    ((w.text ++ more.1) ++ [], (more.0, w.text ++ more.1, [], run, inr refl, refl), front_longer _ _ _ _ (front_longer _ _ _ _ (front_put _ _ _ f h w.put)))
 
-closed_front : {State : Type 0} (step : State → List ℕ → State → List ℕ → Type 0) (closes : State → List ℕ → Type 0) (first last : State) (all : Option (List ℕ)) (start mid now : OutputState) (most : ℕ) → start.failures ≡ 0 → start.held ≡ [] → IfSome all (λ bytes. (text : List ℕ) × IsRun step first (first_lines most bytes) last text × Puts start mid text) → Closes closes last mid now → IfSome all (λ bytes. AppendsClosedFront step closes first (first_lines most bytes) start.written now.written)
+closed_front : {State : Type 0} (step : State → List ℕ → State → List ℕ → Type 0) (closes : State → List ℕ → Type 0) (first last : State) (all : Option (List ℕ)) (start mid now : OutputState) (most : ℕ) → start.failures ≡ 0 → start.held ≡ [] → IfSome all (λ bytes. (text : List ℕ) × IsRun step first (first_lines most bytes) last text × Puts start mid text) → Closes closes last mid now ⊎ Puts mid now [] → IfSome all (λ bytes. AppendsClosedFront step (MayClose closes) first (first_lines most bytes) start.written now.written)
 closed_front step closes first last None start mid now most f h p k = tt
 closed_front step closes first last (Some xs) start mid now most f h p k =
-    (p.0 ++ k.0, (last, p.0, k.0, p.1, k.1, refl), front_put _ _ _ f h (Puts-then _ _ _ _ _ p.2 k.2))
+    ⊎_elim
+    (λ k. (p.0 ++ k.0, (last, p.0, k.0, p.1, inl k.1, refl), front_put _ _ _ f h (Puts-then _ _ _ _ _ p.2 k.2)))
+    (λ n. (p.0 ++ [], (last, p.0, [], p.1, inr refl, refl), front_put _ _ _ f h (Puts-then _ _ _ _ _ p.2 n)))
+    k
+
+-- all replies are out, and nothing behind them
+replies_out : {State : Type 0} (step : State → List ℕ → State → List ℕ → Type 0) (first last : State) (all : Option (List ℕ)) (start mid now : OutputState) (most : ℕ) → start.failures ≡ 0 → start.held ≡ [] → now.failures ≡ 0 → now.held ≡ [] → IfSome all (λ bytes. (text : List ℕ) × IsRun step first (first_lines most bytes) last text × Puts start mid text) → Puts mid now [] → IfSome all (λ bytes. AppendsRun step first (first_lines most bytes) start.written now.written)
+replies_out step first last None start mid now most f h g i p n = tt
+replies_out step first last (Some xs) start mid now most f h g i p n =
+    (last, p.0, p.1, all_put _ _ _ f h g i (Puts-same _ _ _ _ (append-nil p.0) (Puts-then _ _ _ _ _ p.2 n)))
 
 closed_text : {State : Type 0} (step : State → List ℕ → State → List ℕ → Type 0) (closes : State → List ℕ → Type 0) (first last : State) (all : Option (List ℕ)) (start mid now : OutputState) (most : ℕ) → start.failures ≡ 0 → start.held ≡ [] → now.failures ≡ 0 → now.held ≡ [] → IfSome all (λ bytes. (text : List ℕ) × IsRun step first (first_lines most bytes) last text × Puts start mid text) → Closes closes last mid now → IfSome all (λ bytes. AppendsClosed step closes first (first_lines most bytes) start.written now.written)
 closed_text step closes first last None start mid now most f h g i p k = tt
@@ -143,9 +151,9 @@ output_memory e = cc
 
 -- the ends of a run
 
-pub RunsOver-no_memory : {State : Type 0} (step : State → List ℕ → State → List ℕ → Type 0) (closes : State → List ℕ → Type 0) {V : Type 0} (result : Result V RunFault) → ((s : State) (l : List ℕ) → (next : State) × (reply : List ℕ) × step s l next reply) → ((s : State) → (end : List ℕ) × closes s end) → (first : State) (input : InputState) (output : OutputState) → output.failures ≡ 0 → output.held ≡ [] → result ≡ Err fault.NoMemory → RunsOver step closes first input input output output result
-RunsOver-no_memory step closes (Ok x) some some_end first input output f h e = absurd (cc)
-RunsOver-no_memory step closes (Err e) some some_end first input output f h is =
+pub RunsOver-no_memory : {State : Type 0} (step : State → List ℕ → State → List ℕ → Type 0) (closes : State → List ℕ → Type 0) (wants : Type 0) {V : Type 0} (result : Result V RunFault) → ((s : State) (l : List ℕ) → (next : State) × (reply : List ℕ) × step s l next reply) → (first : State) (input : InputState) (output : OutputState) → output.failures ≡ 0 → output.held ≡ [] → result ≡ Err fault.NoMemory → RunsOver step closes wants first input input output output result
+RunsOver-no_memory step closes wants (Ok x) some first input output f h e = absurd (cc)
+RunsOver-no_memory step closes wants (Err e) some first input output f h is =
     let is_memory : e ≡ fault.NoMemory = cc in
     record {
       text = tt;
@@ -153,12 +161,12 @@ RunsOver-no_memory step closes (Err e) some some_end first input output f h is =
       input_failed = λ i. absurd (input_memory (sym i ∙ is_memory));
       output_failed = λ o. absurd (output_memory (sym o ∙ is_memory));
       so_far = λ i. absurd (input_memory (sym i ∙ is_memory));
-      no_memory = λ _. (refl, refl);
-      front = AppendsClosedFront-of step closes some some_end first input.left input.left output output 0 most_lines first f h (omega arith) (RunsFrom-start step first input.left output);
+      no_memory = λ _. inl (refl, refl);
+      front = AppendsClosedFront-of step closes some first input.left input.left output output 0 most_lines first f h (omega arith) (RunsFrom-start step first input.left output);
     }
 
-pub RunsOver-output : {State : Type 0} (step : State → List ℕ → State → List ℕ → Type 0) (closes : State → List ℕ → Type 0) {V : Type 0} → ((s : State) (l : List ℕ) → (next : State) × (reply : List ℕ) × step s l next reply) → ((s : State) → (end : List ℕ) × closes s end) → (first : State) (input rest : InputState) (output out : OutputState) (count : ℕ) (last : State) → output.failures ≡ 0 → output.held ≡ [] → 0 < out.failures → count ≤ most_lines → RunsFrom step first input.left rest.left output out count last → RunsOver {State = State} {T = V} step closes first input rest output out (Err fault.Output)
-RunsOver-output step closes some some_end first input rest output out count last f h failed l w =
+pub RunsOver-output : {State : Type 0} (step : State → List ℕ → State → List ℕ → Type 0) (closes : State → List ℕ → Type 0) (wants : Type 0) {V : Type 0} → ((s : State) (l : List ℕ) → (next : State) × (reply : List ℕ) × step s l next reply) → (first : State) (input rest : InputState) (output out : OutputState) (count : ℕ) (last : State) → output.failures ≡ 0 → output.held ≡ [] → 0 < out.failures → count ≤ most_lines → RunsFrom step first input.left rest.left output out count last → RunsOver {State = State} {T = V} step closes wants first input rest output out (Err fault.Output)
+RunsOver-output step closes wants some first input rest output out count last f h failed l w =
     record {
       text = tt;
       done = tt;
@@ -166,11 +174,11 @@ RunsOver-output step closes some some_end first input rest output out count last
       output_failed = λ _. failed;
       so_far = λ i. absurd (input_output (sym i));
       no_memory = λ m. absurd (output_memory m);
-      front = AppendsClosedFront-of step closes some some_end first input.left rest.left output out count most_lines last f h l w;
+      front = AppendsClosedFront-of step closes some first input.left rest.left output out count most_lines last f h l w;
     }
 
-pub RunsOver-input : {State : Type 0} (step : State → List ℕ → State → List ℕ → Type 0) (closes : State → List ℕ → Type 0) {V : Type 0} → ((s : State) (l : List ℕ) → (next : State) × (reply : List ℕ) × step s l next reply) → ((s : State) → (end : List ℕ) × closes s end) → (first : State) (input rest : InputState) (left : Option (List ℕ)) (output out : OutputState) (count : ℕ) (last : State) → output.failures ≡ 0 → output.held ≡ [] → 0 < rest.failures → out.failures ≡ 0 → IsOut out → ((lost : List ℕ) × (has_lf lost ≡ false) × Consumes left rest.left lost) → count ≤ most_lines → RunsFrom step first input.left left output out count last → RunsOver {State = State} {T = V} step closes first input rest output out (Err fault.Input)
-RunsOver-input step closes some some_end first input rest left output out count last f h failed g o lost l w =
+pub RunsOver-input : {State : Type 0} (step : State → List ℕ → State → List ℕ → Type 0) (closes : State → List ℕ → Type 0) (wants : Type 0) {V : Type 0} → ((s : State) (l : List ℕ) → (next : State) × (reply : List ℕ) × step s l next reply) → (first : State) (input rest : InputState) (left : Option (List ℕ)) (output out : OutputState) (count : ℕ) (last : State) → output.failures ≡ 0 → output.held ≡ [] → 0 < rest.failures → out.failures ≡ 0 → IsOut out → ((lost : List ℕ) × (has_lf lost ≡ false) × Consumes left rest.left lost) → count ≤ most_lines → RunsFrom step first input.left left output out count last → RunsOver {State = State} {T = V} step closes wants first input rest output out (Err fault.Input)
+RunsOver-input step closes wants some first input rest left output out count last f h failed g o lost l w =
     record {
       text = tt;
       done = tt;
@@ -178,13 +186,13 @@ RunsOver-input step closes some some_end first input rest left output out count 
       output_failed = λ e. absurd (input_output e);
       so_far = λ _. (g, o, AppendsRun-so_far _ _ _ _ _ _ _ _ _ f h g o.0 lost w);
       no_memory = λ m. absurd (input_memory m);
-      front = AppendsClosedFront-of step closes some some_end first input.left left output out count most_lines last f h l w;
+      front = AppendsClosedFront-of step closes some first input.left left output out count most_lines last f h l w;
     }
 
-pub RunsOver-finished : {State : Type 0} (step : State → List ℕ → State → List ℕ → Type 0) (closes : State → List ℕ → Type 0) (stands : State → Type 0) {V : Type 0} (result : Result V RunFault) (first : State) (input rest : InputState) (output mid out : OutputState) → output.failures ≡ 0 → output.held ≡ [] → rest.failures ≡ 0 → IsThrough step stands first input.left output mid → ((now : State) → stands now → Closes closes now mid out) → OnOk result ((out.failures ≡ 0) × IsOut out) → IfErr result (λ e. (e ≡ fault.Output) × (0 < out.failures)) → RunsOver step closes first input rest output out result
-RunsOver-finished step closes stands (Ok x) first input rest output mid out f h r w k ok err =
+pub RunsOver-finished : {State : Type 0} (step : State → List ℕ → State → List ℕ → Type 0) (closes : State → List ℕ → Type 0) (wants : Type 0) (stands : State → Type 0) {V : Type 0} (result : Result V RunFault) (first : State) (input rest : InputState) (output mid out : OutputState) → output.failures ≡ 0 → output.held ≡ [] → rest.failures ≡ 0 → IsThrough step stands first input.left output mid → ((now : State) → stands now → Closes closes now mid out ⊎ Puts mid out []) → ((now : State) → stands now → OnOk result (Closes closes now mid out)) → OnOk result ((out.failures ≡ 0) × IsOut out) → IfErr result (λ e. ((e ≡ fault.Output) × (0 < out.failures)) ⊎ ((e ≡ fault.NoMemory) × FailsToClose wants mid out)) → RunsOver step closes wants first input rest output out result
+RunsOver-finished step closes wants stands (Ok x) first input rest output mid out f h r w k kok ok err =
     record {
-      text = closed_text step closes first w.state input.left output mid out most_lines f h ok.0 ok.1.0 w.put (k w.state w.stood);
+      text = closed_text step closes first w.state input.left output mid out most_lines f h ok.0 ok.1.0 w.put (kok w.state w.stood);
       done = (r, ok.0, ok.1);
       input_failed = tt;
       output_failed = tt;
@@ -192,14 +200,17 @@ RunsOver-finished step closes stands (Ok x) first input rest output mid out f h 
       no_memory = tt;
       front = closed_front step closes first w.state input.left output mid out most_lines f h w.put (k w.state w.stood);
     }
-RunsOver-finished step closes stands (Err e) first input rest output mid out f h r w k ok err =
+RunsOver-finished step closes wants stands (Err e) first input rest output mid out f h r w k kok ok err =
     record {
       text = tt;
       done = tt;
-      input_failed = λ i. absurd (input_output (sym i ∙ err.0));
-      output_failed = λ _. err.1;
-      so_far = λ i. absurd (input_output (sym i ∙ err.0));
-      no_memory = λ m. absurd (output_memory (sym err.0 ∙ m));
+      input_failed = λ i. ⊎_elim (λ o. absurd (input_output (sym i ∙ o.0))) (λ m. absurd (input_memory (sym i ∙ m.0))) err;
+      output_failed = λ i. ⊎_elim (λ o. o.1) (λ m. absurd (output_memory (sym i ∙ m.0))) err;
+      so_far = λ i. ⊎_elim (λ o. absurd (input_output (sym i ∙ o.0))) (λ m. absurd (input_memory (sym i ∙ m.0))) err;
+      no_memory = λ i. ⊎_elim
+        (λ o. absurd (output_memory (sym o.0 ∙ i)))
+        (λ m. inr (m.1.may, r, m.1.not_failed, m.1.out, replies_out step first w.state input.left output mid out most_lines f h m.1.not_failed m.1.out.0 w.put m.1.none_put))
+        err;
       front = closed_front step closes first w.state input.left output mid out most_lines f h w.put (k w.state w.stood);
     }
 
@@ -220,7 +231,17 @@ of_verdict ends answers stands now bytes old new a b e h =
     let P : Bool → Type 0 = λ v. AnswersKept answers ends stands now bytes old new v in
     subst P e h
 
-pub closes_of : {State Setting : Type 0} (closes : Setting → State → List ℕ → Type 0) (stands : State → Type 0) (a b : Setting) → a ≡ b → (mid out : OutputState) → ((now : State) → stands now → Closes (closes a) now mid out) → (now : State) → stands now → Closes (closes b) now mid out
+pub closes_of : {State Setting : Type 0} (closes : Setting → State → List ℕ → Type 0) (stands : State → Type 0) (a b : Setting) → a ≡ b → (mid out : OutputState) → ((now : State) → stands now → Closes (closes a) now mid out ⊎ Puts mid out []) → (now : State) → stands now → Closes (closes b) now mid out ⊎ Puts mid out []
 closes_of {Setting = Setting} closes stands a b e mid out k now s =
-    let P : Setting → Type 0 = λ x. Closes (closes x) now mid out in
+    let P : Setting → Type 0 = λ x. Closes (closes x) now mid out ⊎ Puts mid out [] in
     subst P e (k now s)
+
+pub closed_of : {State Setting V : Type 0} (closes : Setting → State → List ℕ → Type 0) (stands : State → Type 0) (a b : Setting) (result : Result V RunFault) → a ≡ b → (mid out : OutputState) → ((now : State) → stands now → OnOk result (Closes (closes a) now mid out)) → (now : State) → stands now → OnOk result (Closes (closes b) now mid out)
+closed_of {Setting = Setting} closes stands a b result e mid out k now s =
+    let P : Setting → Type 0 = λ x. OnOk result (Closes (closes x) now mid out) in
+    subst P e (k now s)
+
+-- after a last text that was put, or wasn't, and a flush
+pub closed_or_none : {State A E : Type 0} (closes : State → List ℕ → Type 0) (now : State) (r : Result A E) (a b c : OutputState) → OnOk r (Closes closes now a b) → OnErr r (b ≡ a) → Puts b c [] → Closes closes now a c ⊎ Puts a c []
+closed_or_none closes now (Ok x) a b c k s p = inl (Closes-flushed closes now a b c k p)
+closed_or_none closes now (Err e) a b c k s p = inr (subst (λ o. Puts o c []) s p)

@@ -2,4 +2,5 @@ pub mod Lines
 pub mod Words
 pub mod Driving
 pub mod Running
+pub mod Scheduling
 pub mod Seeds

@@ -3,16 +3,17 @@ use Rattle.std.proofs.Common.{codes, false, refl, ◌≡◌, ◌==◌, ℕ, [], 
 use Rattle.std.proofs.lemmas.Bool.{ne_eqb}
 use Rattle.clap.specs.Words.{Text}
 use Rattle.clap.proofs.OnLiterals.{clap_on_literals}
-use Rattle.regd.specs.CommandLine.{domain_word, line_faults}
+use Rattle.regd.specs.CommandLine.{domain_word, line_faults, program_asked}
+use Rattle.regd.specs.declared.programs.Program.TheVariants.{Plain}
 use Rattle.regd.specs.Laws.{DomainApart, HelpIsRefused, JoinedDomain, JoinedSeed, NoSeed, NothingIsRefused}
 
 pub joined_domain : JoinedDomain
 unfolding clap_on_literals
-joined_domain name domain = record { taken = refl; given = refl }
+joined_domain name domain = (record { taken = refl; asked = refl; given = refl }, record { taken = refl; asked = refl; given = refl })
 
 pub joined_seed : JoinedSeed
 unfolding clap_on_literals
-joined_seed name domain seed = (record { taken = refl; given = refl }, refl)
+joined_seed name domain seed = (record { taken = refl; asked = refl; given = refl }, refl)
 
 pub no_seed : NoSeed
 unfolding clap_on_literals
@@ -27,8 +28,13 @@ given_apart : (name rest : Text) (first : ℕ) → (first == 45) ≡ false
 unfolding clap_on_literals
 given_apart name rest first other = simp other refl
 
+asked_apart : (name rest : Text) (first : ℕ) → (first == 45) ≡ false
+    → program_asked (name ∷ codes "plain" ∷ codes "--domain" ∷ (first ∷ rest) ∷ []) ≡ Plain
+unfolding clap_on_literals
+asked_apart name rest first other = refl
+
 pub domain_apart : DomainApart
-domain_apart name rest first other = record { taken = taken_apart name rest first (ne_eqb _ _ other); given = given_apart name rest first (ne_eqb _ _ other) }
+domain_apart name rest first other = record { taken = taken_apart name rest first (ne_eqb _ _ other); asked = asked_apart name rest first (ne_eqb _ _ other); given = given_apart name rest first (ne_eqb _ _ other) }
 
 pub help_is_refused : HelpIsRefused
 unfolding clap_on_literals

@@ -21,7 +21,8 @@ use Rattle.spiffe_name.specs.Failures.{FailsBy}
 use Rattle.spiffe_name.specs.declared.Failure.{Failure}
 use Rattle.spiffe_name.specs.declared.Failure.TheVariants.{NoMemory, Refused}
 use Rattle.spiffe_name.specs.declared.IdRefusal.{IdRefusal}
-use Rattle.regd.specs.CommandLine.{IsFaultOf, TellsNoSeed, domain_word, line_faults, option_in, regd_command, seed_text}
+use Rattle.regd.specs.CommandLine.{IsFaultOf, TellsNoSeed, domain_word, line_faults, option_asked, option_in, program_asked, program_in, program_name, regd_command, seed_text}
+use Rattle.regd.specs.declared.programs.Program.{Program}
 use Rattle.regd.specs.declared.faults.CommandLineFault.TheVariants.{Seed}
 use Rattle.regd.specs.Conversions.{fault_of_domain, fault_of_kind, fault_of_refusal}
 
@@ -59,10 +60,20 @@ pub line_faults-parse : (app : App) (words : List Text) → app ≡ regd_command
 line_faults-parse app words is kinds =
     subst (λ (a : App). fault_of a words ≡ []) is (kinds (ap is_simple_and_free is ∙ is_simple_and_free-regd))
 
-pub option_in-parse : (id : Text) (app : App) (words : List Text) (m : ArgMatches) → app ≡ regd_command → HasMatchesOf app words m
-    → option_in (codes "plain") id (subcommand_rows_of m) ≡ option_in (codes "plain") id (subcommand_of regd_command words)
-option_in-parse id app words m is has =
-    ap (option_in (codes "plain") id) ((has (ap is_simple is ∙ is_simple-regd)).1 ∙ ap (λ (a : App). subcommand_of a words) is)
+met-parse : (app : App) (words : List Text) (m : ArgMatches) → app ≡ regd_command → HasMatchesOf app words m
+    → subcommand_rows_of m ≡ subcommand_of regd_command words
+met-parse app words m is has = (has (ap is_simple is ∙ is_simple-regd)).1 ∙ ap (λ (a : App). subcommand_of a words) is
+
+pub program_in-parse : (app : App) (words : List Text) (m : ArgMatches) (program : Program) → app ≡ regd_command → HasMatchesOf app words m
+    → program ≡ program_in (subcommand_rows_of m) → program ≡ program_asked words
+program_in-parse app words m program is has e = e ∙ ap program_in (met-parse app words m is has)
+
+pub option_in-parse : (id name : Text) (app : App) (words : List Text) (m : ArgMatches) (program : Program) → app ≡ regd_command → HasMatchesOf app words m
+    → program ≡ program_in (subcommand_rows_of m) → name ≡ program_name program → option_in name id (subcommand_rows_of m) ≡ option_asked id words
+option_in-parse id name app words m program is has e n =
+    let met = met-parse app words m is has in
+    let same : name ≡ program_name (program_asked words) = n ∙ ap program_name (e ∙ ap program_in met) in
+    ap₂ (λ (x : Text) (r : Option (Text × List Row)). option_in x id r) same met
 
 -- a text that is no domain, of words that were taken
 pub IsFaultOf-domain : (words : List Text) (text : Text) (failure : Failure IdRefusal) → line_faults words ≡ [] → text ≡ unwrap_or (domain_word words) []

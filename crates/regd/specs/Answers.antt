@@ -64,12 +64,9 @@ ClosesWithNothing last end = end ≡ []
 pub an_answer : (domain : List ℕ) (now : Running) (line : List ℕ) → (next : Running) × (reply : List ℕ) × Answers domain now line next reply
 an_answer domain now line = (passed now, as_line (no_memory_json (now.lines + 1)), not_read refl refl)
 
-pub no_end : (domain : List ℕ) (now : Running) → (end : List ℕ) × ClosesWithNothing now end
-no_end domain now = ([], refl)
-
 -- what a run of the engine over an input and an output has done
 abbrev pub RunsPlain : {T : Type 0} → List ℕ → List ℕ → InputState → InputState → OutputState → OutputState → Result T RunFault → Type 0
-RunsPlain domain seed input rest output out result = RunsOver (Answers domain) ClosesWithNothing (start seed) input rest output out result
+RunsPlain domain seed input rest output out result = RunsOver (Answers domain) ClosesWithNothing ⊥ (start seed) input rest output out result
 
 -- what the engine keeps of a run
 pub record Keeping : Type 0 where

@@ -1,10 +1,12 @@
 -- Which words are a command line of `regd`, by the command-line parser's own account of its words.
-use Rattle.std.specs.Prelude.{codes, if◌then◌else◌, length, option_and_then, true, unwrap_or, ◌≡◌, ◌≢◌, ℕ, List, None, Option, Some, [], ⊤}
+use Rattle.std.specs.Prelude.{codes, if◌then◌else◌, is_some, length, option_and_then, true, unwrap_or, ◌≡◌, ◌≢◌, ℕ, List, None, Option, Some, [], ⊤}
 use Rattle.std.specs.Str.{bytes_eq}
 use Rattle.clap.specs.Words.{App, IsAmong, Kinds, Row, Rule, Text, fault_of, first_of, kind_of, new_app, new_rule, subcommand_of, with_rule, with_subcommand}
 use Rattle.clap.specs.Simple.{on_top}
 use Rattle.hex.specs.Hex.{IsBytes, encode_lower}
 use Rattle.spiffe_name.specs.Domain.{domain_refusal}
+use Rattle.regd.specs.declared.programs.Program.{Program}
+use Rattle.regd.specs.declared.programs.Program.TheVariants.{Plain, Schedule}
 use Rattle.regd.specs.declared.faults.CommandLineFault.{CommandLineFault}
 use Rattle.regd.specs.declared.faults.CommandLineFault.TheVariants.{Refused, Domain, Seed, NotText, NoMemory}
 
@@ -29,13 +31,17 @@ seed_option = record (new_rule (codes "seed")) {
 abbrev pub plain_command : App
 plain_command = with_rule (with_rule (new_app (codes "plain")) domain_option) seed_option
 
+-- `schedule --domain D [--seed S]`
+abbrev pub schedule_command : App
+schedule_command = with_rule (with_rule (new_app (codes "schedule")) domain_option) seed_option
+
 -- `regd`, which wants the word of one of its programs
 abbrev pub regd_alone : App
 regd_alone = on_top (λ s. record s { subcommand_required = true; disable_help_subcommand = true })
     (new_app (codes "regd"))
 
 abbrev pub regd_command : App
-regd_command = with_subcommand regd_alone plain_command.top
+regd_command = with_subcommand (with_subcommand regd_alone plain_command.top) schedule_command.top
 
 -- ---- what the words say; the program's own name is the first of them
 
@@ -47,13 +53,29 @@ line_faults words = fault_of regd_command words
 abbrev pub option_in : Text → Text → Option (Text × List Row) → Option Text
 option_in name id = option_and_then (λ program. if bytes_eq program.0 name then first_of id program.1 else None)
 
+abbrev pub program_name : Program → Text
+program_name Plain = codes "plain"
+program_name Schedule = codes "schedule"
+
+-- the program that was met: each needs its domain, so it is the one to which a domain was given
+abbrev pub program_in : Option (Text × List Row) → Program
+program_in met = if is_some (option_in (codes "schedule") (codes "domain") met) then Schedule else Plain
+
+-- the program that the words ask for
+abbrev pub program_asked : List Text → Program
+program_asked words = program_in (subcommand_of regd_command words)
+
+-- the text that the words give to an option of the program that they ask for
+abbrev pub option_asked : Text → List Text → Option Text
+option_asked id words = option_in (program_name (program_asked words)) id (subcommand_of regd_command words)
+
 -- the text that the words give to `--domain`
 abbrev pub domain_word : List Text → Option Text
-domain_word words = option_in (codes "plain") (codes "domain") (subcommand_of regd_command words)
+domain_word words = option_asked (codes "domain") words
 
 -- the text that the words give to `--seed`
 abbrev pub seed_word : List Text → Option Text
-seed_word words = option_in (codes "plain") (codes "seed") (subcommand_of regd_command words)
+seed_word words = option_asked (codes "seed") words
 
 -- ---- the seed, which is told as 64 lower-case hexadecimal digits, two a byte
 

@@ -2,27 +2,31 @@
 use Rattle.std.specs.Prelude.{codes, ◌≡◌, ◌≢◌, ◌++◌, ℕ, [], ◌∷◌, List, Some}
 use Rattle.clap.specs.Words.{Text}
 use Rattle.clap.specs.declared.error.ErrorKind.TheVariants.{DisplayHelp, MissingSubcommand}
-use Rattle.regd.specs.CommandLine.{domain_word, first_seed, line_faults, seed_text}
+use Rattle.regd.specs.CommandLine.{domain_word, first_seed, line_faults, program_asked, seed_text}
+use Rattle.regd.specs.declared.programs.Program.{Program}
+use Rattle.regd.specs.declared.programs.Program.TheVariants.{Plain, Schedule}
 
--- the parser takes the words, and they give this domain
-pub record GivesDomain (words : List Text) (domain : Text) : Type 0 where
+-- the parser takes the words, and they ask for this program and give this domain
+pub record GivesDomain (words : List Text) (program : Program) (domain : Text) : Type 0 where
   pub taken : line_faults words ≡ []
+  pub asked : program_asked words ≡ program
   pub given : domain_word words ≡ Some domain
 
--- `regd plain --domain=D` gives D
+-- `regd plain --domain=D` asks for `plain` and gives D, and so does `regd schedule --domain=D` for `schedule`
 abbrev pub JoinedDomain : Type 0
 JoinedDomain = (name domain : Text)
-    → GivesDomain (name ∷ codes "plain" ∷ (codes "--domain=" ++ domain) ∷ []) domain
+    → GivesDomain (name ∷ codes "plain" ∷ (codes "--domain=" ++ domain) ∷ []) Plain domain
+    × GivesDomain (name ∷ codes "schedule" ∷ (codes "--domain=" ++ domain) ∷ []) Schedule domain
 
 -- `regd plain --domain D` gives D, where D begins with no hyphen (45)
 abbrev pub DomainApart : Type 0
 DomainApart = (name rest : Text) (first : ℕ) → first ≢ 45
-    → GivesDomain (name ∷ codes "plain" ∷ codes "--domain" ∷ (first ∷ rest) ∷ []) (first ∷ rest)
+    → GivesDomain (name ∷ codes "plain" ∷ codes "--domain" ∷ (first ∷ rest) ∷ []) Plain (first ∷ rest)
 
 -- `regd plain --domain=D --seed=S` gives D, and the seed that S tells
 abbrev pub JoinedSeed : Type 0
 JoinedSeed = (name domain seed : Text)
-    → GivesDomain (name ∷ codes "plain" ∷ (codes "--domain=" ++ domain) ∷ (codes "--seed=" ++ seed) ∷ []) domain
+    → GivesDomain (name ∷ codes "plain" ∷ (codes "--domain=" ++ domain) ∷ (codes "--seed=" ++ seed) ∷ []) Plain domain
     × (seed_text (name ∷ codes "plain" ∷ (codes "--domain=" ++ domain) ∷ (codes "--seed=" ++ seed) ∷ []) ≡ seed)
 
 -- where no seed is given, 64 zeros tell it

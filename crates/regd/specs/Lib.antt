@@ -5,3 +5,5 @@ pub mod Conversions
 pub mod Driver
 pub mod Ends
 pub mod Laws
+pub mod Programs
+pub mod Schedules

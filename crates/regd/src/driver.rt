@@ -1,12 +1,12 @@
 //! How are the lines of an input answered, whatever it is that answers them?
 
-ghost use Rattle.std.specs.Prelude.{◌≡◌, ◌+◌, ◌<◌, ◌^◌, ℕ, Bool, false, List, [], OnOk, IfErr};
+ghost use Rattle.std.specs.Prelude.{◌≡◌, ◌+◌, ◌<◌, ◌^◌, ◌⊎◌, ℕ, Bool, false, List, [], OnErr, OnOk, IfErr};
 ghost use Rattle.reg_lines.specs.Stream.{IsOut, Puts};
-ghost use Rattle.regd.specs.Driver.{AnswersKept, Closes, RunsOver, Steps};
+ghost use Rattle.regd.specs.Driver.{AnswersKept, Closes, FailsToClose, RunsOver, Steps};
 
 use crate::faults::RunFault;
 use reg_lines::{Input, Line, Output, Sink, Source, flush_before_waiting, most_lines};
-use std::alloc::Global;
+use std::alloc::{AllocError, Global};
 
 /// What answers the lines of an input, one after another, and may have a last text.
 pub trait Answerer {
@@ -33,6 +33,9 @@ pub trait Answerer {
     // The text that may come behind the last reply.
     ghost closes: { Self.Setting → Self.State → List ℕ → Type 0 };
 
+    // Whether memory may be wanting for that text.
+    ghost wants: { Type 0 };
+
     /// Answers the line that comes next, and tells whether the run goes on. Of the line these bytes are kept.
     fn answer<K: Sink>(&mut self, alloc: Global, line: &[u8], output: &mut Output<K>) -> bool
         requires { Self.lines self.old < 2 ^ 63 }
@@ -41,15 +44,15 @@ pub trait Answerer {
         ensures answered { (now : Self.State) → Self.stands self.old now
             → AnswersKept (Self.answers (Self.setting self.old)) Self.ends (Self.stands self.new) now line.now output.old output.new result };
 
-    /// Puts the text that comes behind the last reply. Where memory is wanting for it, `closes` says what is put instead.
-    fn close<K: Sink>(&mut self, alloc: Global, output: &mut Output<K>)
-        ensures { (now : Self.State) → Self.stands self.old now
-            → Closes (Self.closes (Self.setting self.old)) now output.old output.new };
+    /// Puts the text that comes behind the last reply. The error is want of memory, and nothing is put then.
+    fn close<K: Sink>(&mut self, alloc: Global, output: &mut Output<K>) -> Result<(), AllocError>
+        ensures closed { (now : Self.State) → Self.stands self.old now
+            → OnOk result (Closes (Self.closes (Self.setting self.old)) now output.old output.new) }
+        ensures wanting { OnErr result Self.wants }
+        ensures stays { OnErr result (output.new ≡ output.old) };
 
-    // Each line may get a reply, and each run a last text.
+    // Each line may get a reply.
     ghost some_answer: { (s : Self.Setting) (now : Self.State) (line : List ℕ) → (next : Self.State) × (reply : List ℕ) × Self.answers s now line next reply };
-
-    ghost some_close: { (s : Self.Setting) (now : Self.State) → (end : List ℕ) × Self.closes s now end };
 }
 
 /// Has each line of the input answered, in order, until the answerer ends the run, and then the last text put.
@@ -66,7 +69,7 @@ pub fn run_lines<A: Answerer, S: Source, K: Sink>(
     requires output { output.old.failures ≡ 0 }
     requires none_held { output.old.held ≡ [] }
     ensures { (first : A.State) → A.stands answerer.old first → A.ends first ≡ false
-        → RunsOver (Steps A.ends (A.answers (A.setting answerer.old))) (A.closes (A.setting answerer.old)) first input.old input.new output.old output.new result }
+        → RunsOver (Steps A.ends (A.answers (A.setting answerer.old))) (A.closes (A.setting answerer.old)) A.wants first input.old input.new output.old output.new result }
 {
     let mut line = Line::new(alloc)?;
     for count in 0..most_lines() {
@@ -87,21 +90,27 @@ pub fn run_lines<A: Answerer, S: Source, K: Sink>(
     finish(alloc, answerer, output)
 }
 
-/// Puts the last text, and flushes what is left.
+/// Puts the last text, and flushes what is left, also where memory is wanting for that text.
 fn finish<A: Answerer, K: Sink>(
     alloc: Global,
     answerer: &mut A,
     output: &mut Output<K>,
 ) -> Result<(), RunFault>
     ensures closed { (now : A.State) → A.stands answerer.old now
-        → Closes (A.closes (A.setting answerer.old)) now output.old output.new }
+        → Closes (A.closes (A.setting answerer.old)) now output.old output.new ⊎ Puts output.old output.new [] }
     ensures ok { OnOk result ((output.new.failures ≡ 0) × IsOut output.new) }
-    ensures err { IfErr result (λ fault. (fault ≡ RunFault.Output) × (0 < output.new.failures)) }
+    ensures ok_closed { (now : A.State) → A.stands answerer.old now
+        → OnOk result (Closes (A.closes (A.setting answerer.old)) now output.old output.new) }
+    ensures err { IfErr result (λ fault. ((fault ≡ RunFault.Output) × (0 < output.new.failures))
+        ⊎ ((fault ≡ RunFault.NoMemory) × FailsToClose A.wants output.old output.new)) }
 {
-    answerer.close(alloc, output);
+    let closed = answerer.close(alloc, output);
     output.flush();
     if output.has_failed() {
         return Err(RunFault::Output);
     }
-    Ok(())
+    match closed {
+        Ok(()) => Ok(()),
+        Err(AllocError) => Err(RunFault::NoMemory),
+    }
 }

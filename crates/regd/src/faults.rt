@@ -15,7 +15,7 @@ pub enum RunFault {
     Input,
     /// A write of the output failed, or a flush.
     Output,
-    /// Memory was wanting before the first line was read.
+    /// Memory was wanting before the first line was read, or for the text behind the last reply.
     NoMemory,
 }
 

@@ -2,8 +2,9 @@
 //!
 //! - [`Settings`]: what a command line asks for.
 //! - [`Answerer`]: what answers the lines of an input; [`run_lines`]: a run of any of them over the bytes.
-//! - [`plain`]: the program `regd plain`, from the bytes of request lines to the bytes of reply lines; [`run_plain`]: the
-//!   same for what the settings give.
+//! - [`plain`]: the program `regd plain`, from the bytes of request lines to the bytes of reply lines; [`schedule`]: the
+//!   program `regd schedule`, from event lines to their answers and the order of the calls. [`Program`] and [`run_settings`]: the
+//!   program that the settings ask for.
 //! - [`RunFault`] and [`CommandLineFault`]: why a run stopped, and why a command line is none.
 //! - [`a_line_gives_its_domain`]: which words give which domain.
 //! - [`Ended`]: what the caller gets to know of that, the exit status and what standard error gets, a [`Told`].
@@ -14,6 +15,8 @@ mod ended;
 mod faults;
 mod laws;
 mod plain_engine;
+mod programs;
+mod schedule_engine;
 mod seed;
 mod settings;
 mod told;
@@ -22,7 +25,9 @@ pub use driver::{Answerer, run_lines};
 pub use ended::Ended;
 pub use faults::{CommandLineFault, RunFault};
 pub use laws::a_line_gives_its_domain;
-pub use plain_engine::{plain, run_plain};
+pub use plain_engine::plain;
+pub use programs::{Program, run_settings};
+pub use schedule_engine::schedule;
 use reg_lines::{CountedDevice, Input, Output};
 pub use settings::Settings;
 use std::process::ExitCode;
@@ -44,7 +49,7 @@ fn run<R: Env + io::Input + Print + AllocGlobal>(
     let settings = settings_of_process(rt)?;
     let mut input = Input::new(CountedDevice::new(rt.reader()));
     let mut output = Output::new(CountedDevice::new(io::writer(rt)));
-    Ok(run_plain(rt.alloc(), settings, &mut input, &mut output))
+    Ok(run_settings(rt.alloc(), settings, &mut input, &mut output))
 }
 
 /// The settings that the words of the process ask for.

@@ -7,7 +7,6 @@ ghost use Rattle.regd.specs.Answers.{AnswersBatch, AnswersLine, RunsPlain};
 
 use crate::driver::{Answerer, run_lines};
 use crate::faults::RunFault;
-use crate::settings::Settings;
 use entry_book::Batch;
 use plain_book::PlainBook;
 use reg_lines::{
@@ -35,23 +34,6 @@ pub fn plain<S: Source, K: Sink>(
 {
     let mut run = PlainRun::new(alloc, domain, seed)?;
     run_lines(alloc, &mut run, input, output)
-}
-
-/// The same for the trust domain and the seed that the settings give.
-pub fn run_plain<S: Source, K: Sink>(
-    alloc: Global,
-    settings: Settings,
-    input: &mut Input<S>,
-    output: &mut Output<K>,
-) -> Result<(), RunFault>
-    requires input { input.old.failures ≡ 0 }
-    requires output { output.old.failures ≡ 0 }
-    requires none_held { output.old.held ≡ [] }
-    ensures { RunsPlain settings.domain settings.seed input.old input.new output.old output.new result }
-{
-    let seed = settings.seed();
-    let domain = settings.into_domain();
-    plain(alloc, domain, seed, input, output)
 }
 
 /// A plain book that answers lines, the ids that it gives, and how many calls were run and lines read.
@@ -94,7 +76,7 @@ impl PlainRun {
 
 impl Answerer for PlainRun {
     ghost use Rattle.std.specs.Prelude.{ℕ, List, false, ◌+◌, refl};
-    ghost use Rattle.regd.specs.Answers.{Answers, ClosesWithNothing, Keeping, Running, StandsFor, an_answer, no_end};
+    ghost use Rattle.regd.specs.Answers.{Answers, ClosesWithNothing, Keeping, Running, StandsFor, an_answer};
 
     ghost State = { Running };
 
@@ -112,9 +94,9 @@ impl Answerer for PlainRun {
 
     ghost closes = { λ _. ClosesWithNothing };
 
-    ghost some_answer = { an_answer };
+    ghost wants = { ⊥ };
 
-    ghost some_close = { no_end };
+    ghost some_answer = { an_answer };
 
     fn answer<K: Sink>(&mut self, alloc: Global, line: &[u8], output: &mut Output<K>) -> bool {
         self.calls = answer(
@@ -131,7 +113,9 @@ impl Answerer for PlainRun {
     }
 
     /// No text comes behind the last reply.
-    fn close<K: Sink>(&mut self, _: Global, _: &mut Output<K>) {}
+    fn close<K: Sink>(&mut self, _: Global, _: &mut Output<K>) -> Result<(), AllocError> {
+        Ok(())
+    }
 }
 
 /// Answers one line, of which `lines` came before, after `calls` calls; the result is how many calls there are then.

@@ -1,15 +1,17 @@
 //! What does a command line ask for?
 
 use crate::faults::CommandLineFault;
+use crate::programs::Program;
 use crate::seed::{FIRST_SEED, seed_of};
 use clap::{Arg, ArgMatches, Command};
 use spiffe_name::TrustDomain;
 use std::alloc::{AllocError, Global};
 use std::marker::Model;
 
-/// What a program was asked to do: `regd plain --domain D [--seed S]`.
+/// What `regd` was asked to do: `regd plain --domain D [--seed S]`, or `regd schedule --domain D [--seed S]`.
 #[derive(Debug, Drop)]
 pub struct Settings {
+    program: Program,
     domain: TrustDomain,
     seed: [u8; 32],
 }
@@ -19,31 +21,44 @@ impl Model for Settings {
 
     ghost Value = { Asked };
 
-    ghost view = { λ settings. record { domain = settings.domain; seed = settings.seed } };
+    ghost view = { λ settings. record { program = settings.program; domain = settings.domain; seed = settings.seed } };
 }
 
 impl Settings {
     ghost use Rattle.std.specs.Prelude.{◌≡◌, IfErr, IfOk, []};
     ghost use Rattle.clap.specs.Walk.{texts};
     ghost use Rattle.hex.specs.Hex.{encode_lower};
-    ghost use Rattle.regd.specs.CommandLine.{IsFaultOf, domain_word, line_faults, seed_text};
+    ghost use Rattle.regd.specs.CommandLine.{IsFaultOf, domain_word, line_faults, program_asked, seed_text};
 
     /// Reads a command line, the program's own name first: all words by the command-line parser, then the domain, and
     /// then the seed, which is 64 zeros where none is given. The error is the first fault, or want of memory; a request for help is a refusal, too, with the help as its text.
     pub fn from_words(alloc: Global, words: &[&str]) -> Result<Settings, CommandLineFault>
         ensures taken { IfOk result (λ _. line_faults (texts words.now) ≡ []) }
+        ensures program { IfOk result (λ settings. settings.program ≡ program_asked (texts words.now)) }
         ensures domain { IfOk result (λ settings. domain_word (texts words.now) ≡ Some settings.domain) }
         ensures seed { IfOk result (λ settings. encode_lower settings.seed ≡ seed_text (texts words.now)) }
         ensures fault { IfErr result (IsFaultOf (texts words.now)) }
     {
         let matches = regd_command(alloc)?.try_get_matches_from(words)?;
-        let word = option_word(&matches, "plain", "domain").unwrap_or("");
+        let program = program_of(&matches);
+        let word = option_word(&matches, program.name(), "domain").unwrap_or("");
         let domain = TrustDomain::parse(alloc, word)?;
-        let text = option_word(&matches, "plain", "seed").unwrap_or(FIRST_SEED);
+        let text = option_word(&matches, program.name(), "seed").unwrap_or(FIRST_SEED);
         let Some(seed) = seed_of(text) else {
             return Err(CommandLineFault::Seed);
         };
-        Ok(Settings { domain, seed })
+        Ok(Settings {
+            program,
+            domain,
+            seed,
+        })
+    }
+
+    /// The program that was asked for.
+    pub fn program(&self) -> Program
+        ensures { result ≡ self.now.program }
+    {
+        self.program
     }
 
     /// The server's own trust domain.
@@ -71,7 +86,7 @@ impl Settings {
 ghost use Rattle.std.specs.Prelude.{◌≡◌, IfOk, false, option_map};
 ghost use Rattle.clap.specs.Words.{app_of, rule_of, subcommand_rows_of};
 ghost use Rattle.clap.specs.declared.Command.TheViews.{out-Command};
-ghost use Rattle.regd.specs.CommandLine.{domain_option, option_in, plain_command, regd_command, seed_option};
+ghost use Rattle.regd.specs.CommandLine.{domain_option, option_in, plain_command, program_in, regd_command, schedule_command, seed_option};
 
 fn domain_option<'a>(alloc: Global) -> Arg<'a>
     ensures rule { rule_of result ≡ domain_option }
@@ -105,6 +120,18 @@ fn plain_command<'a>(alloc: Global) -> Result<Command<'a>, AllocError>
         .arg(seed_option(alloc))
 }
 
+fn schedule_command<'a>(alloc: Global) -> Result<Command<'a>, AllocError>
+    ensures app { IfOk result (λ command. app_of command ≡ schedule_command) }
+    ensures local { IfOk result (λ command. (out-Command command).has_globals ≡ false) }
+{
+    Command::new(alloc, "schedule")
+        .about(
+            "Answers event lines by a machine of calls, and tells their order: standard input to standard output",
+        )
+        .arg(domain_option(alloc))?
+        .arg(seed_option(alloc))
+}
+
 /// The program as the command-line parser is told of it.
 fn regd_command<'a>(alloc: Global) -> Result<Command<'a>, AllocError>
     ensures { IfOk result (λ command. app_of command ≡ regd_command) }
@@ -113,7 +140,18 @@ fn regd_command<'a>(alloc: Global) -> Result<Command<'a>, AllocError>
         .about("A workload registration server")
         .subcommand_required(true)
         .disable_help_subcommand(true)
-        .subcommand(plain_command(alloc)?)
+        .subcommand(plain_command(alloc)?)?
+        .subcommand(schedule_command(alloc)?)
+}
+
+/// The program that the words ask for.
+fn program_of(matches: &ArgMatches<'_>) -> Program
+    ensures { result ≡ program_in (subcommand_rows_of matches.now) }
+{
+    match option_word(matches, "schedule", "domain") {
+        Some(_) => Program::Schedule,
+        None => Program::Plain,
+    }
 }
 
 /// The text that the words give to the option `id` of `program`, where that is the program that they name.

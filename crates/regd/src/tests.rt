@@ -8,6 +8,7 @@ mod pages;
 mod places;
 mod refusals;
 mod runs;
+mod schedules;
 mod story;
 mod tokens;
 
@@ -126,8 +127,8 @@ fn the_parser_refuses_every_other_word(rt: HostRuntime) -> Result<(), Fail> {
             "error: 'regd' requires a subcommand but one was not provided\n",
         ),
         (
-            &["regd", "schedule", "--domain", "A"],
-            "error: unrecognized subcommand 'schedule'\n",
+            &["regd", "audit", "--domain", "A"],
+            "error: unrecognized subcommand 'audit'\n",
         ),
         (
             &["regd", "plain"],

@@ -1,6 +1,6 @@
 //! The engine over memory: what a run answers, and tables of what it has to answer.
 
-use crate::{RunFault, Settings, plain, run_plain};
+use crate::{RunFault, Settings, plain, run_settings};
 use reg_lines::{CountedDevice, Input, Output};
 use serde_json::Value;
 use spiffe_name::TrustDomain;
@@ -67,7 +67,7 @@ pub fn answers_of_words(
     let mut taker = Taker::new(alloc, Pace::All, Trouble::NONE);
     let mut input = Input::new(CountedDevice::new(&mut giver));
     let mut output = Output::new(CountedDevice::new(&mut taker));
-    let ended = run_plain(alloc, settings, &mut input, &mut output);
+    let ended = run_settings(alloc, settings, &mut input, &mut output);
     drop(output);
     compact_bytes(rt, alloc, ended, taker)
 }
@@ -94,8 +94,8 @@ pub struct Table {
 }
 
 impl Table {
-    /// The lines of a table that begin with `{` are requests and their answers in turn; its other lines tell what is
-    /// shown.
+    /// The lines of a table that begin with `{` are requests and their answers in turn, and an order line behind them; its
+    /// other lines tell what is shown.
     pub fn of(alloc: Global, text: &str) -> Result<Table, Fail> {
         let mut table = Table {
             asked: String::new(alloc),
@@ -104,7 +104,7 @@ impl Table {
         let mut is_answer = false;
         for line in text.lines() {
             if line.starts_with('{') {
-                if is_answer {
+                if is_answer || line.starts_with("{\"order\":") {
                     add_line(&mut table.wanted, line)?;
                 } else {
                     add_line(&mut table.asked, line)?;
@@ -125,6 +125,15 @@ fn add_line(text: &mut String, line: &str) -> Result<(), Fail> {
 /// The requests of the table, in one run of the engine of `ex.org` with the first seed, get the answers beside them.
 pub fn are_answered(rt: &impl Abort, alloc: Global, text: &str) -> Result<(), Fail> {
     are_answered_with(rt, alloc, "ex.org", FIRST_SEED, text)
+}
+
+/// The events of the table, in one run of `regd schedule` for `ex.org`, get the answers beside them, and then the order line.
+pub fn are_played(rt: &impl Abort, alloc: Global, text: &str) -> Result<(), Fail> {
+    let table = Table::of(alloc, text)?;
+    let words = ["regd", "schedule", "--domain", "ex.org"];
+    let got = answers_of_words(rt, alloc, &words, table.asked.as_bytes())?;
+    assert_eq!(rt; str::from_utf8(&got)?, table.wanted.as_str());
+    Ok(())
 }
 
 /// The same of an engine of another trust domain, or with another seed.

@@ -1,6 +1,6 @@
 use Rattle.std.proofs.Common.{◌≡◌, List, ℕ, Err, refl, subst, arith}
 use Rattle.std.proofs.lemmas.Grind.{common_steps}
-use Rattle.regd.specs.Answers.{Answers, ClosesWithNothing, RunsPlain, an_answer, no_end, start}
+use Rattle.regd.specs.Answers.{Answers, ClosesWithNothing, RunsPlain, an_answer, start}
 use Rattle.regd.specs.declared.faults.RunFault.TheVariants.{NoMemory}
 use Rattle.regd.proofs.Driving.{RunsOver-no_memory}
 use Rattle.regd.proofs.plain_engine.plain.Goals as goal
@@ -8,7 +8,7 @@ use Rattle.regd.proofs.plain_engine.plain.Goals as goal
 pub returns-in_err-run : goal.returns-in_err-run
 returns-in_err-run g c =
     let is : c.from_residual.result ≡ Err NoMemory = grind (arith, common_steps) in
-    RunsOver-no_memory (Answers c.args.domain) ClosesWithNothing c.from_residual.result (an_answer c.args.domain) (no_end c.args.domain) (start c.args.seed) c.args.input.now c.args.output.now c.requires.output c.requires.none_held is
+    RunsOver-no_memory (Answers c.args.domain) ClosesWithNothing ⊥ c.from_residual.result (an_answer c.args.domain) (start c.args.seed) c.args.input.now c.args.output.now c.requires.output c.requires.none_held is
 
 pub returns : goal.returns
 returns g c =

@@ -2,7 +2,7 @@ use Rattle.std.proofs.Common.{refl, ◌∙◌}
 use Rattle.clap.proofs.TakesLemmas.{passed_up}
 use Rattle.clap.specs.Walk.{texts}
 use Rattle.regd.specs.CommandLine.{domain_word}
-use Rattle.regd.proofs.Words.{IsFaultOf-parse, IsFaultOf-domain, IsFaultOf-seed, domain_word-given, line_faults-parse, option_in-parse, unwrap_or-text}
+use Rattle.regd.proofs.Words.{IsFaultOf-parse, IsFaultOf-domain, IsFaultOf-seed, domain_word-given, line_faults-parse, option_in-parse, program_in-parse, unwrap_or-text}
 use Rattle.regd.proofs.settings.Settings.from_words.Goals as goal
 
 pub returns-in_err-matches-clause-fault : goal.returns-in_err-matches-clause-fault
@@ -11,7 +11,7 @@ returns-in_err-matches-clause-fault c = passed_up c.from_residual-in_err-matches
 
 pub returns-in_err-domain-clause-fault : goal.returns-in_err-domain-clause-fault
 returns-in_err-domain-clause-fault c =
-    let given = c.option_word.ensures ∙ option_in-parse _ _ _ _ c.in_ok-regd_command.ensures c.in_ok-matches.ensures.matches in
+    let given = c.option_word.ensures ∙ option_in-parse _ _ _ _ _ _ c.in_ok-regd_command.ensures c.in_ok-matches.ensures.matches c.program_of-program.ensures c.name.ensures in
     let text = unwrap_or-text c.option_word.result _ _ _ _ c.unwrap_or-word.ensures refl given in
     passed_up c.from_residual-in_err-domain.result _ _ c.from_residual-in_err-domain.ensures.1
     (IsFaultOf-domain (texts c.args.words.now) _ _ (line_faults-parse _ _ c.in_ok-regd_command.ensures c.in_ok-matches.ensures.kinds) text c.in_err-domain.ensures.table)
@@ -21,19 +21,22 @@ returns-clause-taken c = line_faults-parse _ _ c.in_ok-regd_command.ensures c.in
 
 pub returns-clause-domain : goal.returns-clause-domain
 returns-clause-domain c =
-    let given = c.option_word.ensures ∙ option_in-parse _ _ _ _ c.in_ok-regd_command.ensures c.in_ok-matches.ensures.matches in
+    let given = c.option_word.ensures ∙ option_in-parse _ _ _ _ _ _ c.in_ok-regd_command.ensures c.in_ok-matches.ensures.matches c.program_of-program.ensures c.name.ensures in
     let text = unwrap_or-text c.option_word.result _ _ _ _ c.unwrap_or-word.ensures refl given in
     domain_word-given (domain_word (texts c.args.words.now)) _ (c.in_ok-domain.ensures.table.0 ∙ text) (rw (c.in_ok-domain.ensures.table.0) c.in_ok-domain.ensures.table.1)
 
 pub returns-in_default-clause-fault : goal.returns-in_default-clause-fault
 returns-in_default-clause-fault c =
-    let given = c.option_word.ensures ∙ option_in-parse _ _ _ _ c.in_ok-regd_command.ensures c.in_ok-matches.ensures.matches in
+    let given = c.option_word.ensures ∙ option_in-parse _ _ _ _ _ _ c.in_ok-regd_command.ensures c.in_ok-matches.ensures.matches c.program_of-program.ensures c.name.ensures in
     let domain = unwrap_or-text c.option_word.result _ _ _ _ c.unwrap_or-word.ensures refl given in
-    let told = c.option_word-2.ensures ∙ option_in-parse _ _ _ _ c.in_ok-regd_command.ensures c.in_ok-matches.ensures.matches in
+    let told = c.option_word-2.ensures ∙ option_in-parse _ _ _ _ _ _ c.in_ok-regd_command.ensures c.in_ok-matches.ensures.matches c.program_of-program.ensures c.name-2.ensures in
     let seed = unwrap_or-text c.option_word-2.result _ _ _ _ c.unwrap_or-text.ensures refl told in
     IsFaultOf-seed (texts c.args.words.now) _ _ (line_faults-parse _ _ c.in_ok-regd_command.ensures c.in_ok-matches.ensures.kinds) domain c.in_ok-domain.ensures.table.1 seed c.in_default.ensures.none
 
 pub returns-clause-seed : goal.returns-clause-seed
 returns-clause-seed c =
-    let told = c.option_word-2.ensures ∙ option_in-parse _ _ _ _ c.in_ok-regd_command.ensures c.in_ok-matches.ensures.matches in
+    let told = c.option_word-2.ensures ∙ option_in-parse _ _ _ _ _ _ c.in_ok-regd_command.ensures c.in_ok-matches.ensures.matches c.program_of-program.ensures c.name-2.ensures in
     c.in-Some.ensures.seed ∙ unwrap_or-text c.option_word-2.result _ _ _ _ c.unwrap_or-text.ensures refl told
+
+pub returns-clause-program : goal.returns-clause-program
+returns-clause-program c = program_in-parse _ _ _ _ c.in_ok-regd_command.ensures c.in_ok-matches.ensures.matches c.program_of-program.ensures

@@ -1,0 +1,56 @@
+//! Which programs are there, and what does each do?
+
+ghost use Rattle.std.specs.Prelude.{◌≡◌, []};
+ghost use Rattle.regd.specs.Programs.{RunsAs};
+
+use crate::faults::RunFault;
+use crate::plain_engine::plain;
+use crate::schedule_engine::schedule;
+use crate::settings::Settings;
+use reg_lines::{Input, Output, Sink, Source};
+use std::alloc::Global;
+
+/// What a command line asks `regd` to do.
+#[derive(Clone, Copy, Debug, PartialEq, Eq, Drop)]
+pub enum Program {
+    /// Request lines are answered on a plain book.
+    Plain,
+    /// Event lines are answered by a machine of calls.
+    Schedule,
+}
+
+impl Program {
+    ghost use Rattle.std.specs.Prelude.{◌≡◌};
+    ghost use Rattle.regd.specs.CommandLine.{program_name};
+
+    /// The word by which a command line names it.
+    pub fn name(self) -> &'static str
+        ensures { result.now ≡ program_name self }
+    {
+        match self {
+            Program::Plain => "plain",
+            Program::Schedule => "schedule",
+        }
+    }
+}
+
+/// Runs the program that the settings ask for, with their trust domain and seed: each line of the input is answered, in order.
+pub fn run_settings<S: Source, K: Sink>(
+    alloc: Global,
+    settings: Settings,
+    input: &mut Input<S>,
+    output: &mut Output<K>,
+) -> Result<(), RunFault>
+    requires input { input.old.failures ≡ 0 }
+    requires output { output.old.failures ≡ 0 }
+    requires none_held { output.old.held ≡ [] }
+    ensures { RunsAs settings.program settings.domain settings.seed input.old input.new output.old output.new result }
+{
+    let program = settings.program();
+    let seed = settings.seed();
+    let domain = settings.into_domain();
+    match program {
+        Program::Plain => plain(alloc, domain, seed, input, output),
+        Program::Schedule => schedule(alloc, domain, seed, input, output),
+    }
+}
