@@ -208,9 +208,9 @@ RunsOver-finished step closes wants stands (Err e) first input rest output mid o
       output_failed = λ i. ⊎_elim (λ o. o.1) (λ m. absurd (output_memory (sym i ∙ m.0))) err;
       so_far = λ i. ⊎_elim (λ o. absurd (input_output (sym i ∙ o.0))) (λ m. absurd (input_memory (sym i ∙ m.0))) err;
       no_memory = λ i. ⊎_elim
-        (λ o. absurd (output_memory (sym o.0 ∙ i)))
-        (λ m. inr (m.1.may, r, m.1.not_failed, m.1.out, replies_out step first w.state input.left output mid out most_lines f h m.1.not_failed m.1.out.0 w.put m.1.none_put))
-        err;
+          (λ o. absurd (output_memory (sym o.0 ∙ i)))
+          (λ m. inr (m.1.may, r, m.1.not_failed, m.1.out, replies_out step first w.state input.left output mid out most_lines f h m.1.not_failed m.1.out.0 w.put m.1.none_put))
+          err;
       front = closed_front step closes first w.state input.left output mid out most_lines f h w.put (k w.state w.stood);
     }
 

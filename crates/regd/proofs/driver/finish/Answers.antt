@@ -23,9 +23,12 @@ returns-in-Err-clause-closed g c = λ now stands.
 pub returns-in-Err-clause-err : goal.returns-in-Err-clause-err
 returns-in-Err-clause-err g c =
     let none : c.flush.new.self.failures ≡ 0 = grind (arith, common_steps) in
-    inr (refl, record {
-      may = c.in-Err.ensures.wanting;
-      none_put = subst (λ o. Puts o c.flush.new.self []) c.in-Err.ensures.stays c.flush.ensures.put;
-      not_failed = none;
-      out = c.flush.ensures.out none;
-    })
+    inr (
+      refl,
+      record {
+        may = c.in-Err.ensures.wanting;
+        none_put = subst (λ o. Puts o c.flush.new.self []) c.in-Err.ensures.stays c.flush.ensures.put;
+        not_failed = none;
+        out = c.flush.ensures.out none;
+      },
+    )

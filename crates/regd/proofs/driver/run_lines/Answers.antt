@@ -124,7 +124,7 @@ loop-count-preserved g c =
           let answers = g.A.Answerer.answers setting in
           let closes = g.A.Answerer.closes setting in
           let wants = g.A.Answerer.wants in
-    let step = Steps ends answers in
+          let step = Steps ends answers in
           let some = some_step ends answers (g.met.A.Answerer.some_answer setting) in
           λ first stands begun.
           let way = IsDriven-flush ends answers (g.A.Answerer.stands c.loop-count.answerer) first c.args.input.now.left c.loop-count.input.left c.args.output.now c.loop-count.output c.flush_before_waiting.new.output c.loop-count.count (c.loop-count.invariant.way first stands begun) c.flush_before_waiting.ensures.put in

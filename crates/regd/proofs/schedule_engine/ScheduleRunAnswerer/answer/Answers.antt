@@ -27,5 +27,5 @@ returns-clause-answered g c =
     let after : ScheduleKept = record { machine = c.answer.new.machine; ids = c.answer.new.ids; lines = run.lines + 1 } in
     let P : ScheduleKept → Type 0 = λ k. (now : Scheduled) → StandsFor k now → AnswersKept (AnswersEvent k.machine.domain) (λ _. false) (StandsFor after) now c.args.line.now c.args.output.now c.answer.new.output true in
     subst P c.self.view_is (λ now stands.
-      subst (λ d. AnswersKept (AnswersEvent d) (λ _. false) (StandsFor after) now c.args.line.now c.args.output.now c.answer.new.output true) (sym c.self.invariant.of_domain)
-      (scheduled run.domain before after now c.args.line.now c.args.output.now c.answer.new.output stands (c.answer.ensures.line now stands.machine stands.ids stands.lines) refl))
+    subst (λ d. AnswersKept (AnswersEvent d) (λ _. false) (StandsFor after) now c.args.line.now c.args.output.now c.answer.new.output true) (sym c.self.invariant.of_domain)
+    (scheduled run.domain before after now c.args.line.now c.args.output.now c.answer.new.output stands (c.answer.ensures.line now stands.machine stands.ids stands.lines) refl))
