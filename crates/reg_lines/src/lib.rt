@@ -40,7 +40,9 @@ pub use devices::{
 };
 pub use fault::{Code, Fault, Field, Key};
 pub use printing::{
-    CallConflict, CallOrder, CallReply, EventRefused, LineRefusal, PrintJson, print_line,
+    CallConflict, CallOrder, CallRecord, CallReply, EventRefused, LineRefusal, PrintJson, print_line,
     print_list, print_number, print_text, printed_events_law, printed_law,
 };
-pub use reading::{Ids, Request, Tries, ids_law, read_event, read_request, unknown_keys_law};
+pub use reading::{
+    Ids, Record, Request, Tries, ids_law, read_event, read_record, read_request, unknown_keys_law,
+};
