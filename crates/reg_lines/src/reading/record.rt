@@ -145,12 +145,12 @@ pub fn read_record(
     number: u64,
 ) -> Result<Record, LineRefusal>
     ensures spelled { MatchResult result
-        (λ record. spelled_record domain.now line.now ≡ Ok (recorded record))
+        (λ told. spelled_record domain.now line.now ≡ Ok (recorded told))
         (λ refusal. (refusal.line ≡ number) × Fails refusal.failure (spelled_record domain.now line.now)) }
-    ensures domain { IfOk result (λ record. record.batch.domain ≡ domain.now) }
+    ensures domain { IfOk result (λ told. told.batch.domain ≡ domain.now) }
 {
     match spelled_record(alloc, domain, line) {
-        Ok(record) => Ok(record),
+        Ok(told) => Ok(told),
         Err(failure) => Err(LineRefusal {
             line: number,
             failure,
