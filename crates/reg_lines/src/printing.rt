@@ -24,4 +24,4 @@ pub use records::CallRecord;
 pub use refusal::LineRefusal;
 pub use replies::{CallConflict, CallReply};
 pub use text::print_text;
-pub use values::{printed_events_law, printed_law};
+pub use values::{printed_events_law, printed_law, printed_records_law};

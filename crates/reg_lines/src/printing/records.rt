@@ -1,6 +1,5 @@
 //! Which line records a call?
 
-ghost use Rattle.std.specs.Prelude.{◌≡◌, option_map};
 ghost use Rattle.reg_lines.specs.RecordLines.{record_json};
 
 use crate::devices::output::Output;
