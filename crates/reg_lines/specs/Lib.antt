@@ -20,3 +20,4 @@ pub mod EventAnswers
 pub mod EventValues
 pub mod RecordLines
 pub mod RecordValues
+pub mod CallRecords

@@ -6,6 +6,7 @@ use crate::devices::output::Output;
 use crate::devices::sink::Sink;
 use crate::printing::json::{PrintJson, print_number};
 use crate::printing::replies::CallReply;
+use call_machine::{CallAnswer, KnownCall};
 use entry_book::{Batch, Reply};
 
 /// A call of a schedule that stands in the order, as the line of a record has it.
@@ -24,6 +25,28 @@ pub struct CallRecord<'a> {
     pub replied: Option<u64>,
     /// The reply, given out or not.
     pub reply: &'a Reply,
+}
+
+impl<'a> CallRecord<'a> {
+    ghost use Rattle.std.specs.Prelude.{◌≡◌};
+    ghost use Rattle.reg_lines.specs.CallRecords.{record_of};
+
+    /// The record of the call of this number, once it has a reply: a conflict is none.
+    pub fn of(call: u64, known: &KnownCall<'a>) -> Option<CallRecord<'a>>
+        ensures { result ≡ record_of call known.now }
+    {
+        match &known.answer {
+            Some(CallAnswer::Replied(reply)) => Some(CallRecord {
+                batch: known.batch,
+                call,
+                invoked: known.invoked,
+                replied: known.replied,
+                reply: *reply,
+            }),
+            Some(CallAnswer::Conflict(_)) => None,
+            None => None,
+        }
+    }
 }
 
 impl PrintJson for CallRecord<'_> {
