@@ -43,8 +43,9 @@ pub use devices::{
 };
 pub use fault::{Code, Fault, Field, Key};
 pub use printing::{
-    CallConflict, CallOrder, CallRecord, CallReply, EventRefused, LineRefusal, PrintJson, print_line,
-    print_list, print_number, print_text, printed_events_law, printed_law, printed_records_law,
+    CallConflict, CallOrder, CallRecord, CallReply, EventRefused, LineRefusal, PrintJson,
+    print_line, print_list, print_number, print_text, printed_events_law, printed_law,
+    printed_records_law,
 };
 pub use reading::{
     Ids, Record, Request, Tries, ids_law, read_event, read_record, read_request, unknown_keys_law,

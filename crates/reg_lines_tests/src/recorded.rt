@@ -154,7 +154,8 @@ fn known_is_recorded(
 const QUESTION: &str = r#"{"ops":[{"op":"show","id":"00000000-0000-0000-0000-000000000001"}]}"#;
 
 /// Its record.
-const RECORD: &str = r#"{"batch":{"after":0,"ops":[{"id":"00000000-0000-0000-0000-000000000001","op":"show"}]},"call":1,"invoked":1,"replied":4,"reply":{"call":1,"place":0,"replies":[{"entry":null}],"result":"answered"}}"#;
+const RECORD: &str =
+    r#"{"batch":{"after":0,"ops":[{"id":"00000000-0000-0000-0000-000000000001","op":"show"}]},"call":1,"invoked":1,"replied":4,"reply":{"call":1,"place":0,"replies":[{"entry":null}],"result":"answered"}}"#;
 
 #[test]
 fn only_a_call_that_has_a_reply_is_recorded(rt: HostRuntime) -> Result<(), Fail> {
