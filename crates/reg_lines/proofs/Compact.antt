@@ -150,7 +150,7 @@ dropped_json-is deleted dissociated =
     ∷ codes "}" ∷ [])
     ∙ simp ids-are refl
 
-option_json-is : {A : Type 0} (f : A → List ℕ) (g : A → Data) → ((x : A) → f x ≡ compact_text (g x)) → (o : Option A) → option_json f o ≡ compact_text (option_data g o)
+pub option_json-is : {A : Type 0} (f : A → List ℕ) (g : A → Data) → ((x : A) → f x ≡ compact_text (g x)) → (o : Option A) → option_json f o ≡ compact_text (option_data g o)
 unfolding serde_json_on_literals
 option_json-is f g h None = refl
 option_json-is f g h (Some x) = h x
@@ -280,10 +280,10 @@ pub list-no_float : {A : Type 0} (g : A → Data) → ((x : A) → has_float (g 
 list-no_float g h [] = refl
 list-no_float g h (x ∷ xs) = ap (λ b. b || has_float (list_data g xs)) (h x) ∙ list-no_float g h xs
 
-texts-no_float : (xs : List (List ℕ)) → has_float (list_data string xs) ≡ false
+pub texts-no_float : (xs : List (List ℕ)) → has_float (list_data string xs) ≡ false
 texts-no_float xs = list-no_float string (λ x. refl) xs
 
-selectors-no_float : (xs : List SelectorPair) → has_float (list_data selector_data xs) ≡ false
+pub selectors-no_float : (xs : List SelectorPair) → has_float (list_data selector_data xs) ≡ false
 selectors-no_float xs = list-no_float selector_data (λ x. refl) xs
 
 entry_value-no_float : (e : Entry) (jwt x509 : Option ℕ) → has_float (entry_value e jwt x509) ≡ false
@@ -310,7 +310,7 @@ bundles-no_float bs = list-no_float bundle_data bundle-no_float bs
 ids-no_float : (ids : List (List ℕ)) → has_float (list_data uuid_data ids) ≡ false
 ids-no_float ids = list-no_float uuid_data (λ id. refl) ids
 
-option-no_float : {A : Type 0} (g : A → Data) → ((x : A) → has_float (g x) ≡ false) → (o : Option A) → has_float (option_data g o) ≡ false
+pub option-no_float : {A : Type 0} (g : A → Data) → ((x : A) → has_float (g x) ≡ false) → (o : Option A) → has_float (option_data g o) ≡ false
 option-no_float g h None = refl
 option-no_float g h (Some x) = h x
 

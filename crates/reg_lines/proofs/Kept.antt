@@ -14,8 +14,9 @@ use Rattle.reg_lines.specs.declared.fault.Fault.{Fault}
 use Rattle.reg_lines.specs.declared.reading.request.Request.{Request}
 use Rattle.reg_lines.specs.Fields.{◌>>=◌, at_line}
 use Rattle.reg_lines.specs.Events.{event_in, spelled_event}
-use Rattle.reg_lines.specs.Kept.{KeptSpells, KeptSpellsEvent}
+use Rattle.reg_lines.specs.Kept.{KeptSpells, KeptSpellsEvent, KeptSpellsRecord}
 use Rattle.reg_lines.specs.Lines.{has_lf, kept, kept_bytes, IsLine}
+use Rattle.reg_lines.specs.Records.{AuditRecord, record_in, spelled_record}
 use Rattle.reg_lines.specs.Requests.{framed, line_limit, request_in, object_in, spelled, value_in}
 
 lt_true : (a b : ℕ) → a < b → nat_lt a b ≡ true
@@ -73,6 +74,12 @@ spelled_event-long domain ids line e =
     let next : ⊤ → Result (Event × ChaCha) Fault = λ none. value_in line >>= (λ d. object_in (as_object d) >>= (λ ms. event_in domain ids d ms)) in
     ap (λ r. r >>= next) e
 
+spelled_record-long : (domain line : List ℕ) → framed line ≡ at_line code.LineTooLong → spelled_record domain line ≡ at_line code.LineTooLong
+unfolding spelled_record
+spelled_record-long domain line e =
+    let next : ⊤ → Result AuditRecord Fault = λ none. value_in line >>= (λ d. object_in (as_object d) >>= (λ ms. record_in domain d ms)) in
+    ap (λ r. r >>= next) e
+
 take_none : (n : ℕ) (front : List ℕ) → has_lf front ≡ false → has_lf (take n front) ≡ false
 take_none n front none =
     no_more _ (has_lf (drop n front)) (sym (list_any-append (λ b. b == 10) (take n front) (drop n front)) ∙ (ap has_lf (take-append-drop n front) ∙ none))
@@ -109,3 +116,6 @@ kept_spells domain ids line a = kept_reads-by (spelled domain ids) line (spelled
 
 pub kept_spells_event : KeptSpellsEvent
 kept_spells_event domain ids line a = kept_reads-by (spelled_event domain ids) line (spelled_event-long domain ids) a (split_at (length line) kept_bytes)
+
+pub kept_spells_record : KeptSpellsRecord
+kept_spells_record domain line a = kept_reads-by (spelled_record domain) line (spelled_record-long domain) a (split_at (length line) kept_bytes)

@@ -17,7 +17,9 @@ pub mod Utf8
 pub mod Rows
 pub mod Domain
 pub mod EventDomain
+pub mod RecordDomain
 pub mod Kept
 pub mod Compact
 pub mod CompactEvents
 pub mod Others
+pub mod CompactRecords

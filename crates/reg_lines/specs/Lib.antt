@@ -10,9 +10,14 @@ pub mod Operations
 pub mod Batches
 pub mod Requests
 pub mod Events
+pub mod Records
+pub mod RecordViews
 pub mod Kept
 pub mod Refusals
 pub mod Replies
 pub mod Values
 pub mod EventAnswers
 pub mod EventValues
+pub mod RecordLines
+pub mod RecordValues
+pub mod CallRecords

@@ -23,6 +23,12 @@ pub enum Key {
     Call,
     /// The batch that a call hands in.
     Batch,
+    /// When a call was invoked.
+    Invoked,
+    /// When a call replied.
+    Replied,
+    /// What a call replied.
+    Reply,
     /// Which operation an object is.
     Op,
     /// An entry's key.
@@ -78,6 +84,9 @@ impl Key {
             Key::Event => "event",
             Key::Call => "call",
             Key::Batch => "batch",
+            Key::Invoked => "invoked",
+            Key::Replied => "replied",
+            Key::Reply => "reply",
             Key::Op => "op",
             Key::Id => "id",
             Key::Parent => "parent",

@@ -15,17 +15,20 @@
 //!   number and the first [`Fault`] found, or want of memory. One definition, `spelled`, says both. A request has its
 //!   [`Tries`], 1 to 16; [`unknown_keys_law`] says which unknown key is told.
 //! - [`read_event`] says the same of the line of an event, for the machine of calls; `spelled_event` is its definition.
+//! - [`read_record`] says which [`Record`] of a call a line spells, for an audit; `spelled_record` is its definition.
 //! - [`Ids`] gives ids to entries that come without one; [`ids_law`] says which words of its stream they are made of.
 //! - A [`LineRefusal`], and a book's reply with its call number, a [`CallReply`], are printed as lines, and so is a
 //!   [`CallConflict`]; [`printed_law`] says which JSON values these lines are.
 //! - The answer to an event, an [`EventRefused`] and a [`CallOrder`] are printed as the lines of a schedule;
 //!   [`printed_events_law`] says which values they are.
+//! - A [`CallRecord`] is printed as the line of a record, with the call's batch; [`printed_records_law`] says which values they
+//!   are.
 //!
 //! [`lines_law`] says what the lines of bytes are, and [`kept_law`] that what is kept of a line is enough; [`KEPT_BYTES`]
 //! and [`most_lines`] are the limits.
 //!
 //! - `devices`: bytes in and out, and the lines that they are.
-//! - `reading`: which request, or which event, a line spells; `fault`: what can be wrong with it.
+//! - `reading`: which request, which event, or which record a line spells; `fault`: what can be wrong with it.
 //! - `printing`: which bytes print a value.
 #![tactic(auto)]
 
@@ -40,7 +43,10 @@ pub use devices::{
 };
 pub use fault::{Code, Fault, Field, Key};
 pub use printing::{
-    CallConflict, CallOrder, CallReply, EventRefused, LineRefusal, PrintJson, print_line,
-    print_list, print_number, print_text, printed_events_law, printed_law,
+    CallConflict, CallOrder, CallRecord, CallReply, EventRefused, LineRefusal, PrintJson,
+    print_line, print_list, print_number, print_text, printed_events_law, printed_law,
+    printed_records_law,
 };
-pub use reading::{Ids, Request, Tries, ids_law, read_event, read_request, unknown_keys_law};
+pub use reading::{
+    Ids, Record, Request, Tries, ids_law, read_event, read_record, read_request, unknown_keys_law,
+};

@@ -3,13 +3,16 @@
 //! - `json`: a value that has one JSON text, which it puts piece by piece; `text`: a text as a JSON string.
 //! - `names`, `book_rows`: what a book holds; `marks`: what a call read.
 //! - `replies`, `events`, `refusal`: the lines that go out.
+//! - `batches`, `records`: what was asked, as a record of a call has it.
 //! - `values`: which JSON values these lines are.
 
+pub(crate) mod batches;
 pub(crate) mod book_rows;
 pub(crate) mod events;
 pub(crate) mod json;
 pub(crate) mod marks;
 pub(crate) mod names;
+pub(crate) mod records;
 pub(crate) mod refusal;
 pub(crate) mod replies;
 pub(crate) mod text;
@@ -17,7 +20,8 @@ pub(crate) mod values;
 
 pub use events::{CallOrder, EventRefused};
 pub use json::{PrintJson, print_line, print_list, print_number};
+pub use records::CallRecord;
 pub use refusal::LineRefusal;
 pub use replies::{CallConflict, CallReply};
 pub use text::print_text;
-pub use values::{printed_events_law, printed_law};
+pub use values::{printed_events_law, printed_law, printed_records_law};

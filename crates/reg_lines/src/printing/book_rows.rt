@@ -36,7 +36,7 @@ impl PrintJson for Entry {
 }
 
 /// Puts a lifetime of documents with what stands before it, where it isn't 0.
-fn put_lifetime<S: Sink>(before: &[u8], seconds: u64, output: &mut Output<S>)
+pub(crate) fn put_lifetime<S: Sink>(before: &[u8], seconds: u64, output: &mut Output<S>)
     ensures { Puts output.old output.new (lifetime_member before.now (given_lifetime seconds)) }
 {
     if seconds > 0 {

@@ -1,6 +1,7 @@
 //! What values are the printed lines?
 
 ghost use Rattle.reg_lines.specs.EventValues.{EventRefusalsAreCompact, EventRefusalsHaveNoFloat, EventsAreCompact, EventsHaveNoFloat, OrdersAreCompact, OrdersHaveNoFloat};
+ghost use Rattle.reg_lines.specs.RecordValues.{BatchesAreCompact, BatchesHaveNoFloat, RecordsAreCompact, RecordsHaveNoFloat};
 ghost use Rattle.reg_lines.specs.Values.{ConflictsAreCompact, ConflictsHaveNoFloat, RefusalsAreCompact, RefusalsHaveNoFloat, RepliesAreCompact, RepliesHaveNoFloat};
 
 /// Each printed line is the compact text of a JSON value, whose objects have their keys in ascending order of their
@@ -24,4 +25,12 @@ pub fn printed_events_law()
     ensures no_float_in_events { EventsHaveNoFloat }
     ensures no_float_in_refusals { EventRefusalsHaveNoFloat }
     ensures no_float_in_orders { OrdersHaveNoFloat }
+{}
+
+/// The same of the lines of records, and of the batches in them. This function has no code: it is a fact to cite.
+pub fn printed_records_law()
+    ensures batches { BatchesAreCompact }
+    ensures records { RecordsAreCompact }
+    ensures no_float_in_batches { BatchesHaveNoFloat }
+    ensures no_float_in_records { RecordsHaveNoFloat }
 {}

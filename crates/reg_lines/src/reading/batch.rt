@@ -22,11 +22,11 @@ use uuid::Uuid;
 #[derive(Drop)]
 pub(crate) struct Listed<'a> {
     /// The operations, as they are listed.
-    items: &'a [Value],
+    pub(super) items: &'a [Value],
     /// The least place at which the batch may run.
-    after: u64,
+    pub(super) after: u64,
     /// The token under which its commit is kept, where it carries one.
-    token: Option<Uuid>,
+    pub(super) token: Option<Uuid>,
 }
 
 /// The operations, as an object lists them.
@@ -60,7 +60,7 @@ pub(crate) fn listed_in(object: &Value) -> Result<Listed<'_>, Failure<Fault>>
 }
 
 /// The batch of these operations.
-fn batch_of(
+pub(super) fn batch_of(
     alloc: Global,
     domain: &TrustDomain,
     ops: Sequence<Op>,

@@ -21,7 +21,7 @@ pub(crate) use lists::{
     optional_domain_at, optional_domains_at, optional_selectors_at, selectors_at,
 };
 pub(crate) use names::{domain_at, id_at, new_uuid_at, optional_id_at, optional_uuid_at, uuid_at};
-pub(crate) use numbers::{number_at, optional_number_at, tries_at};
+pub(crate) use numbers::{number_at, number_in, optional_number_at, tries_at};
 use serde_json::{Map, Value};
 use spiffe_name::Failure;
 pub(crate) use texts::{optional_match_at, optional_mode_at, optional_text_at, text_at};

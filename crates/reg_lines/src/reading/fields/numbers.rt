@@ -11,7 +11,7 @@ use spiffe_name::Failure;
 
 /// The whole number that a value is.
 #[tactic(auto, unfolding(crate::specs::Fields::number_in))]
-fn number_in(value: &Value, key: Key) -> Result<u64, Failure<Fault>>
+pub(crate) fn number_in(value: &Value, key: Key) -> Result<u64, Failure<Fault>>
     ensures { Gives (λ n. n) result (number_in key (view value.now)) }
 {
     match value.as_u64() {

@@ -1,4 +1,4 @@
-use Rattle.reg_lines.proofs.Kept.{kept_spells, kept_spells_event}
+use Rattle.reg_lines.proofs.Kept.{kept_spells, kept_spells_event, kept_spells_record}
 use Rattle.reg_lines.proofs.devices.lines.kept_law.Goals as goal
 
 pub returns-clause-requests : goal.returns-clause-requests
@@ -6,3 +6,6 @@ returns-clause-requests c = kept_spells
 
 pub returns-clause-events : goal.returns-clause-events
 returns-clause-events c = kept_spells_event
+
+pub returns-clause-records : goal.returns-clause-records
+returns-clause-records c = kept_spells_record

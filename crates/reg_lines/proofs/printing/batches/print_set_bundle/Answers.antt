@@ -1,0 +1,7 @@
+use Rattle.reg_lines.specs.RecordLines.{set_bundle_json}
+use Rattle.reg_lines.proofs.Rows.{◌▸◌}
+use Rattle.reg_lines.proofs.printing.batches.print_set_bundle.Goals as goal
+
+pub returns : goal.returns
+unfolding set_bundle_json
+returns g c = c.put.ensures ▸ c.print_to.ensures ▸ c.put-2.ensures ▸ c.print_to-2.ensures ▸ c.put-3.ensures

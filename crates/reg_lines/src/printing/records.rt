@@ -1,0 +1,70 @@
+//! Which line records a call?
+
+ghost use Rattle.reg_lines.specs.RecordLines.{record_json};
+
+use crate::devices::output::Output;
+use crate::devices::sink::Sink;
+use crate::printing::json::{PrintJson, print_number};
+use crate::printing::replies::CallReply;
+use call_machine::{CallAnswer, KnownCall};
+use entry_book::{Batch, Reply};
+
+/// A call of a schedule that stands in the order, as the line of a record has it.
+///
+/// Printed it is an object with the `batch`, the `call`'s number, when it was `invoked` and `replied`, and the `reply` as its
+/// reply line has it. To print it takes no memory.
+#[derive(Clone, Copy, Drop)]
+pub struct CallRecord<'a> {
+    /// The batch that was handed in.
+    pub batch: &'a Batch,
+    /// The number of the call.
+    pub call: u64,
+    /// The number of its invoke among the accepted events, counted from 1.
+    pub invoked: u64,
+    /// That of its reply; none where the call was committed and hasn't replied.
+    pub replied: Option<u64>,
+    /// The reply, given out or not.
+    pub reply: &'a Reply,
+}
+
+impl<'a> CallRecord<'a> {
+    ghost use Rattle.std.specs.Prelude.{◌≡◌};
+    ghost use Rattle.reg_lines.specs.CallRecords.{record_of};
+
+    /// The record of the call of this number, once it has a reply: a conflict is none.
+    pub fn of(call: u64, known: &KnownCall<'a>) -> Option<CallRecord<'a>>
+        ensures { result ≡ record_of call known.now }
+    {
+        match &known.answer {
+            Some(CallAnswer::Replied(reply)) => Some(CallRecord {
+                batch: known.batch,
+                call,
+                invoked: known.invoked,
+                replied: known.replied,
+                reply: *reply,
+            }),
+            Some(CallAnswer::Conflict(_)) => None,
+            None => None,
+        }
+    }
+}
+
+impl PrintJson for CallRecord<'_> {
+    ghost text = { λ r. record_json r.batch.now r.call r.invoked r.replied r.reply.now };
+
+    fn print_to<S: Sink>(&self, output: &mut Output<S>) {
+        let call = self.call;
+        let reply = self.reply;
+        output.put(b"{\"batch\":");
+        self.batch.print_to(output);
+        output.put(b",\"call\":");
+        print_number(call, output);
+        output.put(b",\"invoked\":");
+        print_number(self.invoked, output);
+        output.put(b",\"replied\":");
+        self.replied.print_to(output);
+        output.put(b",\"reply\":");
+        CallReply { call, reply }.print_to(output);
+        output.put(b"}");
+    }
+}
