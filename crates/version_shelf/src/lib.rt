@@ -29,10 +29,17 @@
 //! - `vector`: the body, one sorted vector of rows; nothing outside this crate rests on it.
 #![tactic(auto)]
 
+mod count;
+mod leaf;
+mod page;
+mod path;
 mod range;
+mod rebuilt;
+mod search;
 mod shared_row;
 mod shelf;
-mod vector;
+mod walk;
 
+pub use count::Count;
 pub use range::Range;
 pub use shelf::Shelf;

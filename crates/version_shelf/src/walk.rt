@@ -1,0 +1,107 @@
+//! How does a walk step from page to page?
+
+ghost use Rattle.std.specs.Prelude.{◌≡◌, ◌++◌, ◌+◌, ◌<◌, ◌≤◌, ◌^◌, length};
+ghost use Rattle.version_shelf.specs.Shelf.{IsInOrder, rows_between};
+ghost use Rattle.version_shelf.specs.Pages.{ArePages, AreWalkPages, flatten, walk_rows};
+
+use crate::count::Count;
+use crate::leaf::{between, split};
+use crate::page::{Leaf, Middle};
+use crate::search::cut_at;
+use crate::shared_row::SharedRow;
+
+/// What is left of a walk: rows, the leaves after them, the middles after these, and the leaves and rows of the page in
+/// which the walk ends.
+#[derive(Drop)]
+pub(crate) struct Walk<'a, K, V> {
+    pub(crate) rest: &'a [SharedRow<K, V>],
+    pub(crate) leaves: &'a [Leaf<K, V>],
+    pub(crate) middles: &'a [Middle<K, V>],
+    pub(crate) last_leaves: &'a [Leaf<K, V>],
+    pub(crate) last: &'a [SharedRow<K, V>],
+}
+
+/// Steps on to the rows of the next leaf, where no row is at hand.
+pub(crate) fn refill<K, V>(walk: &mut Walk<'_, K, V>) {
+    if walk.leaves.is_empty() {
+        refill_leaves(walk);
+    }
+    match walk.leaves.split_first() {
+        Some((leaf, leaves)) => {
+            walk.rest = leaf.parts();
+            walk.leaves = leaves;
+        }
+        None => {
+            walk.rest = walk.last;
+            walk.last = &[];
+        }
+    }
+}
+
+/// Steps on to the leaves of the next middle, where no leaf is at hand.
+fn refill_leaves<K, V>(walk: &mut Walk<'_, K, V>) {
+    match walk.middles.split_first() {
+        Some((middle, middles)) => {
+            walk.leaves = middle.parts();
+            walk.middles = middles;
+        }
+        None => {
+            walk.leaves = walk.last_leaves;
+            walk.last_leaves = &[];
+        }
+    }
+}
+
+/// The walk over the rows of a shelf with `lo <= key < hi`.
+pub(crate) fn walk_between<'a, K: Ord, V>(
+    middles: &'a [Middle<K, V>],
+    lo: &K,
+    hi: &K,
+    count: &mut Count,
+) -> Walk<'a, K, V> {
+    let start = cut_at(middles, lo, count);
+    let (_, from) = middles.split_at(start.below.len());
+    let end = cut_at(from, hi, count);
+    match end.below.split_first() {
+        None => walk_in_middle(end.at, lo, hi, count),
+        Some((_, middles)) => {
+            let start = cut_at(start.at, lo, count);
+            let end = cut_at(end.at, hi, count);
+            Walk {
+                rest: split(start.at, lo, count).1,
+                leaves: start.above,
+                middles,
+                last_leaves: end.below,
+                last: split(end.at, hi, count).0,
+            }
+        }
+    }
+}
+
+/// The walk over the rows of one middle with `lo <= key < hi`.
+fn walk_in_middle<'a, K: Ord, V>(
+    leaves: &'a [Leaf<K, V>],
+    lo: &K,
+    hi: &K,
+    count: &mut Count,
+) -> Walk<'a, K, V> {
+    let start = cut_at(leaves, lo, count);
+    let (_, from) = leaves.split_at(start.below.len());
+    let end = cut_at(from, hi, count);
+    match end.below.split_first() {
+        None => Walk {
+            rest: between(end.at, lo, hi, count),
+            leaves: &[],
+            middles: &[],
+            last_leaves: &[],
+            last: &[],
+        },
+        Some((_, leaves)) => Walk {
+            rest: split(start.at, lo, count).1,
+            leaves,
+            middles: &[],
+            last_leaves: &[],
+            last: split(end.at, hi, count).0,
+        },
+    }
+}
