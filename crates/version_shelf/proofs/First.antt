@@ -14,7 +14,7 @@ empty_from [] none = refl
 empty_from (x ∷ xs) none = absurd (omega arith)
 
 module _ {K V : Type 0} {cmp : K → K → Ordering} (o : IsTotalOrder cmp) (key : K) where
-  from_of_above : (rows : List (K × V)) → AllAbove cmp key rows → rows_from cmp rows key ≡ rows
+  pub from_of_above : (rows : List (K × V)) → AllAbove cmp key rows → rows_from cmp rows key ≡ rows
   from_of_above [] all = refl
   from_of_above (r ∷ rs) all = rw (greater_from_less o key r.0 all.0) (ap (λ l. r ∷ l) (from_of_above rs all.1))
 

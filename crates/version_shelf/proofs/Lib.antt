@@ -1,7 +1,9 @@
 pub mod Above
+mod Around
 mod Changed
 mod Cutting
 mod Ends
 mod First
 mod Flat
+mod Paths
 mod Split

@@ -75,6 +75,12 @@ pub record CutsAt {X : Type 0} (passes : X → Bool) (below : List (List X)) (pa
   pub before : 0 < length below → ends (ends passes) below ≡ true
   pub behind : 0 < length above → ends passes parts ≡ false
 
+-- the way down to a leaf: middles, cut at one, whose leaves are cut at one
+pub record Leads {X : Type 0} (middles middles_below : List (List (List X))) (leaves : List (List X)) (middles_above : List (List (List X))) (below : List (List X)) (rows : List X) (above : List (List X)) : Type 0 where
+  pub cut_middles : Cuts middles middles_below leaves middles_above
+  pub cut_leaves : Cuts leaves below rows above
+  pub are_leaves : ArePages (flatten middles)
+
 -- the rows whose keys are the key or above it
 abbrev pub rows_from : {K V : Type 0} → (K → K → Ordering) → List (K × V) → K → List (K × V)
 rows_from cmp rows key = filter (λ row. is_ge (cmp row.0 key)) rows

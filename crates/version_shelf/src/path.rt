@@ -1,9 +1,9 @@
 //! Where in a shelf does a key belong, and what stands on both sides?
 
-ghost use Rattle.std.specs.Prelude.{◌≡◌, ◌++◌, ◌+◌, ◌<◌, ◌≤◌, ◌^◌, IfOk, length};
+ghost use Rattle.std.specs.Prelude.{◌≡◌, ◌++◌, ◌+◌, ◌<◌, ◌≤◌, ◌^◌, IfOk, List, length};
 ghost use Rattle.std.specs.Option.{option_copied};
-ghost use Rattle.version_shelf.specs.Shelf.{ClonesEqual, IsInOrder, get, rows_below, rows_above};
-ghost use Rattle.version_shelf.specs.Pages.{ArePages, Cuts, flatten};
+ghost use Rattle.version_shelf.specs.Shelf.{IsInOrder, get, rows_below, rows_above};
+ghost use Rattle.version_shelf.specs.Pages.{ArePages, Leads, flatten};
 
 use crate::count::Count;
 use crate::leaf::{Parts, part};
@@ -32,9 +32,7 @@ pub(crate) fn path_to<'a, K: Ord, V>(
     requires leaves { ArePages (flatten middles.now) }
     requires size { length middles.now ≤ 128 }
     requires room { count.old + 25 < 2 ^ 64 }
-    ensures middles { Cuts middles.now result.middles.below.now result.middles.at.now result.middles.above.now }
-    ensures leaves { Cuts result.middles.at.now result.leaves.below.now result.leaves.at.now result.leaves.above.now }
-    ensures parts { ArePages result.middles.at.now }
+    ensures leads { Leads middles.now result.middles.below.now result.middles.at.now result.middles.above.now result.leaves.below.now result.leaves.at.now result.leaves.above.now }
     ensures size { length result.rows.below.now + length result.rows.above.now ≤ length result.leaves.at.now }
     ensures least { length result.leaves.at.now ≤ length result.rows.below.now + length result.rows.above.now + 1 }
     ensures below { flatten (flatten result.middles.below.now) ++ (flatten result.leaves.below.now ++ result.rows.below.now) ≡ rows_below K.cmp (flatten (flatten middles.now)) key.now }
@@ -60,6 +58,14 @@ pub(crate) fn middles_with<K: Drop, V: Drop>(
     rows: Vec<SharedRow<K, V>>,
     count: &mut Count,
 ) -> Result<Vec<Middle<K, V>>, AllocError>
+    requires leads { (middles : List (List (List (K × V)))) × Leads middles path.now.middles.below.now path.now.middles.at.now path.now.middles.above.now path.now.leaves.below.now path.now.leaves.at.now path.now.leaves.above.now }
+    requires most { length rows.items ≤ 129 }
+    requires fewest { length path.now.leaves.at.now ≤ length rows.items + 1 }
+    requires room { count.old + 894 < 2 ^ 64 }
+    ensures rows { IfOk result (λ middles. flatten (flatten middles.items) ≡ flatten (flatten path.now.middles.below.now) ++ (flatten path.now.leaves.below.now ++ (rows.items ++ (flatten path.now.leaves.above.now ++ flatten (flatten path.now.middles.above.now))))) }
+    ensures middles { IfOk result (λ middles. ArePages middles.items) }
+    ensures leaves { IfOk result (λ middles. ArePages (flatten middles.items)) }
+    ensures counted { (count.old ≤ count.new) × (count.new ≤ count.old + 894) }
 {
     let leaves = &path.leaves;
     let leaves = rebuilt(alloc, leaves.below, rows, leaves.above, count)?;
