@@ -91,6 +91,17 @@ module _ {K V : Type 0} {cmp : K → K → Ordering} (o : IsTotalOrder cmp) (key
       let above = all_above_greater o key r rs sorted greater in
       rw (greater, below_of_above o key rs above, above_of_above o key rs above, others_of_above o key rs above) refl)
 
+  absent_apart : (rows : List (K × V)) → get cmp rows key ≡ None → rows_apart cmp rows key ≡ rows
+  absent_apart [] none = refl
+  absent_apart (r ∷ rs) none = by_order (cmp r.0 key)
+      (λ less. rw less (ap (λ l. r ∷ l) (absent_apart rs (rw less at none))))
+      (λ same. let found = rw same at none in cc)
+      (λ greater. rw greater (ap (λ l. r ∷ l) (absent_apart rs (rw greater at none))))
+
+  -- without a key that isn't there, the rows are the same
+  pub without_absent : (rows : List (K × V)) → IsInOrder cmp rows → get cmp rows key ≡ None → without_key cmp rows key ≡ rows
+  without_absent rows sorted none = without_is rows sorted ∙ absent_apart rows none
+
   length_apart : (rows : List (K × V)) → IsInOrder cmp rows → length (rows_apart cmp rows key) + count_of cmp rows key ≡ length rows
   length_apart [] sorted = refl
   length_apart (r ∷ rs) sorted = by_order (cmp r.0 key)

@@ -1,5 +1,5 @@
 -- Where pages are cut at a key.
-use Rattle.std.proofs.Common.{◌≡◌, ℕ, ◌+◌, ◌-◌, ◌<◌, ◌≤◌, Bool, true, false, List, [], ◌∷◌, ◌++◌, length, get_or, take, drop, refl, sym, ap, ◌∙◌, append-nil, length-append, length-take-le, arith}
+use Rattle.std.proofs.Common.{◌≡◌, ℕ, ◌+◌, ◌-◌, ◌<◌, ◌≤◌, Bool, true, false, List, [], ◌∷◌, ◌++◌, length, get_or, take, drop, refl, sym, ap, ◌∙◌, append-nil, length-append, length-take-le, inl, inr, arith}
 use Rattle.std.proofs.lemmas.List.{take-take, get_or-take, get_or_at}
 use Rattle.version_shelf.specs.Pages.{IsFull, AreFull, ArePages, Cuts, CutsAt, IsPlace, flatten, ends, starts}
 use Rattle.version_shelf.proofs.Ends.{starts_drop}
@@ -10,6 +10,7 @@ module _ {X : Type 0} where
   cuts_full below page above all few =
       let back : AreFull (page ∷ above) = full_back below (page ∷ above) all in
       record {
+    whole = inl refl;
     joined = flatten_around below page above;
     are_below = full_front below (page ∷ above) all;
     are_above = back.1;
@@ -21,6 +22,7 @@ module _ {X : Type 0} where
 
   pub cuts_of : (below : List (List X)) (page : List X) (above : List (List X)) → ArePages (below ++ page ∷ above) → length (below ++ page ∷ above) ≤ 128 → Cuts (below ++ page ∷ above) below page above
   cuts_of [] page [] all few = record {
+    whole = inl refl;
     joined = refl;
     are_below = tt;
     are_above = tt;
@@ -34,6 +36,7 @@ module _ {X : Type 0} where
 
   pub cuts_none : (pages below above : List (List X)) → pages ≡ below ++ above → length above ≡ 0 → length below ≤ length pages - 1 → Cuts pages below [] above
   cuts_none [] [] [] parts none few = record {
+    whole = inr (refl, refl);
     joined = refl;
     are_below = tt;
     are_above = tt;

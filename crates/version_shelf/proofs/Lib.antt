@@ -6,4 +6,5 @@ mod Ends
 mod First
 mod Flat
 mod Paths
+mod Shelves
 mod Split

@@ -1,5 +1,5 @@
 -- How the rows of a shelf stand in pages.
-use Rattle.std.specs.Prelude.{◌≡◌, ℕ, ◌+◌, ◌-◌, ◌/◌, ◌<◌, ◌≤◌, Bool, true, false, if◌then◌else◌, nat_lt, List, [], ◌∷◌, ◌++◌, length, filter, take, drop, Option, Some, None}
+use Rattle.std.specs.Prelude.{◌≡◌, ◌⊎◌, ℕ, ◌+◌, ◌-◌, ◌/◌, ◌<◌, ◌≤◌, Bool, true, false, if◌then◌else◌, nat_lt, List, [], ◌∷◌, ◌++◌, length, filter, take, drop, Option, Some, None}
 use Rattle.std.specs.declared.cmp.Ordering.{Ordering}
 use Rattle.std.specs.List.{AllByRecursion}
 use Rattle.std.specs.Ordering.{is_ge}
@@ -62,6 +62,7 @@ pub record IsPlace {X : Type 0} (passes : X → Bool) (parts : List X) (place : 
 
 -- pages are those below, the page of some parts, and those above
 pub record Cuts {X : Type 0} (pages below : List (List X)) (parts : List X) (above : List (List X)) : Type 0 where
+  pub whole : (pages ≡ below ++ parts ∷ above) ⊎ ((pages ≡ []) × (below ≡ []))
   pub joined : flatten pages ≡ flatten below ++ (parts ++ flatten above)
   pub are_below : AreFull below
   pub are_above : AreFull above

@@ -1,6 +1,6 @@
 //! What can a shelf be asked, and how is the next one made?
 
-ghost use Rattle.std.specs.Prelude.{◌≡◌, ◌↔◌, ◌+◌, ◌<◌, ◌≤◌, ◌^◌, [], length, IsTrue, IfOk, Some, None};
+ghost use Rattle.std.specs.Prelude.{◌≡◌, ◌↔◌, ◌+◌, ◌<◌, ◌≤◌, ◌^◌, [], length, IsTrue, IfOk, Some, None, if◌then◌else◌, is_some};
 ghost use Rattle.std.specs.Option.{option_copied};
 ghost use Rattle.version_shelf.specs.Shelf.{ClonesEqual, HasRoom, most_rows, IsInOrder, get, count_of, rows_between, with_key, without_key, ChangesAt};
 ghost use Rattle.version_shelf.specs.Pages.{ArePages, flatten};
@@ -128,18 +128,11 @@ impl<K: Ord + Clone, V: Clone> Shelf<K, V> {
         ensures counted { (count.old ≤ count.new) × (count.new ≤ count.old + 1024) }
     {
         let path = path_to(self.middles(), &key, &mut Count::new());
-        let len = match path.rows.value {
-            Some(_) => self.len,
-            None => self.len + 1,
-        };
+        let len = len_with(self.len, path.rows.value);
         let row = SharedRow::new(self.alloc, key, value)?;
         let rows = rows_with(self.alloc, path.rows.below, row, path.rows.above, count)?;
         let middles = middles_with(self.alloc, &path, rows, count)?;
-        Ok(Shelf {
-            alloc: self.alloc,
-            len,
-            middles: Some(Page::of(self.alloc, middles)?),
-        })
+        Shelf::of(self.alloc, middles, len)
     }
 
     /// The shelf without the row that has the key, if there is one. The caller sees to it that clones of keys and of
@@ -173,10 +166,21 @@ impl<K: Ord + Clone, V: Clone> Shelf<K, V> {
         }
         let rows = rows_without(self.alloc, path.rows.below, path.rows.above, count)?;
         let middles = middles_with(self.alloc, &path, rows, count)?;
+        Shelf::of(self.alloc, middles, self.len - 1)
+    }
+
+    fn of(alloc: Global, middles: Vec<Middle<K, V>>, len: usize) -> Result<Shelf<K, V>, AllocError>
+        requires order { IsInOrder K.cmp (flatten (flatten middles.items)) }
+        requires rows { len ≡ length (flatten (flatten middles.items)) }
+        requires most { len ≤ most_rows }
+        requires leaves { ArePages (flatten middles.items) }
+        requires middles { ArePages middles.items }
+        ensures { IfOk result (λ new. new ≡ flatten (flatten middles.items)) }
+    {
         Ok(Shelf {
-            alloc: self.alloc,
-            len: self.len - 1,
-            middles: Some(Page::of(self.alloc, middles)?),
+            alloc,
+            len,
+            middles: Some(Page::of(alloc, middles)?),
         })
     }
 
@@ -192,6 +196,17 @@ impl<K: Ord + Clone, V: Clone> Shelf<K, V> {
             Some(middles) => middles.parts(),
             None => &[],
         }
+    }
+}
+
+/// How many rows there are with one more, which takes the place of the row that had its key, if there was one.
+fn len_with<V>(len: usize, found: Option<&V>) -> usize
+    requires { len < most_rows }
+    ensures { result + (if is_some found.entry then 1 else 0) ≡ len + 1 }
+{
+    match found {
+        Some(_) => len,
+        None => len + 1,
     }
 }
 
