@@ -84,15 +84,15 @@ module _ {K V : Type 0} {cmp : K → K → Ordering} (o : IsTotalOrder cmp) (key
       (λ greater. all_above_greater o key r zs sorted greater)
   all_above (r ∷ s ∷ ys) zs sorted some last = all_above (s ∷ ys) zs (sorted_tail cmp r.0 (keys_of (s ∷ (ys ++ zs))) sorted) (omega arith) last
 
-  below_of_below : (rows : List (K × V)) → AllBelow cmp key rows → rows_below cmp rows key ≡ rows
+  pub below_of_below : (rows : List (K × V)) → AllBelow cmp key rows → rows_below cmp rows key ≡ rows
   below_of_below [] all = refl
   below_of_below (r ∷ rs) all = rw all.0 (ap (λ l. r ∷ l) (below_of_below rs all.1))
 
-  above_of_below : (rows : List (K × V)) → AllBelow cmp key rows → rows_above cmp rows key ≡ []
+  pub above_of_below : (rows : List (K × V)) → AllBelow cmp key rows → rows_above cmp rows key ≡ []
   above_of_below [] all = refl
   above_of_below (r ∷ rs) all = rw all.0 (above_of_below rs all.1)
 
-  from_of_below : (rows : List (K × V)) → AllBelow cmp key rows → rows_from cmp rows key ≡ []
+  pub from_of_below : (rows : List (K × V)) → AllBelow cmp key rows → rows_from cmp rows key ≡ []
   from_of_below [] all = refl
   from_of_below (r ∷ rs) all = rw all.0 (from_of_below rs all.1)
 

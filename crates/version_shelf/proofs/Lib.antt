@@ -8,3 +8,4 @@ mod Flat
 mod Paths
 mod Shelves
 mod Split
+mod Walks

@@ -47,7 +47,7 @@ module _ {K V : Type 0} {cmp : K → K → Ordering} (o : IsTotalOrder cmp) (key
 
 module _ {X : Type 0} (middles middles_below : List (List (List X))) (leaves : List (List X)) (middles_above : List (List (List X))) where
   -- where there are other middles, every leaf is full
-  others_full : Cuts middles middles_below leaves middles_above → ArePages (flatten middles) → 0 < length middles_below + length middles_above → AreFull (flatten middles_below ++ (leaves ++ flatten middles_above))
+  pub others_full : Cuts middles middles_below leaves middles_above → ArePages (flatten middles) → 0 < length middles_below + length middles_above → AreFull (flatten middles_below ++ (leaves ++ flatten middles_above))
   others_full cuts pages more =
       let all = rw cuts.joined at pages in
       full_from_pages (flatten middles_below ++ (leaves ++ flatten middles_above)) all (omega (arith, cuts.fewest more, length-append (flatten middles_below) (leaves ++ flatten middles_above), length-append leaves (flatten middles_above)))

@@ -30,7 +30,7 @@ impl<'a, K: Ord + 'a, V: 'a> Range<'a, K, V> {
 
     pub(crate) fn of(walk: Walk<'a, K, V>) -> Range<'a, K, V>
         requires { AreWalkPages walk.leaves.now walk.middles.now walk.last_leaves.now }
-        ensures { result ≡ walk_rows walk.rest.now walk.leaves.now walk.middles.now walk.last_leaves.now walk.last.now }
+        ensures { result ≡ walk_rows walk.entry.rest.now walk.entry.leaves.now walk.entry.middles.now walk.entry.last_leaves.now walk.entry.last.now }
     {
         Range { walk }
     }
