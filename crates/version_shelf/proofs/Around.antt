@@ -1,5 +1,5 @@
 -- Rows in order, of which the first are below a key and the last are above it.
-use Rattle.std.proofs.Common.{◌≡◌, ℕ, ◌+◌, ◌<◌, ◌≤◌, Bool, true, false, cond, List, [], ◌∷◌, ◌++◌, length, filter, Option, Some, None, refl, sym, ap, ◌∙◌, append-nil, append_assoc, length-append, arith}
+use Rattle.std.proofs.Common.{◌≡◌, ◌+◌, ◌<◌, ◌≤◌, Bool, true, false, cond, List, [], ◌∷◌, ◌++◌, length, filter, Some, refl, ap, ◌∙◌, append-nil, length-append, arith}
 use Rattle.std.specs.declared.cmp.Ordering.{Ordering}
 use Rattle.std.specs.declared.cmp.Ordering.TheVariants.{Less, Equal, Greater}
 use Rattle.std.specs.Ordering.{is_eq, is_lt, is_gt, is_ge}
@@ -11,9 +11,9 @@ use Rattle.std.proofs.lemmas.List.Elements.{filter-append}
 use Rattle.std.proofs.lemmas.Map.Keys.{sorted_head, sorted_tail}
 use Rattle.version_shelf.specs.Shelf.{IsInOrder, get, rows_below, rows_above}
 use Rattle.version_shelf.specs.Pages.{AreFull, ArePages, Cuts, CutsAt, flatten, ends, rows_from}
-use Rattle.version_shelf.proofs.Above.{by_order, AllAbove, below_of_above, above_of_above, get_of_above, all_above_equal, all_above_greater, all_append}
+use Rattle.version_shelf.proofs.Above.{by_order, AllAbove, below_of_above, above_of_above, get_of_above, all_above_equal, all_above_greater}
 use Rattle.version_shelf.proofs.First.{from_of_above}
-use Rattle.version_shelf.proofs.Flat.{flatten-append, full_front, full_back, full_from_pages, pages_from_full, pages_front, pages_back, full_least}
+use Rattle.version_shelf.proofs.Flat.{flatten-append, full_front, full_back, full_from_pages, pages_front, pages_back, full_least}
 
 -- ---- the last of many parts
 
@@ -148,7 +148,7 @@ module _ {K V : Type 0} {cmp : K → K → Ordering} (o : IsTotalOrder cmp) (key
     pub leaves_around : IsAround (flatten below) (flatten above)
     leaves_around = record {
       before = leaves_before below at.before (in_order_front cmp (flatten below) (rows ++ flatten above) order);
-      behind = leaves_behind above (λ some. cuts.fewest (omega arith)) at.behind (in_order_back cmp (flatten below) (rows ++ flatten above) order)
+      behind = leaves_behind above (λ some. cuts.fewest (omega arith)) at.behind (in_order_back cmp (flatten below) (rows ++ flatten above) order);
     }
 
   -- ---- middles, cut at the key
@@ -186,5 +186,5 @@ module _ {K V : Type 0} {cmp : K → K → Ordering} (o : IsTotalOrder cmp) (key
     pub middles_around : IsAround (flatten (flatten below)) (flatten (flatten above))
     middles_around = record {
       before = middles_before below at.before (in_order_front cmp (flatten (flatten below)) (flatten leaves ++ flatten (flatten above)) middles_order);
-      behind = middles_behind above (λ some. cuts.fewest (omega arith)) (λ some. full_front leaves (flatten above) (full_back (flatten below) (leaves ++ flatten above) (leaves_full (omega arith)))) at.behind (in_order_back cmp (flatten (flatten below)) (flatten leaves ++ flatten (flatten above)) middles_order)
+      behind = middles_behind above (λ some. cuts.fewest (omega arith)) (λ some. full_front leaves (flatten above) (full_back (flatten below) (leaves ++ flatten above) (leaves_full (omega arith)))) at.behind (in_order_back cmp (flatten (flatten below)) (flatten leaves ++ flatten (flatten above)) middles_order);
     }

@@ -1,7 +1,7 @@
 -- Where pages are cut at a key.
-use Rattle.std.proofs.Common.{◌≡◌, ℕ, ◌+◌, ◌-◌, ◌<◌, ◌≤◌, Bool, true, false, List, [], ◌∷◌, ◌++◌, length, get_or, take, drop, refl, sym, ap, ◌∙◌, append-nil, length-append, length-take-le, inl, inr, arith}
+use Rattle.std.proofs.Common.{◌≡◌, ℕ, ◌+◌, ◌-◌, ◌<◌, ◌≤◌, Bool, List, [], ◌∷◌, ◌++◌, length, get_or, take, refl, sym, ap, ◌∙◌, append-nil, length-append, length-take-le, inl, inr, arith}
 use Rattle.std.proofs.lemmas.List.{take-take, get_or-take, get_or_at}
-use Rattle.version_shelf.specs.Pages.{IsFull, AreFull, ArePages, Cuts, CutsAt, IsPlace, flatten, ends, starts}
+use Rattle.version_shelf.specs.Pages.{AreFull, ArePages, Cuts, CutsAt, IsPlace, ends}
 use Rattle.version_shelf.proofs.Ends.{starts_drop}
 use Rattle.version_shelf.proofs.Flat.{flatten_around, full_front, full_back, full_from_pages}
 
@@ -10,15 +10,15 @@ module _ {X : Type 0} where
   cuts_full below page above all few =
       let back : AreFull (page ∷ above) = full_back below (page ∷ above) all in
       record {
-    whole = inl refl;
-    joined = flatten_around below page above;
-    are_below = full_front below (page ∷ above) all;
-    are_above = back.1;
-    most = back.0.1;
-    fewest = λ some. back.0.0;
-    fits = omega (arith, length-append below (page ∷ above));
-    all = omega (arith, length-append below (page ∷ above))
-  }
+        whole = inl refl;
+        joined = flatten_around below page above;
+        are_below = full_front below (page ∷ above) all;
+        are_above = back.1;
+        most = back.0.1;
+        fewest = λ some. back.0.0;
+        fits = omega (arith, length-append below (page ∷ above));
+        all = omega (arith, length-append below (page ∷ above));
+      }
 
   pub cuts_of : (below : List (List X)) (page : List X) (above : List (List X)) → ArePages (below ++ page ∷ above) → length (below ++ page ∷ above) ≤ 128 → Cuts (below ++ page ∷ above) below page above
   cuts_of [] page [] all few = record {
@@ -29,7 +29,7 @@ module _ {X : Type 0} where
     most = all;
     fewest = λ some. absurd (omega arith);
     fits = omega arith;
-    all = omega arith
+    all = omega arith;
   }
   cuts_of [] page (q ∷ above) all few = cuts_full [] page (q ∷ above) all few
   cuts_of (q ∷ below) page above all few = cuts_full (q ∷ below) page above (full_from_pages (q ∷ (below ++ page ∷ above)) all (omega (arith, length-append below (page ∷ above)))) few
@@ -43,7 +43,7 @@ module _ {X : Type 0} where
     most = omega arith;
     fewest = λ some. absurd (omega arith);
     fits = omega arith;
-    all = omega arith
+    all = omega arith;
   }
   cuts_none [] (b ∷ below) above parts none few = absurd (omega arith)
   cuts_none (p ∷ pages) below (a ∷ above) parts none few = absurd (omega arith)
@@ -59,10 +59,10 @@ module _ {X : Type 0} where
         let inside : place ≤ length pages - 1 = omega (arith, is.inside) in
         let same : take place others ≡ below = ap (take place) some ∙ take-take place (length pages - 1) pages inside ∙ sym front in
         record {
-      before = λ first. ap (ends (ends passes)) (sym same) ∙ is.before (omega arith);
-      behind = λ more.
-      let here : place < length others = omega arith in
-      let there : place < length pages - 1 = omega arith in
-      let read : get_or others place page ≡ page = ap (λ l. get_or l place page) some ∙ get_or-take (length pages - 1) pages place page there ∙ ap (λ l. get_or l place page) parts ∙ get_or_at below page above page place size in
-      ap (ends passes) (sym read) ∙ sym (starts_drop (ends passes) others place page here) ∙ is.behind
-    }
+          before = λ first. ap (ends (ends passes)) (sym same) ∙ is.before (omega arith);
+          behind = λ more.
+              let here : place < length others = omega arith in
+              let there : place < length pages - 1 = omega arith in
+              let read : get_or others place page ≡ page = ap (λ l. get_or l place page) some ∙ get_or-take (length pages - 1) pages place page there ∙ ap (λ l. get_or l place page) parts ∙ get_or_at below page above page place size in
+              ap (ends passes) (sym read) ∙ sym (starts_drop (ends passes) others place page here) ∙ is.behind;
+        }

@@ -1,7 +1,7 @@
 -- What the last and the first of some parts say.
-use Rattle.std.proofs.Common.{◌≡◌, ℕ, ◌+◌, ◌-◌, ◌/◌, ◌<◌, ◌≤◌, suc, zero, Bool, true, false, List, [], ◌∷◌, ◌++◌, length, get_or, take, drop, refl, sym, ap, ◌∙◌, append-nil, arith}
+use Rattle.std.proofs.Common.{◌≡◌, ℕ, ◌+◌, ◌/◌, ◌<◌, ◌≤◌, suc, zero, Bool, false, List, [], ◌∷◌, ◌++◌, length, get_or, take, drop, refl, ap, ◌∙◌, arith}
 use Rattle.std.proofs.lemmas.List.{drop_more, take_more}
-use Rattle.version_shelf.specs.Pages.{AreFull, ArePages, flatten, ends, starts}
+use Rattle.version_shelf.specs.Pages.{ends, starts}
 
 module _ {X : Type 0} (p : X → Bool) where
   pub ends_push : (xs : List X) (x : X) → ends p (xs ++ x ∷ []) ≡ p x

@@ -1,8 +1,7 @@
 -- Pages, and what they hold.
-use Rattle.std.proofs.Common.{◌≡◌, ℕ, ◌+◌, ◌-◌, ◌*◌, ◌/◌, ◌<◌, ◌≤◌, suc, zero, Bool, true, false, cond, nat_lt, List, [], ◌∷◌, ◌++◌, length, get_or, take, drop, refl, sym, ap, ◌∙◌, append-nil, append_assoc, length-append, length-take-le, length-drop, take-append-drop, Result, Ok, Err, arith}
+use Rattle.std.proofs.Common.{◌≡◌, ◌+◌, ◌-◌, ◌*◌, ◌/◌, ◌<◌, ◌≤◌, Bool, true, false, cond, nat_lt, List, [], ◌∷◌, ◌++◌, length, take, drop, refl, sym, ap, ◌∙◌, append-nil, append_assoc, length-append, length-take-le, length-drop, take-append-drop, Result, Ok, Err, arith}
 use Rattle.std.proofs.lemmas.Bool.{ltb-true, ltb-false}
 use Rattle.std.specs.Result.{IfOk}
-use Rattle.std.specs.List.{AllByRecursion}
 use Rattle.version_shelf.specs.Pages.{IsFull, AreFull, ArePages, flatten, in_pages}
 
 pub flatten-append : {X : Type 0} (ps qs : List (List X)) → flatten (ps ++ qs) ≡ flatten ps ++ flatten qs
@@ -75,15 +74,15 @@ module _ {X : Type 0} where
   full-in_pages parts least most =
       let half : length parts / 2 ≤ length parts = omega arith in
       elim (nat_lt 128 (length parts)) as (λ b. nat_lt 128 (length parts) ≡ b → AreFull (cond b (take (length parts / 2) parts ∷ drop (length parts / 2) parts ∷ []) (parts ∷ []))) [
-    | true ↦ λ long.
-      let many : 128 < length parts = omega (arith, ltb-true 128 (length parts) long) in
-      let front : length (take (length parts / 2) parts) ≡ length parts / 2 = length-take-le (length parts / 2) parts half in
-      let back : length (drop (length parts / 2) parts) ≡ length parts - length parts / 2 = length-drop (length parts / 2) parts in
-      ((omega arith, omega arith), ((omega arith, omega arith), tt))
-    | false ↦ λ short.
-      let few : length parts ≤ 128 = omega (arith, ltb-false 128 (length parts) short) in
-      ((least, few), tt)
-  ] refl
+        | true ↦ λ long.
+            let many : 128 < length parts = omega (arith, ltb-true 128 (length parts) long) in
+            let front : length (take (length parts / 2) parts) ≡ length parts / 2 = length-take-le (length parts / 2) parts half in
+            let back : length (drop (length parts / 2) parts) ≡ length parts - length parts / 2 = length-drop (length parts / 2) parts in
+            ((omega arith, omega arith), ((omega arith, omega arith), tt))
+        | false ↦ λ short.
+            let few : length parts ≤ 128 = omega (arith, ltb-false 128 (length parts) short) in
+            ((least, few), tt)
+      ] refl
 
   -- pages below, those of the parts, and pages above
   pub flatten_rebuilt : (below : List (List X)) (parts : List X) (above : List (List X)) → flatten (below ++ (in_pages parts ++ above)) ≡ flatten below ++ (parts ++ flatten above)
@@ -92,12 +91,12 @@ module _ {X : Type 0} where
   pub pages_rebuilt : (below : List (List X)) (parts : List X) (above : List (List X)) → AreFull below → AreFull above → length parts ≤ 192 → (0 < length below + length above → 64 ≤ length parts) → ArePages (below ++ (in_pages parts ++ above))
   pages_rebuilt [] parts [] front back most least = rw (append-nil (in_pages parts)) (
       elim (nat_lt 128 (length parts)) as (λ b. nat_lt 128 (length parts) ≡ b → ArePages (cond b (take (length parts / 2) parts ∷ drop (length parts / 2) parts ∷ []) (parts ∷ []))) [
-    | true ↦ λ long.
-      let many : 128 < length parts = omega (arith, ltb-true 128 (length parts) long) in
-      let all = full-in_pages parts (omega arith) most in
-      rw long at all
-    | false ↦ λ short. omega (arith, ltb-false 128 (length parts) short)
-  ] refl)
+        | true ↦ λ long.
+            let many : 128 < length parts = omega (arith, ltb-true 128 (length parts) long) in
+            let all = full-in_pages parts (omega arith) most in
+            rw long at all
+        | false ↦ λ short. omega (arith, ltb-false 128 (length parts) short)
+      ] refl)
   pages_rebuilt [] parts (q ∷ above) front back most least = pages_from_full (in_pages parts ++ q ∷ above) (full_append (in_pages parts) (q ∷ above) (full-in_pages parts (least (omega arith)) most) back)
   pages_rebuilt (p ∷ below) parts above front back most least = pages_from_full (p ∷ (below ++ (in_pages parts ++ above))) (full_append (p ∷ below) (in_pages parts ++ above) front (full_append (in_pages parts) above (full-in_pages parts (least (omega arith)) most) back))
 

@@ -1,12 +1,12 @@
 -- The way down to a key, and what becomes of a shelf where the leaf there has other rows.
-use Rattle.std.proofs.Common.{◌≡◌, ℕ, ◌+◌, ◌<◌, ◌≤◌, List, [], ◌∷◌, ◌++◌, length, Result, Ok, Err, refl, sym, ap, ◌∙◌, append-nil, append_assoc, length-append, arith}
+use Rattle.std.proofs.Common.{◌≡◌, ◌+◌, ◌<◌, List, [], ◌∷◌, ◌++◌, length, Result, Ok, Err, sym, ap, ◌∙◌, append-nil, append_assoc, length-append, arith}
 use Rattle.std.specs.declared.cmp.Ordering.{Ordering}
 use Rattle.std.specs.Ordering.{is_lt}
 use Rattle.std.specs.Cmp.{IsTotalOrder}
 use Rattle.std.specs.Result.{IfOk}
 use Rattle.version_shelf.specs.Shelf.{IsInOrder, get, rows_below, rows_above}
-use Rattle.version_shelf.specs.Pages.{AreFull, ArePages, Cuts, CutsAt, Leads, flatten, ends}
-use Rattle.version_shelf.proofs.Around.{middles_joined, are_leaves_at, leaves_order, leaf_order, leaves_around, middles_around, below_around, above_around, get_around}
+use Rattle.version_shelf.specs.Pages.{AreFull, ArePages, Cuts, CutsAt, flatten, ends}
+use Rattle.version_shelf.proofs.Around.{middles_joined, leaves_order, leaf_order, leaves_around, middles_around, below_around, above_around, get_around}
 use Rattle.version_shelf.proofs.Flat.{flatten-append, full_append, full_front, full_back, full_from_pages, pages_from_full}
 
 module _ {K V : Type 0} {cmp : K → K → Ordering} (o : IsTotalOrder cmp) (key : K) (middles middles_below : List (List (List (K × V)))) (leaves : List (List (K × V))) (middles_above : List (List (List (K × V)))) (cuts : Cuts middles middles_below leaves middles_above) (at : CutsAt (ends (λ row. is_lt (cmp row.0 key))) middles_below leaves middles_above) (sorted : IsInOrder cmp (flatten (flatten middles))) (pages : ArePages (flatten middles)) where
@@ -22,18 +22,18 @@ module _ {K V : Type 0} {cmp : K → K → Ordering} (o : IsTotalOrder cmp) (key
         ap (λ l. rows_below cmp l key) (middles_joined o key middles middles_below leaves middles_above cuts at sorted pages)
         ∙ below_around o key (flatten (flatten middles_below)) (flatten leaves) (flatten (flatten middles_above)) (middles_around o key middles middles_below leaves middles_above cuts at sorted pages)
         ∙ ap (λ l. flatten (flatten middles_below) ++ l) (
-          ap (λ l. rows_below cmp l key) leaf_cuts.joined
-          ∙ below_around o key (flatten below) rows (flatten above) (leaves_around o key leaves below rows above leaf_cuts leaf_at order)
-          ∙ ap (λ l. flatten below ++ l) (sym is)))
+        ap (λ l. rows_below cmp l key) leaf_cuts.joined
+        ∙ below_around o key (flatten below) rows (flatten above) (leaves_around o key leaves below rows above leaf_cuts leaf_at order)
+        ∙ ap (λ l. flatten below ++ l) (sym is)))
 
     pub path_above : (found : List (K × V)) → found ≡ rows_above cmp rows key → found ++ (flatten above ++ flatten (flatten middles_above)) ≡ rows_above cmp (flatten (flatten middles)) key
     path_above found is = sym (
         ap (λ l. rows_above cmp l key) (middles_joined o key middles middles_below leaves middles_above cuts at sorted pages)
         ∙ above_around o key (flatten (flatten middles_below)) (flatten leaves) (flatten (flatten middles_above)) (middles_around o key middles middles_below leaves middles_above cuts at sorted pages)
         ∙ ap (λ l. l ++ flatten (flatten middles_above)) (
-          ap (λ l. rows_above cmp l key) leaf_cuts.joined
-          ∙ above_around o key (flatten below) rows (flatten above) (leaves_around o key leaves below rows above leaf_cuts leaf_at order)
-          ∙ ap (λ l. l ++ flatten above) (sym is))
+        ap (λ l. rows_above cmp l key) leaf_cuts.joined
+        ∙ above_around o key (flatten below) rows (flatten above) (leaves_around o key leaves below rows above leaf_cuts leaf_at order)
+        ∙ ap (λ l. l ++ flatten above) (sym is))
         ∙ append_assoc found (flatten above) (flatten (flatten middles_above)))
 
     pub path_value : get cmp rows key ≡ get cmp (flatten (flatten middles)) key
@@ -67,10 +67,10 @@ pub rows_changed : {X : Type 0} (middles_below middles_above : List (List (List 
 rows_changed middles_below middles_above below above changed rows is =
     flatten-append (flatten middles_below) (changed ++ flatten middles_above)
     ∙ ap (λ l. flatten (flatten middles_below) ++ l) (
-      flatten-append changed (flatten middles_above)
-      ∙ ap (λ l. l ++ flatten (flatten middles_above)) is
-      ∙ append_assoc (flatten below) (rows ++ flatten above) (flatten (flatten middles_above))
-      ∙ ap (λ l. flatten below ++ l) (append_assoc rows (flatten above) (flatten (flatten middles_above))))
+    flatten-append changed (flatten middles_above)
+    ∙ ap (λ l. l ++ flatten (flatten middles_above)) is
+    ∙ append_assoc (flatten below) (rows ++ flatten above) (flatten (flatten middles_above))
+    ∙ ap (λ l. flatten below ++ l) (append_assoc rows (flatten above) (flatten (flatten middles_above))))
 
 module _ {W E X : Type 0} (items : W → List (List (List X))) (between : List (List X)) where
   pub if_rows : (all : List X) → flatten between ≡ all → (r : Result W E) → IfOk r (λ v. flatten (items v) ≡ between) → IfOk r (λ v. flatten (flatten (items v)) ≡ all)

@@ -1,5 +1,5 @@
 -- What makes middles a shelf, and what the changed ones hold.
-use Rattle.std.proofs.Common.{◌≡◌, ℕ, ◌+◌, ◌*◌, ◌<◌, ◌≤◌, Bool, true, false, cond, List, [], ◌∷◌, ◌++◌, length, Option, Some, None, is_some, Bor, Result, Ok, Err, refl, sym, ap, ◌∙◌, append_assoc, inl, inr, arith}
+use Rattle.std.proofs.Common.{◌≡◌, ℕ, ◌*◌, ◌≤◌, Bool, false, cond, List, ◌∷◌, ◌++◌, length, Option, Some, None, is_some, Bor, Result, Ok, Err, refl, ap, ◌∙◌, append_assoc, inl, inr, arith}
 use Rattle.std.specs.Option.{option_copied}
 use Rattle.std.specs.Result.{IfOk, MatchResult}
 use Rattle.std.proofs.lemmas.Bool.{cases_lt}
@@ -12,11 +12,11 @@ few_middles : {X : Type 0} (middles : List (List (List X))) → ArePages (flatte
 few_middles middles leaves are room n is = elim (cases_lt n 129) [
   | inl few ↦ omega arith
   | inr many ↦
-    let full : AreFull middles = full_from_pages middles are (omega arith) in
-    let least : 64 * length middles ≤ length (flatten middles) = full_least middles full in
-    let full_leaves : AreFull (flatten middles) = full_from_pages (flatten middles) leaves (omega arith) in
-    let rows : 64 * length (flatten middles) ≤ length (flatten (flatten middles)) = full_least (flatten middles) full_leaves in
-    absurd (omega arith)
+      let full : AreFull middles = full_from_pages middles are (omega arith) in
+      let least : 64 * length middles ≤ length (flatten middles) = full_least middles full in
+      let full_leaves : AreFull (flatten middles) = full_from_pages (flatten middles) leaves (omega arith) in
+      let rows : 64 * length (flatten middles) ≤ length (flatten (flatten middles)) = full_least (flatten middles) full_leaves in
+      absurd (omega arith)
 ]
 
 pub new_shelf : {K V : Type 0} (cmp : K → K → Ordering) (middles : List (List (List (K × V)))) (count : ℕ) → IsInOrder cmp (flatten (flatten middles)) → count ≡ length (flatten (flatten middles)) → count ≤ most_rows → ArePages (flatten middles) → ArePages middles → IsShelf cmp middles count
@@ -26,7 +26,7 @@ new_shelf cmp middles count order counted room leaves are = record {
   room = omega arith;
   are_leaves = leaves;
   are_middles = are;
-  size = few_middles middles leaves are (omega arith) (length middles) refl
+  size = few_middles middles leaves are (omega arith) (length middles) refl;
 }
 
 -- ---- the rows of a changed shelf

@@ -72,17 +72,18 @@ module _ {K V : Type 0} {cmp : K → K → Ordering} (o : IsTotalOrder cmp) (row
 
   -- a place is where those rows end
   pub point_is : (i : ℕ) → IsPlace (λ row. is_lt (cmp row.0 key)) rows i → IsPartitionPoint (λ row. is_lt (cmp row.0 key) ≡ true) (λ row. is_lt (cmp row.0 key) ≡ false) rows i
-  point_is i place =
-      (λ k d low high.
-      let last : i - 1 < length rows = omega (arith, place.inside) in
-      let all : i - 1 + 1 ≡ i = omega arith in
-      let passes = λ (row : K × V). is_lt (cmp row.0 key) in
-      is_partitioned k (i - 1) d (omega arith) last (sym (ends_take passes rows (i - 1) d last) ∙ ap (λ n. ends passes (take n rows)) all ∙ place.before (omega arith)),
-      λ k d low high. not_true _ (λ below.
-      let passes = λ (row : K × V). is_lt (cmp row.0 key) in
-      let here : i < length rows = omega arith in
-      let first : passes (get_or rows i d) ≡ true = is_partitioned i k d low high below in
-      apart (sym first ∙ sym (starts_drop passes rows i d here) ∙ place.behind)))
+  point_is i place = (
+    λ k d low high.
+        let last : i - 1 < length rows = omega (arith, place.inside) in
+        let all : i - 1 + 1 ≡ i = omega arith in
+        let passes = λ (row : K × V). is_lt (cmp row.0 key) in
+        is_partitioned k (i - 1) d (omega arith) last (sym (ends_take passes rows (i - 1) d last) ∙ ap (λ n. ends passes (take n rows)) all ∙ place.before (omega arith)),
+    λ k d low high. not_true _ (λ below.
+        let passes = λ (row : K × V). is_lt (cmp row.0 key) in
+        let here : i < length rows = omega arith in
+        let first : passes (get_or rows i d) ≡ true = is_partitioned i k d low high below in
+        apart (sym first ∙ sym (starts_drop passes rows i d here) ∙ place.behind)),
+  )
 
   -- so the rows before such a row are those below the key, and the others those from it on
   pub front_is : (i : ℕ) → IsPartitionPoint (λ row. is_lt (cmp row.0 key) ≡ true) (λ row. is_lt (cmp row.0 key) ≡ false) rows i → take i rows ≡ rows_below cmp rows key

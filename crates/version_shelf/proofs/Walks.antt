@@ -1,7 +1,7 @@
 -- The rows between two bounds, by the pages where the bounds belong.
-use Rattle.std.proofs.Common.{◌≡◌, ℕ, ◌+◌, ◌<◌, ◌≤◌, Bool, true, false, not, ◌&&◌, List, [], ◌∷◌, ◌++◌, length, filter, take, drop, refl, sym, ap, ◌∙◌, append-nil, append_assoc, length-append, inl, inr, arith}
+use Rattle.std.proofs.Common.{◌≡◌, ◌<◌, ◌≤◌, ◌&&◌, List, [], ◌∷◌, ◌++◌, length, filter, drop, refl, sym, ap, ◌∙◌, append-nil, append_assoc, length-append, inl, inr, arith}
 use Rattle.std.specs.declared.cmp.Ordering.{Ordering}
-use Rattle.std.specs.declared.cmp.Ordering.TheVariants.{Less, Equal, Greater}
+use Rattle.std.specs.declared.cmp.Ordering.TheVariants.{Less}
 use Rattle.std.specs.Ordering.{is_lt, is_ge}
 use Rattle.std.specs.Cmp.{IsTotalOrder}
 use Rattle.std.specs.List.{AllByRecursion}
@@ -9,13 +9,12 @@ use Rattle.std.specs.Map.{keys_of}
 use Rattle.std.proofs.lemmas.List.Elements.{filter-append}
 use Rattle.version_shelf.specs.Shelf.{IsInOrder, rows_below, rows_between}
 use Rattle.version_shelf.specs.Pages.{AreFull, ArePages, AreWalkPages, Cuts, CutsAt, flatten, ends, rows_from, walk_rows}
-use Rattle.version_shelf.proofs.Above.{AllAbove, all_append, all_filter, below_of_above}
-use Rattle.version_shelf.proofs.First.{from_of_above}
+use Rattle.version_shelf.proofs.Above.{AllAbove, all_filter, below_of_above}
 use Rattle.version_shelf.proofs.Split.{between_is}
 use Rattle.version_shelf.proofs.Around.{AllBelow, IsAround, below_of_below, from_of_below, below_around, from_around, in_order_back, leaves_around, middles_around}
 use Rattle.version_shelf.proofs.Flat.{flatten-append, flatten_around, full_front, full_back, pages_back}
 use Rattle.version_shelf.proofs.Paths.{others_full}
-use Rattle.std.proofs.lemmas.List.{take_at, drop_at}
+use Rattle.std.proofs.lemmas.List.{drop_at}
 
 module _ {K V : Type 0} {cmp : K → K → Ordering} (o : IsTotalOrder cmp) (lo hi : K) where
   all_front : (P : K → Type 0) (xs ys : List (K × V)) → AllByRecursion P (keys_of (xs ++ ys)) → AllByRecursion P (keys_of xs)

@@ -9,6 +9,7 @@ use crate::page::{Page, append, put};
 use std::alloc::{AllocError, Global};
 
 const FEWEST_PARTS: usize = 64;
+
 const MOST_PARTS: usize = 128;
 
 /// The pages below, the pages of these parts, and the pages above. Where the parts are too few for a page that has

@@ -1,4 +1,4 @@
-use Rattle.std.proofs.Common.{length, arith}
+use Rattle.std.proofs.Common.{arith}
 use Rattle.std.specs.Ordering.{is_ge}
 use Rattle.version_shelf.proofs.Split.{between_is, length_filter}
 use Rattle.version_shelf.proofs.Above.{in_order_filter}

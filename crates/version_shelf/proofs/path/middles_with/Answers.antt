@@ -1,4 +1,4 @@
-use Rattle.std.proofs.Common.{◌+◌, ◌<◌, ◌≤◌, length, arith}
+use Rattle.std.proofs.Common.{arith}
 use Rattle.version_shelf.proofs.Paths.{leaves_changed, rows_changed, if_rows, if_leaves}
 use Rattle.version_shelf.proofs.path.middles_with.Goals as goal
 

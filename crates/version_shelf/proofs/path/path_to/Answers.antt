@@ -1,5 +1,5 @@
-use Rattle.std.proofs.Common.{◌≡◌, ◌+◌, ◌≤◌, length, ap, ◌∙◌, length-append, arith}
-use Rattle.version_shelf.specs.Shelf.{count_of, rows_below, rows_above}
+use Rattle.std.proofs.Common.{length, ap, ◌∙◌, length-append, arith}
+use Rattle.version_shelf.specs.Shelf.{rows_below, rows_above}
 use Rattle.version_shelf.proofs.Around.{are_leaves_at}
 use Rattle.version_shelf.proofs.Changed.{length_without, one_at_most}
 use Rattle.version_shelf.proofs.Paths.{path_order, path_below, path_above, path_value}

@@ -1,4 +1,4 @@
-use Rattle.std.proofs.Common.{◌≡◌, ◌+◌, ◌<◌, ◌≤◌, ◌++◌, length, refl, ap, ◌∙◌, length-append, arith}
+use Rattle.std.proofs.Common.{◌≡◌, ◌+◌, ◌≤◌, ◌++◌, length, refl, ap, ◌∙◌, length-append, arith}
 use Rattle.version_shelf.specs.Pages.{flatten}
 use Rattle.version_shelf.proofs.Flat.{last_full, beside_left, beside_right, rebuilt_flat, rebuilt_pages}
 use Rattle.version_shelf.proofs.rebuilt.rebuilt.Goals as goal

@@ -1,6 +1,5 @@
 use Rattle.std.proofs.Common.{◌∙◌, ap}
 use Rattle.std.proofs.Common.{◌≡◌, ◌++◌, ◌∷◌}
-use Rattle.version_shelf.specs.Pages.{Cuts, CutsAt}
 use Rattle.version_shelf.proofs.Cutting.{cuts_of, cuts_at}
 use Rattle.version_shelf.proofs.search.cut_at.Goals as goal
 

@@ -1,4 +1,4 @@
-use Rattle.std.proofs.Common.{◌≡◌, length, sym, arith}
+use Rattle.std.proofs.Common.{length, sym}
 use Rattle.std.proofs.lemmas.Bool.{eqb-true}
 use Rattle.version_shelf.proofs.Walks.{next_middle, full_middle}
 use Rattle.version_shelf.proofs.walk.refill_leaves.Goals as goal

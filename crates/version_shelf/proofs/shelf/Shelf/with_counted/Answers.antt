@@ -1,4 +1,4 @@
-use Rattle.std.proofs.Common.{◌≡◌, ◌+◌, cond, Some, is_some, length, ap, ◌∙◌, arith}
+use Rattle.std.proofs.Common.{◌≡◌, ◌+◌, Some, is_some, length, ap, ◌∙◌, arith}
 use Rattle.version_shelf.specs.Shelf.{ChangesAt, count_of, get, with_key}
 use Rattle.version_shelf.specs.Pages.{flatten}
 use Rattle.version_shelf.proofs.Changed.{changes_with, in_order_with, length_with}

@@ -1,4 +1,4 @@
-use Rattle.std.proofs.Common.{◌≡◌, ◌+◌, None, cond, is_some, length, sym, ap, ◌∙◌, arith}
+use Rattle.std.proofs.Common.{◌≡◌, ◌+◌, None, is_some, length, sym, ap, ◌∙◌, arith}
 use Rattle.version_shelf.specs.Shelf.{ChangesAt, count_of, get, without_key}
 use Rattle.version_shelf.specs.Pages.{flatten}
 use Rattle.version_shelf.proofs.Changed.{changes_without, in_order_without, length_without, without_absent}
