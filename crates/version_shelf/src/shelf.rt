@@ -18,7 +18,8 @@ use std::marker::Model;
 const MOST_ROWS: usize = 262_144;
 
 /// One version of an ordered map of at most 262,144 rows, which is never changed. A reader has the same rows for as
-/// long as it keeps the shelf; a writer pays for the list of rows of the shelf that it makes.
+/// long as it keeps the shelf; a writer pays for the pages in which its row belongs, one on each of three levels, and shares
+/// all others with the shelf that it began with.
 #[derive(Drop)]
 pub struct Shelf<K: Ord, V> {
     alloc: Global,

@@ -145,8 +145,6 @@ fn a_shelf_is_filled_by_falling_keys_and_emptied_by_mixed_ones(
 }
 
 #[test]
-fn a_shelf_is_filled_by_mixed_keys_and_emptied_by_rising_ones(
-    rt: HostRuntime,
-) -> Result<(), Fail> {
+fn a_shelf_is_filled_by_mixed_keys_and_emptied_by_rising_ones(rt: HostRuntime) -> Result<(), Fail> {
     assert_filled_and_emptied(&rt, rt.alloc(), Order::Mixed, Order::Rising)
 }
