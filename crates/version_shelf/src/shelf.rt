@@ -91,6 +91,7 @@ impl<K: Ord + Clone, V: Clone> Shelf<K, V> {
     pub fn range(&self, lo: &K, hi: &K) -> Range<'_, K, V>
         ensures rows { result ≡ rows_between K.cmp self.now lo.now hi.now }
         ensures order { IsInOrder K.cmp result }
+        ensures most { length result ≤ most_rows }
     {
         Range::of(walk_between(self.middles(), lo, hi, &mut Count::new()))
     }
