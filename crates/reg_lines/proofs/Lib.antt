@@ -23,3 +23,5 @@ pub mod Compact
 pub mod CompactEvents
 pub mod Others
 pub mod CompactRecords
+pub mod ReadBack
+pub mod ReadBackOps

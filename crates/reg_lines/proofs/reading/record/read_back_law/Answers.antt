@@ -1,0 +1,8 @@
+use Rattle.reg_lines.proofs.ReadBackOps.{only}
+use Rattle.reg_lines.proofs.reading.record.read_back_law.Goals as goal
+
+pub returns-clause-ops : goal.returns-clause-ops
+returns-clause-ops c = ?
+
+pub returns-clause-batches : goal.returns-clause-batches
+returns-clause-batches c = ?
