@@ -25,3 +25,4 @@ pub mod Others
 pub mod CompactRecords
 pub mod ReadBack
 pub mod ReadBackOps
+pub mod ReadBackRecords

@@ -1,5 +1,5 @@
 -- What is printed of a batch reads as that batch.
-use Rattle.std.specs.Prelude.{◌≡◌, ⊤, ℕ, List, None, Some, IfSome, Ok}
+use Rattle.std.specs.Prelude.{◌≡◌, ⊤, ℕ, List, Option, None, Some, IfSome, Ok}
 use Rattle.std.specs.List.{AllByRecursion}
 use Rattle.uuid.specs.Text.{parsed}
 use Rattle.spiffe_name.specs.Domain.{domain_refusal}
@@ -16,12 +16,15 @@ use Rattle.entry_book.specs.declared.entry.NewEntry.{NewEntry}
 use Rattle.entry_book.specs.declared.op.Op.{Op}
 use Rattle.entry_book.specs.declared.op.Op.TheVariants as op
 use Rattle.entry_book.specs.declared.page.PageQuery.{PageQuery}
+use Rattle.entry_book.specs.declared.reply.Reply.{Reply}
 use Rattle.reg_lines.specs.declared.reading.ids.MissingId.{MissingId}
 use Rattle.reg_lines.specs.Operations.{op_in}
-use Rattle.reg_lines.specs.Records.{recorded_batch_in}
+use Rattle.reg_lines.specs.Records.{record_in, recorded_batch_in}
 use Rattle.reg_lines.specs.Fields.{◌>>=◌, required}
-use Rattle.reg_lines.specs.RecordValues.{batch_data, op_data}
+use Rattle.reg_lines.specs.RecordValues.{batch_data, op_data, record_data}
+use Rattle.reg_lines.specs.Requests.{object_in}
 use Rattle.reg_lines.specs.Replies.{uuid_text}
+use Rattle.reg_lines.specs.Values.{reply_data}
 use Rattle.reg_lines.specs.declared.fault.Key.TheVariants as key
 
 -- ---- what the types of an operation's parts see to
@@ -92,3 +95,8 @@ OpsReadBack = (o : Op) (missing : MissingId) (ids : ChaCha) → IsWrittenOp o �
 abbrev pub BatchesReadBack : Type 0
 BatchesReadBack = (batch : Batch) → AllByRecursion IsWrittenOp batch.ops → IfSome batch.token IsUuid → batch_refusal batch.domain batch.ops batch.token ≡ None
     → required key.Batch (as_object (batch_data batch)) >>= recorded_batch_in batch.domain (batch_data batch) ≡ Ok batch
+
+-- The same of a record: its value reads as what it tells.
+abbrev pub RecordsReadBack : Type 0
+RecordsReadBack = (batch : Batch) (call invoked : ℕ) (replied : Option ℕ) (reply : Reply) → AllByRecursion IsWrittenOp batch.ops → IfSome batch.token IsUuid → batch_refusal batch.domain batch.ops batch.token ≡ None
+    → object_in (as_object (record_data batch call invoked replied reply)) >>= record_in batch.domain (record_data batch call invoked replied reply) ≡ Ok (record { batch = batch; call = call; invoked = invoked; replied = replied; reply = reply_data call reply })
