@@ -123,15 +123,15 @@ entry-due word e expected =
 
 entry-at : (word : List ℕ) (e : NewEntry) (expected : Option ℕ) → IsEntryAt (object (members_due (entry_due word e expected))) e
 entry-at word e expected = record {
-    parent = found (codes "parent") (entry_due word e expected);
-    identity = found (codes "identity") (entry_due word e expected);
-    selectors = found (codes "selectors") (entry_due word e expected);
-    hint = found (codes "hint") (entry_due word e expected);
-    domains = found (codes "domains") (entry_due word e expected);
-    expiry = found (codes "expiry") (entry_due word e expected);
-    x509 = found (codes "x509_svid_ttl") (entry_due word e expected) ∙ or_none _;
-    jwt = found (codes "jwt_svid_ttl") (entry_due word e expected) ∙ or_none _
-  }
+  parent = found (codes "parent") (entry_due word e expected);
+  identity = found (codes "identity") (entry_due word e expected);
+  selectors = found (codes "selectors") (entry_due word e expected);
+  hint = found (codes "hint") (entry_due word e expected);
+  domains = found (codes "domains") (entry_due word e expected);
+  expiry = found (codes "expiry") (entry_due word e expected);
+  x509 = found (codes "x509_svid_ttl") (entry_due word e expected) ∙ or_none _;
+  jwt = found (codes "jwt_svid_ttl") (entry_due word e expected) ∙ or_none _;
+}
 
 abbrev create_keys : List Key
 create_keys = key.Op ∷ key.Id ∷ key.Parent ∷ key.Identity ∷ key.Selectors ∷ key.Hint ∷ key.Domains ∷ key.Expiry ∷ key.X509SvidTtl ∷ key.JwtSvidTtl ∷ []
@@ -163,8 +163,8 @@ create-back m ids e w =
     let ms : Members = members_due (entry_due (codes "create") e None) in
     ap (op_in m ids) (entry-due (codes "create") e None)
     ∙ named m ids ms (codes "create") (Ok (op.Create e, ids)) (found (codes "op") (entry_due (codes "create") e None))
-        (create_in-back m ids (object ms) ms e (found (codes "id") (entry_due (codes "create") e None)) w (entry-at (codes "create") e None)
-            (only create_keys (create_due e) refl))
+    (create_in-back m ids (object ms) ms e (found (codes "id") (entry_due (codes "create") e None)) w (entry-at (codes "create") e None)
+    (only create_keys (create_due e) refl))
 
 abbrev update_keys : List Key
 update_keys = key.Op ∷ key.Id ∷ key.Parent ∷ key.Identity ∷ key.Selectors ∷ key.Hint ∷ key.Domains ∷ key.Expiry ∷ key.X509SvidTtl ∷ key.JwtSvidTtl ∷ key.Revision ∷ []
@@ -179,8 +179,8 @@ update-back m ids e expected w =
     let ms : Members = members_due xs in
     ap (op_in m ids) (entry-due (codes "update") e expected)
     ∙ named m ids ms (codes "update") (Ok (op.Update e expected, ids)) (found (codes "op") xs)
-        (undrawn ids (update_in (object ms) ms) (op.Update e expected)
-            (update_in-back (object ms) ms e expected (found (codes "id") xs) (found (codes "revision") xs ∙ or_none _) w (entry-at (codes "update") e expected) (only update_keys xs refl)))
+    (undrawn ids (update_in (object ms) ms) (op.Update e expected)
+    (update_in-back (object ms) ms e expected (found (codes "id") xs) (found (codes "revision") xs ∙ or_none _) w (entry-at (codes "update") e expected) (only update_keys xs refl)))
 
 -- ---- operations with few keys
 
@@ -194,8 +194,8 @@ delete-back m ids id expected h =
     let ms : Members = members_due xs in
     ap (λ rest. op_in m ids (object (put (codes "id") (uuid_data id) (put (codes "op") (string (codes "delete")) rest)))) (next-due (codes "revision") whole expected no_members no_members refl)
     ∙ named m ids ms (codes "delete") (Ok (op.Delete id expected, ids)) (found (codes "op") xs)
-        (undrawn ids (delete_in (object ms) ms) (op.Delete id expected)
-            (delete_in-back (object ms) ms id expected (found (codes "id") xs) (found (codes "revision") xs ∙ or_none _) h (only (key.Op ∷ key.Id ∷ key.Revision ∷ []) xs refl)))
+    (undrawn ids (delete_in (object ms) ms) (op.Delete id expected)
+    (delete_in-back (object ms) ms id expected (found (codes "id") xs) (found (codes "revision") xs ∙ or_none _) h (only (key.Op ∷ key.Id ∷ key.Revision ∷ []) xs refl)))
 
 show_in-back : (d : Data) (ms : Members) (id : List ℕ) → get (key_name key.Id) d ≡ Some (uuid_data id) → IsUuid id → no_others (key.Op ∷ key.Id ∷ []) ms ≡ Ok tt → show_in d ms ≡ Ok (op.Show id)
 unfolding show_in
@@ -206,8 +206,8 @@ show-back m ids id h =
     let xs : List Due = (codes "id", Some (uuid_data id)) ∷ (codes "op", Some (string (codes "show"))) ∷ [] in
     let ms : Members = members_due xs in
     named m ids ms (codes "show") (Ok (op.Show id, ids)) (found (codes "op") xs)
-        (undrawn ids (show_in (object ms) ms) (op.Show id)
-            (show_in-back (object ms) ms id (found (codes "id") xs) h (only (key.Op ∷ key.Id ∷ []) xs refl)))
+    (undrawn ids (show_in (object ms) ms) (op.Show id)
+    (show_in-back (object ms) ms id (found (codes "id") xs) h (only (key.Op ∷ key.Id ∷ []) xs refl)))
 
 children_in-back : (d : Data) (ms : Members) (parent : List ℕ) → get (key_name key.Parent) d ≡ Some (string parent) → IsIdText parent → no_others (key.Op ∷ key.Parent ∷ []) ms ≡ Ok tt → children_in d ms ≡ Ok (op.Children parent)
 unfolding children_in
@@ -218,8 +218,8 @@ children-back m ids parent h =
     let xs : List Due = (codes "op", Some (string (codes "children"))) ∷ (codes "parent", Some (string parent)) ∷ [] in
     let ms : Members = members_due xs in
     named m ids ms (codes "children") (Ok (op.Children parent, ids)) (found (codes "op") xs)
-        (undrawn ids (children_in (object ms) ms) (op.Children parent)
-            (children_in-back (object ms) ms parent (found (codes "parent") xs) h (only (key.Op ∷ key.Parent ∷ []) xs refl)))
+    (undrawn ids (children_in (object ms) ms) (op.Children parent)
+    (children_in-back (object ms) ms parent (found (codes "parent") xs) h (only (key.Op ∷ key.Parent ∷ []) xs refl)))
 
 prune_in-back : (d : Data) (ms : Members) (moment : ℕ) → get (key_name key.Before) d ≡ Some (whole moment) → no_others (key.Op ∷ key.Before ∷ []) ms ≡ Ok tt → prune_in d ms ≡ Ok (op.Prune moment)
 unfolding prune_in
@@ -230,8 +230,8 @@ prune-back m ids moment =
     let xs : List Due = (codes "before", Some (whole moment)) ∷ (codes "op", Some (string (codes "prune"))) ∷ [] in
     let ms : Members = members_due xs in
     named m ids ms (codes "prune") (Ok (op.Prune moment, ids)) (found (codes "op") xs)
-        (undrawn ids (prune_in (object ms) ms) (op.Prune moment)
-            (prune_in-back (object ms) ms moment (found (codes "before") xs) (only (key.Op ∷ key.Before ∷ []) xs refl)))
+    (undrawn ids (prune_in (object ms) ms) (op.Prune moment)
+    (prune_in-back (object ms) ms moment (found (codes "before") xs) (only (key.Op ∷ key.Before ∷ []) xs refl)))
 
 -- ---- agents
 
@@ -253,28 +253,28 @@ unfolding show_agent_in
 show_agent-back m ids id h =
     let xs : List Due = agent_due (codes "show_agent") id in
     named m ids (members_due xs) (codes "show_agent") (Ok (op.ShowAgent id, ids)) (found (codes "op") xs)
-        (undrawn ids (show_agent_in (object (members_due xs)) (members_due xs)) (op.ShowAgent id) (ap (of_agent op.ShowAgent) (agent_in-back (codes "show_agent") id h)))
+    (undrawn ids (show_agent_in (object (members_due xs)) (members_due xs)) (op.ShowAgent id) (ap (of_agent op.ShowAgent) (agent_in-back (codes "show_agent") id h)))
 
 authorised-back : (m : MissingId) (ids : ChaCha) (id : List ℕ) → IsIdText id → op_in m ids (op_data (op.Authorised id)) ≡ Ok (op.Authorised id, ids)
 unfolding authorised_in
 authorised-back m ids id h =
     let xs : List Due = agent_due (codes "authorised") id in
     named m ids (members_due xs) (codes "authorised") (Ok (op.Authorised id, ids)) (found (codes "op") xs)
-        (undrawn ids (authorised_in (object (members_due xs)) (members_due xs)) (op.Authorised id) (ap (of_agent op.Authorised) (agent_in-back (codes "authorised") id h)))
+    (undrawn ids (authorised_in (object (members_due xs)) (members_due xs)) (op.Authorised id) (ap (of_agent op.Authorised) (agent_in-back (codes "authorised") id h)))
 
 trust-back : (m : MissingId) (ids : ChaCha) (id : List ℕ) → IsIdText id → op_in m ids (op_data (op.Trust id)) ≡ Ok (op.Trust id, ids)
 unfolding trust_in
 trust-back m ids id h =
     let xs : List Due = agent_due (codes "trust") id in
     named m ids (members_due xs) (codes "trust") (Ok (op.Trust id, ids)) (found (codes "op") xs)
-        (undrawn ids (trust_in (object (members_due xs)) (members_due xs)) (op.Trust id) (ap (of_agent op.Trust) (agent_in-back (codes "trust") id h)))
+    (undrawn ids (trust_in (object (members_due xs)) (members_due xs)) (op.Trust id) (ap (of_agent op.Trust) (agent_in-back (codes "trust") id h)))
 
 drop_agent-back : (m : MissingId) (ids : ChaCha) (id : List ℕ) → IsIdText id → op_in m ids (op_data (op.DropAgent id)) ≡ Ok (op.DropAgent id, ids)
 unfolding drop_agent_in
 drop_agent-back m ids id h =
     let xs : List Due = agent_due (codes "drop_agent") id in
     named m ids (members_due xs) (codes "drop_agent") (Ok (op.DropAgent id, ids)) (found (codes "op") xs)
-        (undrawn ids (drop_agent_in (object (members_due xs)) (members_due xs)) (op.DropAgent id) (ap (of_agent op.DropAgent) (agent_in-back (codes "drop_agent") id h)))
+    (undrawn ids (drop_agent_in (object (members_due xs)) (members_due xs)) (op.DropAgent id) (ap (of_agent op.DropAgent) (agent_in-back (codes "drop_agent") id h)))
 
 set_agent_in-back : (d : Data) (ms : Members) (a : Agent) → get (key_name key.Agent) d ≡ Some (string a.id) → get (key_name key.Selectors) d ≡ Some (list_data selector_data a.selectors) → IsWrittenAgent a → no_others (key.Op ∷ key.Agent ∷ key.Selectors ∷ []) ms ≡ Ok tt → set_agent_in d ms ≡ Ok (op.SetAgent a)
 unfolding set_agent_in
@@ -285,8 +285,8 @@ set_agent-back m ids a w =
     let xs : List Due = (codes "agent", Some (string a.id)) ∷ (codes "op", Some (string (codes "set_agent"))) ∷ (codes "selectors", Some (list_data selector_data a.selectors)) ∷ [] in
     let ms : Members = members_due xs in
     named m ids ms (codes "set_agent") (Ok (op.SetAgent a, ids)) (found (codes "op") xs)
-        (undrawn ids (set_agent_in (object ms) ms) (op.SetAgent a)
-            (set_agent_in-back (object ms) ms a (found (codes "agent") xs) (found (codes "selectors") xs) w (only (key.Op ∷ key.Agent ∷ key.Selectors ∷ []) xs refl)))
+    (undrawn ids (set_agent_in (object ms) ms) (op.SetAgent a)
+    (set_agent_in-back (object ms) ms a (found (codes "agent") xs) (found (codes "selectors") xs) w (only (key.Op ∷ key.Agent ∷ key.Selectors ∷ []) xs refl)))
 
 -- ---- bundles
 
@@ -299,8 +299,8 @@ show_bundle-back m ids domain h =
     let xs : List Due = (codes "domain", Some (string domain)) ∷ (codes "op", Some (string (codes "show_bundle"))) ∷ [] in
     let ms : Members = members_due xs in
     named m ids ms (codes "show_bundle") (Ok (op.ShowBundle domain, ids)) (found (codes "op") xs)
-        (undrawn ids (show_bundle_in (object ms) ms) (op.ShowBundle domain)
-            (show_bundle_in-back (object ms) ms domain (found (codes "domain") xs) h (only (key.Op ∷ key.Domain ∷ []) xs refl)))
+    (undrawn ids (show_bundle_in (object ms) ms) (op.ShowBundle domain)
+    (show_bundle_in-back (object ms) ms domain (found (codes "domain") xs) h (only (key.Op ∷ key.Domain ∷ []) xs refl)))
 
 set_bundle_in-back : (d : Data) (ms : Members) (domain text : List ℕ) → get (key_name key.Domain) d ≡ Some (string domain) → get (key_name key.Text) d ≡ Some (string text) → IsDomainText domain → no_others (key.Op ∷ key.Domain ∷ key.Text ∷ []) ms ≡ Ok tt → set_bundle_in d ms ≡ Ok (op.SetBundle domain text)
 unfolding set_bundle_in
@@ -311,8 +311,8 @@ set_bundle-back m ids domain text h =
     let xs : List Due = (codes "domain", Some (string domain)) ∷ (codes "op", Some (string (codes "set_bundle"))) ∷ (codes "text", Some (string text)) ∷ [] in
     let ms : Members = members_due xs in
     named m ids ms (codes "set_bundle") (Ok (op.SetBundle domain text, ids)) (found (codes "op") xs)
-        (undrawn ids (set_bundle_in (object ms) ms) (op.SetBundle domain text)
-            (set_bundle_in-back (object ms) ms domain text (found (codes "domain") xs) (found (codes "text") xs) h (only (key.Op ∷ key.Domain ∷ key.Text ∷ []) xs refl)))
+    (undrawn ids (set_bundle_in (object ms) ms) (op.SetBundle domain text)
+    (set_bundle_in-back (object ms) ms domain text (found (codes "domain") xs) (found (codes "text") xs) h (only (key.Op ∷ key.Domain ∷ key.Text ∷ []) xs refl)))
 
 drop_bundle_in-back : (d : Data) (ms : Members) (domain : List ℕ) (mode : DropMode) → get (key_name key.Domain) d ≡ Some (string domain) → get (key_name key.Mode) d ≡ Some (string (mode_text mode)) → IsDomainText domain → no_others (key.Op ∷ key.Domain ∷ key.Mode ∷ []) ms ≡ Ok tt → drop_bundle_in d ms ≡ Ok (op.DropBundle domain mode)
 unfolding drop_bundle_in
@@ -323,8 +323,8 @@ drop_bundle-back m ids domain mode h =
     let xs : List Due = (codes "domain", Some (string domain)) ∷ (codes "mode", Some (string (mode_text mode))) ∷ (codes "op", Some (string (codes "drop_bundle"))) ∷ [] in
     let ms : Members = members_due xs in
     named m ids ms (codes "drop_bundle") (Ok (op.DropBundle domain mode, ids)) (found (codes "op") xs)
-        (undrawn ids (drop_bundle_in (object ms) ms) (op.DropBundle domain mode)
-            (drop_bundle_in-back (object ms) ms domain mode (found (codes "domain") xs) (found (codes "mode") xs) h (only (key.Op ∷ key.Domain ∷ key.Mode ∷ []) xs refl)))
+    (undrawn ids (drop_bundle_in (object ms) ms) (op.DropBundle domain mode)
+    (drop_bundle_in-back (object ms) ms domain mode (found (codes "domain") xs) (found (codes "mode") xs) h (only (key.Op ∷ key.Domain ∷ key.Mode ∷ []) xs refl)))
 
 -- ---- pages
 
@@ -390,15 +390,15 @@ page-due q =
 
 page-at : (q : PageQuery) → IsPageAt (object (members_due (page_due q))) q
 page-at q = record {
-    size = found (codes "size") (page_due q);
-    at = found (codes "at") (page_due q) ∙ or_none _;
-    from = found (codes "from") (page_due q) ∙ or_none _;
-    parent = found (codes "parent") (page_due q) ∙ or_none _;
-    identity = found (codes "identity") (page_due q) ∙ or_none _;
-    domain = found (codes "domain") (page_due q) ∙ or_none _;
-    selectors = found (codes "selectors") (page_due q) ∙ or_none _;
-    match = found (codes "match") (page_due q) ∙ or_none _
-  }
+  size = found (codes "size") (page_due q);
+  at = found (codes "at") (page_due q) ∙ or_none _;
+  from = found (codes "from") (page_due q) ∙ or_none _;
+  parent = found (codes "parent") (page_due q) ∙ or_none _;
+  identity = found (codes "identity") (page_due q) ∙ or_none _;
+  domain = found (codes "domain") (page_due q) ∙ or_none _;
+  selectors = found (codes "selectors") (page_due q) ∙ or_none _;
+  match = found (codes "match") (page_due q) ∙ or_none _;
+}
 
 page-back : (m : MissingId) (ids : ChaCha) (q : PageQuery) → IsWrittenPage q → op_in m ids (op_data (op.Page q)) ≡ Ok (op.Page q, ids)
 page-back m ids q w =
@@ -406,7 +406,7 @@ page-back m ids q w =
     let ms : Members = members_due xs in
     ap (op_in m ids) (page-due q)
     ∙ named m ids ms (codes "page") (Ok (op.Page q, ids)) (found (codes "op") xs)
-        (undrawn ids (page_in (object ms) ms) (op.Page q) (page_in-back (object ms) ms q w (page-at q) (only page_keys xs refl)))
+    (undrawn ids (page_in (object ms) ms) (op.Page q) (page_in-back (object ms) ms q w (page-at q) (only page_keys xs refl)))
 
 -- ---- any operation
 

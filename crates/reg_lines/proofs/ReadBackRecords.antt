@@ -16,7 +16,7 @@ use Rattle.reg_lines.specs.declared.fault.Key.TheVariants as key
 use Rattle.reg_lines.specs.declared.reading.ids.MissingId.{MissingId}
 use Rattle.reg_lines.specs.Batches.{Listed, batch_of, items_at, listed_in}
 use Rattle.reg_lines.specs.Codes.{key_name}
-use Rattle.reg_lines.specs.Fields.{◌>>=◌, number_in, no_others, required}
+use Rattle.reg_lines.specs.Fields.{◌>>=◌, number_at, number_in, no_others, optional, required, unless_null}
 use Rattle.reg_lines.specs.Operations.{ops_in}
 use Rattle.reg_lines.specs.ReadBack.{BatchesReadBack, IsUuid, IsWrittenOp, RecordsReadBack}
 use Rattle.reg_lines.specs.Records.{AuditRecord, number_or_null_at, object_at, record_in, recorded_batch_in}
@@ -64,9 +64,64 @@ batch_due-back batch w t f =
     let xs : List Due = batch_due batch in
     let d : Data = object (members_due xs) in
     recorded-back d (members_due xs) batch
-        (listed-back d batch (found (codes "ops") xs) (found (codes "after") xs) (found (codes "token") xs ∙ or_none _) t)
-        (only batch_keys xs refl) w f
+    (listed-back d batch (found (codes "ops") xs) (found (codes "after") xs) (found (codes "token") xs ∙ or_none _) t)
+    (only batch_keys xs refl) w f
 
 pub batch-back : BatchesReadBack
 batch-back batch w t f =
     ap (λ d. required key.Batch (as_object d) >>= recorded_batch_in batch.domain d) (batch-due batch) ∙ batch_due-back batch w t f
+
+-- ---- a record
+
+or_null : (k : Key) (o : Option ℕ) → optional (number_in k) (unless_null (option_data whole o)) ≡ Ok o
+unfolding number_in
+or_null k None = refl
+or_null k (Some n) = refl
+
+number_or_null-back : (k : Key) (d : Data) (o : Option ℕ) → get (key_name k) d ≡ Some (option_data whole o) → number_or_null_at k d ≡ Ok o
+unfolding number_or_null_at
+number_or_null-back k d o e = rw e (or_null k o)
+
+object-back : (k : Key) (d value : Data) (ms : Members) → get (key_name k) d ≡ Some value → as_object value ≡ Some ms → object_at k d ≡ Ok value
+unfolding object_at
+object-back k d value ms e o = rw e (rw o refl)
+
+outcome-object : (call place : ℕ) (o : Outcome) → (ms : Members) × (as_object (outcome_data call place o) ≡ Some ms)
+outcome-object call place (outcome.Committed rs) = (_, refl)
+outcome-object call place (outcome.Answered rs) = (_, refl)
+outcome-object call place (outcome.Repeated rs) = (_, refl)
+outcome-object call place (outcome.Refused r) = (_, refl)
+
+abbrev record_keys : List Key
+record_keys = key.Batch ∷ key.Call ∷ key.Invoked ∷ key.Replied ∷ key.Reply ∷ []
+
+record_in-back : (domain : List ℕ) (d inner reply : Data) (ms inner_ms : Members) (batch : Batch) (call invoked : ℕ) (replied : Option ℕ)
+    → get (key_name key.Batch) d ≡ Some inner → required key.Batch (as_object inner) ≡ Ok inner_ms
+    → number_at key.Call d ≡ Ok call → number_at key.Invoked d ≡ Ok invoked → number_or_null_at key.Replied d ≡ Ok replied → object_at key.Reply d ≡ Ok reply
+    → no_others record_keys ms ≡ Ok tt → recorded_batch_in domain inner inner_ms ≡ Ok batch
+    → record_in domain d ms ≡ Ok (record { batch = batch; call = call; invoked = invoked; replied = replied; reply = reply })
+unfolding record_in
+record_in-back domain d inner reply ms inner_ms batch call invoked replied b m c i r o n w = rw b (rw m (rw c (rw i (rw r (rw o (rw n (rw w refl)))))))
+
+abbrev record_due : Batch → ℕ → ℕ → Option ℕ → Reply → List Due
+record_due batch call invoked replied reply =
+    (codes "batch", Some (batch_data batch))
+    ∷ (codes "call", Some (whole call))
+    ∷ (codes "invoked", Some (whole invoked))
+    ∷ (codes "replied", Some (option_data whole replied))
+    ∷ (codes "reply", Some (reply_data call reply))
+    ∷ []
+
+pub record-back : RecordsReadBack
+record-back batch call invoked replied reply w t f =
+    let xs : List Due = record_due batch call invoked replied reply in
+    let d : Data = object (members_due xs) in
+    let told = outcome-object call reply.place reply.outcome in
+    record_in-back batch.domain d (batch_data batch) (reply_data call reply) (members_due xs) _ batch call invoked replied
+    (found (codes "batch") xs) refl
+    (number-back key.Call d call (found (codes "call") xs))
+    (number-back key.Invoked d invoked (found (codes "invoked") xs))
+    (number_or_null-back key.Replied d replied (found (codes "replied") xs))
+    (object-back key.Reply d (reply_data call reply) told.0 (found (codes "reply") xs) told.1)
+    (only record_keys xs refl)
+    (batch-back batch w t f)

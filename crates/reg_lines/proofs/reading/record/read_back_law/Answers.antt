@@ -1,5 +1,5 @@
 use Rattle.reg_lines.proofs.ReadBackOps.{op-back}
-use Rattle.reg_lines.proofs.ReadBackRecords.{batch-back}
+use Rattle.reg_lines.proofs.ReadBackRecords.{batch-back, record-back}
 use Rattle.reg_lines.proofs.reading.record.read_back_law.Goals as goal
 
 pub returns-clause-ops : goal.returns-clause-ops
@@ -7,3 +7,6 @@ returns-clause-ops c = op-back
 
 pub returns-clause-batches : goal.returns-clause-batches
 returns-clause-batches c = batch-back
+
+pub returns-clause-records : goal.returns-clause-records
+returns-clause-records c = record-back
