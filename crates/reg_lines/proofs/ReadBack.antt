@@ -1,32 +1,25 @@
 -- What is printed of a batch reads as that batch.
-use Rattle.std.proofs.Common.{◌≡◌, ◌<◌, ◌≤◌, ℕ, Bool, true, false, cond, Ordering, Less, Equal, Greater, List, [], ◌∷◌, map, Option, None, Some, Result, Ok, Err, refl, sym, ap, ◌∙◌, inl, inr, arith}
-use Rattle.std.specs.Prelude.{⊤, codes, bytes_eq, nat_lt, is_some, option_map, option_and_then, unwrap_or, IfSome, IsTrue}
-use Rattle.std.specs.List.{AllByRecursion, list_all}
+use Rattle.std.proofs.Common.{◌≡◌, ℕ, Bool, true, false, cond, Ordering, Less, Equal, Greater, List, [], ◌∷◌, map, Option, None, Some, Ok, refl, sym, ap, ◌∙◌, arith}
+use Rattle.std.specs.Prelude.{bytes_eq, nat_lt, is_some, option_map, option_and_then, unwrap_or, IfSome}
+use Rattle.std.specs.List.{AllByRecursion}
 use Rattle.std.specs.Ordering.{nat_cmp, match_ordering}
 use Rattle.std.specs.Cmp.Lexicographic.{slice_cmp}
 use Rattle.std.proofs.lemmas.Bool.{false≢true, true≢false}
 use Rattle.std.proofs.lemmas.Bool.Decides.{nat_tests}
 use Rattle.std.proofs.lemmas.Slice.Eq.{bytes_eq-Decides}
-use Rattle.uuid.specs.Text.{parsed}
-use Rattle.spiffe_name.specs.Domain.{domain_refusal}
-use Rattle.spiffe_name.specs.Id.{id_refusal}
-use Rattle.spiffe_name.specs.Selector.{SelectorPair, pair_of, selector_refusal, selector_text}
-use Rattle.spiffe_name.specs.SelectorSet.{set_of}
-use Rattle.serde_json.specs.Data.{Data, null, object, string, Items, Members, no_members, member, put}
-use Rattle.serde_json.specs.Find.{get, get_member, as_object}
+use Rattle.spiffe_name.specs.Selector.{SelectorPair}
+use Rattle.serde_json.specs.Data.{Data, string, Members, no_members, member, put}
+use Rattle.serde_json.specs.Find.{get, get_member}
 use Rattle.serde_json.specs.View.{items_of}
 use Rattle.serde_json.proofs.Views.{get_member-put, get_member-put_other}
-use Rattle.rand_chacha.specs.ChaCha.{ChaCha}
-use Rattle.entry_book.specs.Rows.{domain_set}
 use Rattle.entry_book.specs.declared.mode.DropMode.{DropMode}
 use Rattle.entry_book.specs.declared.mode.DropMode.TheVariants.{Restrict, Delete, Dissociate}
 use Rattle.entry_book.specs.declared.page.MatchMode.{MatchMode}
 use Rattle.entry_book.specs.declared.page.MatchMode.TheVariants.{Exact, Any, Superset, Subset}
 use Rattle.entry_book.specs.declared.page.SelectorMatch.{SelectorMatch}
-use Rattle.reg_lines.specs.declared.fault.Fault.{Fault}
 use Rattle.reg_lines.specs.declared.fault.Key.{Key}
 use Rattle.reg_lines.specs.Codes.{key_name}
-use Rattle.reg_lines.specs.Fields.{◌>>=◌, optional, required, unless_null, text_at, text_in, optional_text_at, mode_in, optional_mode_at, match_in, optional_match_at, number_in, number_at, optional_number_at, id_at, id_in, optional_id_at, domain_at, domain_in, optional_domain_at, uuid_in, uuid_at, optional_uuid_at, selector_in, selectors_in, selectors_at, selector_set_in, optional_selectors_at, domains_in, domain_set_in, optional_domains_at, is_one_of, least_other, lesser, no_others}
+use Rattle.reg_lines.specs.Fields.{optional, unless_null, text_at, text_in, optional_text_at, mode_in, optional_mode_at, match_in, optional_match_at, number_in, number_at, optional_number_at, id_at, id_in, optional_id_at, domain_at, domain_in, optional_domain_at, uuid_in, uuid_at, optional_uuid_at, selector_in, selectors_in, selectors_at, selector_set_in, optional_selectors_at, domains_in, domain_set_in, optional_domains_at, is_one_of, least_other, lesser}
 use Rattle.reg_lines.specs.RecordLines.{match_text, mode_text}
 use Rattle.reg_lines.specs.RecordValues.{asked_data, match_data}
 use Rattle.reg_lines.specs.ReadBack.{AreDomains, AreSelectors, IsDomainText, IsIdText, IsSelector, IsUuid}

@@ -1,13 +1,11 @@
 -- What is printed of an operation reads as that operation.
-use Rattle.std.proofs.Common.{◌≡◌, ℕ, Bool, true, false, List, [], ◌∷◌, map, Option, None, Some, Result, Ok, Err, refl, sym, ap, ◌∙◌}
-use Rattle.std.specs.Prelude.{⊤, ◌+◌, ◌&&◌, codes, option_map, option_and_then, unwrap_or, IfSome}
+use Rattle.std.proofs.Common.{◌≡◌, ℕ, Bool, true, false, List, [], ◌∷◌, Option, None, Some, Result, Ok, refl, ap, ◌∙◌}
+use Rattle.std.specs.Prelude.{◌&&◌, codes, option_map}
 use Rattle.std.specs.List.{AllByRecursion, list_all}
 use Rattle.std.proofs.lemmas.Bool.{false≢true}
 use Rattle.serde_json.specs.Data.{Data, object, string, Members, no_members, put}
-use Rattle.serde_json.specs.Find.{get, get_member, as_object, as_array}
-use Rattle.serde_json.specs.View.{items_of}
+use Rattle.serde_json.specs.Find.{get, get_member}
 use Rattle.rand_chacha.specs.ChaCha.{ChaCha}
-use Rattle.entry_book.specs.Batches.{Batch, batch_refusal}
 use Rattle.entry_book.specs.declared.agent.Agent.{Agent}
 use Rattle.entry_book.specs.declared.entry.NewEntry.{NewEntry}
 use Rattle.entry_book.specs.declared.mode.DropMode.{DropMode}
@@ -25,8 +23,8 @@ use Rattle.reg_lines.specs.Fields.{◌>>=◌, beside, uuid_in, text_in, uuid_or_
 use Rattle.reg_lines.specs.Operations.{agent_in, authorised_in, children_in, create_in, delete_in, drop_agent_in, drop_bundle_in, entry_in, filter_in, named_op, op_in, page_in, prune_in, selector_match, set_agent_in, set_bundle_in, show_agent_in, show_bundle_in, show_in, trust_in, update_in}
 use Rattle.reg_lines.specs.RecordLines.{mode_text}
 use Rattle.reg_lines.specs.RecordValues.{asked_data, entry_op_data, match_data, op_data, page_op_data}
-use Rattle.reg_lines.specs.ReadBack.{AreDomains, AreSelectors, IsDomainText, IsIdText, IsUuid, IsWrittenAgent, IsWrittenEntry, IsWrittenOp, IsWrittenPage, OpsReadBack}
-use Rattle.reg_lines.specs.Replies.{given_lifetime, uuid_text}
+use Rattle.reg_lines.specs.ReadBack.{IsDomainText, IsIdText, IsUuid, IsWrittenAgent, IsWrittenEntry, IsWrittenPage, OpsReadBack}
+use Rattle.reg_lines.specs.Replies.{given_lifetime}
 use Rattle.reg_lines.specs.Values.{if_due, list_data, selector_data, uuid_data, whole}
 use Rattle.reg_lines.proofs.ReadBack.{Due, asked-back, domain-back, domains-back, due-map, found, id-back, known, lifetime-back, match-back, members_due, mode-back, number-back, optional_domain-back, optional_id-back, optional_number-back, optional_text-back, optional_uuid-back, or_none, selectors-back, text-back, uuid-back}
 

@@ -1,8 +1,8 @@
 -- What is printed of a batch, and of a record, reads as that.
-use Rattle.std.proofs.Common.{◌≡◌, ℕ, true, List, [], ◌∷◌, map, Option, None, Some, Result, Ok, refl, ap, ◌∙◌}
-use Rattle.std.specs.Prelude.{⊤, ◌+◌, codes, option_map, IfSome}
+use Rattle.std.proofs.Common.{◌≡◌, ℕ, List, [], ◌∷◌, map, Option, None, Some, Ok, refl, ap, ◌∙◌}
+use Rattle.std.specs.Prelude.{◌+◌, codes, option_map, IfSome}
 use Rattle.std.specs.List.{AllByRecursion}
-use Rattle.serde_json.specs.Data.{Data, object, string, Members, no_members, put}
+use Rattle.serde_json.specs.Data.{Data, object, Members}
 use Rattle.serde_json.specs.Find.{get, as_object}
 use Rattle.serde_json.specs.View.{items_of}
 use Rattle.rand_chacha.specs.ChaCha.{ChaCha}
@@ -14,15 +14,14 @@ use Rattle.entry_book.specs.declared.reply.Reply.{Reply}
 use Rattle.reg_lines.specs.declared.fault.Key.{Key}
 use Rattle.reg_lines.specs.declared.fault.Key.TheVariants as key
 use Rattle.reg_lines.specs.declared.reading.ids.MissingId.{MissingId}
-use Rattle.reg_lines.specs.Batches.{Listed, batch_of, items_at, listed_in}
+use Rattle.reg_lines.specs.Batches.{items_at, listed_in}
 use Rattle.reg_lines.specs.Codes.{key_name}
 use Rattle.reg_lines.specs.Fields.{◌>>=◌, number_at, number_in, no_others, optional, required, unless_null}
 use Rattle.reg_lines.specs.Operations.{ops_in}
 use Rattle.reg_lines.specs.ReadBack.{BatchesReadBack, IsUuid, IsWrittenOp, RecordsReadBack}
-use Rattle.reg_lines.specs.Records.{AuditRecord, number_or_null_at, object_at, record_in, recorded_batch_in}
-use Rattle.reg_lines.specs.RecordValues.{batch_data, op_data, record_data}
-use Rattle.reg_lines.specs.Requests.{object_in}
-use Rattle.reg_lines.specs.Values.{if_due, list_data, option_data, outcome_data, reply_data, uuid_data, whole}
+use Rattle.reg_lines.specs.Records.{number_or_null_at, object_at, record_in, recorded_batch_in}
+use Rattle.reg_lines.specs.RecordValues.{batch_data, op_data}
+use Rattle.reg_lines.specs.Values.{list_data, option_data, outcome_data, reply_data, uuid_data, whole}
 use Rattle.reg_lines.proofs.ReadBack.{Due, found, members_due, number-back, optional_number-back, optional_uuid-back, or_none}
 use Rattle.reg_lines.proofs.ReadBackOps.{next-due, next-put, only, op-back}
 

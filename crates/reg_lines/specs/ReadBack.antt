@@ -6,7 +6,6 @@ use Rattle.spiffe_name.specs.Domain.{domain_refusal}
 use Rattle.spiffe_name.specs.Id.{id_refusal}
 use Rattle.spiffe_name.specs.Selector.{SelectorPair, pair_of, selector_refusal, selector_text}
 use Rattle.spiffe_name.specs.SelectorSet.{set_of}
-use Rattle.serde_json.specs.Data.{Data, Members}
 use Rattle.serde_json.specs.Find.{as_object}
 use Rattle.rand_chacha.specs.ChaCha.{ChaCha}
 use Rattle.entry_book.specs.Batches.{Batch, batch_refusal}
