@@ -1,12 +1,11 @@
 -- The printed lines of records are the compact texts of values.
-use Rattle.std.proofs.Common.{◌≡◌, ℕ, true, false, Less, List, [], ◌∷◌, ◌++◌, Option, None, Some, refl, sym, ap, ◌∙◌, append_assoc}
+use Rattle.std.proofs.Common.{◌≡◌, ℕ, true, false, Less, List, [], ◌∷◌, ◌++◌, Option, None, Some, refl, ap, ◌∙◌, append_assoc}
 use Rattle.std.specs.Prelude.{codes, decimal}
 use Rattle.std.specs.Ordering.{nat_cmp}
 use Rattle.std.specs.Cmp.Lexicographic.{slice_cmp}
 use Rattle.serde_json.specs.Data.{Data, object, string, Members, no_members, member, put}
 use Rattle.serde_json.specs.Written.{compact_text, has_float, members_have_float, members_text}
 use Rattle.serde_json.proofs.OnLiterals.{serde_json_on_literals}
-use Rattle.entry_book.specs.Batches.{Batch}
 use Rattle.entry_book.specs.declared.agent.Agent.{Agent}
 use Rattle.entry_book.specs.declared.entry.NewEntry.{NewEntry}
 use Rattle.entry_book.specs.declared.mode.DropMode.{DropMode}
@@ -14,12 +13,11 @@ use Rattle.entry_book.specs.declared.op.Op.{Op}
 use Rattle.entry_book.specs.declared.op.Op.TheVariants as op
 use Rattle.entry_book.specs.declared.page.PageQuery.{PageQuery}
 use Rattle.entry_book.specs.declared.page.SelectorMatch.{SelectorMatch}
-use Rattle.entry_book.specs.declared.reply.Reply.{Reply}
 use Rattle.reg_lines.specs.Json.{list_json, option_json, text_json}
-use Rattle.reg_lines.specs.RecordLines.{batch_json, children_json, delete_json, drop_bundle_json, entry_op_json, given_member, keyed_op_json, leading_member, match_json, match_member, mode_json, op_json, page_op_json, record_json, selectors_member, set_agent_json, set_bundle_json}
-use Rattle.reg_lines.specs.RecordValues.{BatchesAreCompact, BatchesHaveNoFloat, RecordsAreCompact, RecordsHaveNoFloat, asked_data, batch_data, children_data, delete_data, drop_bundle_data, entry_op_data, keyed_op_data, match_data, op_data, page_op_data, record_data, set_agent_data, set_bundle_data}
+use Rattle.reg_lines.specs.RecordLines.{batch_json, children_json, delete_json, drop_bundle_json, entry_op_json, given_member, keyed_op_json, leading_member, match_json, match_member, op_json, page_op_json, record_json, selectors_member, set_agent_json, set_bundle_json}
+use Rattle.reg_lines.specs.RecordValues.{BatchesAreCompact, BatchesHaveNoFloat, RecordsAreCompact, RecordsHaveNoFloat, asked_data, batch_data, children_data, delete_data, drop_bundle_data, entry_op_data, keyed_op_data, match_data, op_data, page_op_data, set_agent_data, set_bundle_data}
 use Rattle.reg_lines.specs.Replies.{given_lifetime, lifetime_member, reply_json, selector_json, uuid_json, uuid_text}
-use Rattle.reg_lines.specs.Values.{if_due, list_data, option_data, reply_data, selector_data, uuid_data, whole}
+use Rattle.reg_lines.specs.Values.{if_due, list_data, option_data, selector_data, uuid_data, whole}
 use Rattle.reg_lines.proofs.Compact.{left-right, right, list_json-is, list-no_float, option_json-is, option-no_float, reply_json-is, reply-no_float, selectors-are, selectors-no_float, text_json-is, texts-are, texts-no_float}
 
 -- ---- entries: by the lifetimes and the revision that are given

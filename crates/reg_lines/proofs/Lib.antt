@@ -23,3 +23,6 @@ pub mod Compact
 pub mod CompactEvents
 pub mod Others
 pub mod CompactRecords
+pub mod ReadBack
+pub mod ReadBackOps
+pub mod ReadBackRecords

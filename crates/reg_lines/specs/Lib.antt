@@ -21,3 +21,4 @@ pub mod EventValues
 pub mod RecordLines
 pub mod RecordValues
 pub mod CallRecords
+pub mod ReadBack

@@ -1,15 +1,13 @@
 -- The JSON values that the lines of records are, and the law that they are printed as those values' compact text.
-use Rattle.std.specs.Prelude.{◌≡◌, ℕ, false, List, Option, None, Some, option_map, codes}
+use Rattle.std.specs.Prelude.{◌≡◌, ℕ, false, List, Option, None, codes}
 use Rattle.serde_json.specs.Data.{Data, object, string, put, no_members}
 use Rattle.serde_json.specs.Written.{compact_text, has_float}
-use Rattle.spiffe_name.specs.Selector.{SelectorPair}
 use Rattle.entry_book.specs.Batches.{Batch}
 use Rattle.entry_book.specs.declared.agent.Agent.{Agent}
 use Rattle.entry_book.specs.declared.entry.NewEntry.{NewEntry}
 use Rattle.entry_book.specs.declared.mode.DropMode.{DropMode}
 use Rattle.entry_book.specs.declared.op.Op.{Op}
 use Rattle.entry_book.specs.declared.op.Op.TheVariants as op
-use Rattle.entry_book.specs.declared.page.MatchMode.{MatchMode}
 use Rattle.entry_book.specs.declared.page.PageQuery.{PageQuery}
 use Rattle.entry_book.specs.declared.page.SelectorMatch.{SelectorMatch}
 use Rattle.entry_book.specs.declared.reply.Reply.{Reply}

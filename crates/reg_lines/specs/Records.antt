@@ -1,7 +1,7 @@
 -- What a record's line spells: a call of a schedule, or the first fault found. The order of the lines of each reader is the order of the format.
-use Rattle.std.specs.Prelude.{◌≡◌, ℕ, List, [], ◌∷◌, replicate, Option, Some, None, Result, Ok, Bool, true, false, codes, bytes_eq, option_and_then, unwrap_or}
-use Rattle.serde_json.specs.Data.{Data, Items, Members}
-use Rattle.serde_json.specs.Find.{get, as_object, as_str}
+use Rattle.std.specs.Prelude.{ℕ, List, [], ◌∷◌, replicate, Option, Result, Ok}
+use Rattle.serde_json.specs.Data.{Data, Members}
+use Rattle.serde_json.specs.Find.{get, as_object}
 use Rattle.rand_chacha.specs.ChaCha.{ChaCha}
 use Rattle.entry_book.specs.Batches.{Batch}
 use Rattle.reg_lines.specs.declared.fault.Fault.{Fault}

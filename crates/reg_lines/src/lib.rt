@@ -48,5 +48,6 @@ pub use printing::{
     printed_records_law,
 };
 pub use reading::{
-    Ids, Record, Request, Tries, ids_law, read_event, read_record, read_request, unknown_keys_law,
+    Ids, Record, Request, Tries, ids_law, read_back_law, read_event, read_record, read_request,
+    unknown_keys_law,
 };

@@ -17,6 +17,6 @@ pub(crate) mod tries;
 pub use event::read_event;
 pub use fields::unknown_keys_law;
 pub use ids::{Ids, ids_law};
-pub use record::{Record, read_record};
+pub use record::{Record, read_back_law, read_record};
 pub use request::{Request, read_request};
 pub use tries::Tries;

@@ -1,5 +1,5 @@
 -- What a shelf with a row, and a shelf without a key, are.
-use Rattle.std.proofs.Common.{◌≡◌, ℕ, ◌+◌, ◌<◌, ◌≤◌, Bool, true, false, cond, List, [], ◌∷◌, length, Option, Some, None, refl, ap, ◌∙◌, arith}
+use Rattle.std.proofs.Common.{◌≡◌, ℕ, ◌+◌, ◌<◌, ◌≤◌, Bool, true, false, cond, List, [], ◌∷◌, length, Option, Some, None, is_some, refl, ap, ◌∙◌, arith}
 use Rattle.std.specs.declared.cmp.Ordering.{Ordering}
 use Rattle.std.specs.declared.cmp.Ordering.TheVariants.{Less, Equal, Greater}
 use Rattle.std.specs.Ordering.{is_eq, is_ne, ordering_reverse}
@@ -10,6 +10,9 @@ use Rattle.std.proofs.lemmas.Map.Keys.{sorted_head, sorted_tail}
 use Rattle.std.proofs.lemmas.Map.Entries.{lookup-filter-keys}
 use Rattle.version_shelf.specs.Shelf.{IsInOrder, get, rows_below, rows_above, with_key, without_key, count_of, ChangesAt}
 use Rattle.version_shelf.proofs.Above.{by_order, all_append, all_filter, in_order_filter, in_order_more, equal_from, less_from_greater, below_is_apart, rows_apart, below_of_above, above_of_above, others_of_above, get_of_above, all_above_equal, all_above_greater}
+
+pub one_at_most : {K V : Type 0} (cmp : K → K → Ordering) (rows : List (K × V)) (key : K) → count_of cmp rows key ≤ 1
+one_at_most cmp rows key = elim (is_some (get cmp rows key)) as (λ b. cond b 1 0 ≤ 1) [ true ↦ omega arith | false ↦ omega arith ]
 
 -- ---- the changed lists, at their first row
 
@@ -87,6 +90,17 @@ module _ {K V : Type 0} {cmp : K → K → Ordering} (o : IsTotalOrder cmp) (key
       (λ greater.
       let above = all_above_greater o key r rs sorted greater in
       rw (greater, below_of_above o key rs above, above_of_above o key rs above, others_of_above o key rs above) refl)
+
+  absent_apart : (rows : List (K × V)) → get cmp rows key ≡ None → rows_apart cmp rows key ≡ rows
+  absent_apart [] none = refl
+  absent_apart (r ∷ rs) none = by_order (cmp r.0 key)
+      (λ less. rw less (ap (λ l. r ∷ l) (absent_apart rs (rw less at none))))
+      (λ same. let found = rw same at none in cc)
+      (λ greater. rw greater (ap (λ l. r ∷ l) (absent_apart rs (rw greater at none))))
+
+  -- without a key that isn't there, the rows are the same
+  pub without_absent : (rows : List (K × V)) → IsInOrder cmp rows → get cmp rows key ≡ None → without_key cmp rows key ≡ rows
+  without_absent rows sorted none = without_is rows sorted ∙ absent_apart rows none
 
   length_apart : (rows : List (K × V)) → IsInOrder cmp rows → length (rows_apart cmp rows key) + count_of cmp rows key ≡ length rows
   length_apart [] sorted = refl

@@ -6,7 +6,7 @@ use Rattle.std.specs.Cmp.{IsTotalOrder}
 use Rattle.std.specs.Map.{keys_of}
 use Rattle.std.proofs.lemmas.Map.Keys.{sorted_tail}
 use Rattle.version_shelf.specs.Shelf.{IsInOrder, get, rows_above}
-use Rattle.version_shelf.specs.Vector.{rows_from}
+use Rattle.version_shelf.specs.Pages.{rows_from}
 use Rattle.version_shelf.proofs.Above.{by_order, greater_from_less, AllAbove, above_of_above, get_of_above, all_above_equal, all_above_greater}
 
 empty_from : {X : Type 0} (xs : List X) → length xs ≡ 0 → xs ≡ []
@@ -14,7 +14,7 @@ empty_from [] none = refl
 empty_from (x ∷ xs) none = absurd (omega arith)
 
 module _ {K V : Type 0} {cmp : K → K → Ordering} (o : IsTotalOrder cmp) (key : K) where
-  from_of_above : (rows : List (K × V)) → AllAbove cmp key rows → rows_from cmp rows key ≡ rows
+  pub from_of_above : (rows : List (K × V)) → AllAbove cmp key rows → rows_from cmp rows key ≡ rows
   from_of_above [] all = refl
   from_of_above (r ∷ rs) all = rw (greater_from_less o key r.0 all.0) (ap (λ l. r ∷ l) (from_of_above rs all.1))
 

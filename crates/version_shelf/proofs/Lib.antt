@@ -1,4 +1,11 @@
 pub mod Above
+mod Around
 mod Changed
+mod Cutting
+mod Ends
 mod First
+mod Flat
+mod Paths
+mod Shelves
 mod Split
+mod Walks

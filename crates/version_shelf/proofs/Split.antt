@@ -1,5 +1,5 @@
 -- Where a search among rows in order ends, and what stands on its two sides.
-use Rattle.std.proofs.Common.{◌≡◌, ℕ, ◌<◌, suc, zero, Bool, true, false, cond, not, ◌&&◌, List, [], ◌∷◌, length, get_or, take, drop, filter, refl, sym, ap, ◌∙◌, inl, inr, arith}
+use Rattle.std.proofs.Common.{◌≡◌, ℕ, ◌+◌, ◌-◌, ◌<◌, ◌≤◌, suc, zero, Bool, true, false, cond, not, ◌&&◌, List, [], ◌∷◌, length, get_or, take, drop, filter, refl, sym, ap, ◌∙◌, inl, inr, arith}
 use Rattle.std.specs.declared.cmp.Ordering.{Ordering}
 use Rattle.std.specs.declared.cmp.Ordering.TheVariants.{Less, Equal, Greater}
 use Rattle.std.specs.Ordering.{is_lt, is_ge}
@@ -8,11 +8,13 @@ use Rattle.std.specs.List.{AllWithin}
 use Rattle.std.specs.List.Sorted.{IsPartitionedBy, IsPartitionPoint}
 use Rattle.std.specs.Map.{keys_of}
 use Rattle.std.proofs.lemmas.Bool.{cases_lt}
+use Rattle.std.proofs.lemmas.List.Filters.{length-filter_both}
 use Rattle.std.proofs.lemmas.List.{get_or-map}
 use Rattle.std.proofs.lemmas.Map.Entries.{length-keys_of}
 use Rattle.std.proofs.lemmas.Map.Keys.{Less-from_sorted}
 use Rattle.version_shelf.specs.Shelf.{IsInOrder, rows_below, rows_between}
-use Rattle.version_shelf.specs.Vector.{rows_from}
+use Rattle.version_shelf.specs.Pages.{IsPlace, ends, rows_from}
+use Rattle.version_shelf.proofs.Ends.{ends_take, starts_drop}
 
 -- ---- a list whose first i elements pass, and no other
 
@@ -47,6 +49,13 @@ ge_from Less = refl
 ge_from Equal = refl
 ge_from Greater = refl
 
+apart : true ≡ false → ⊥
+apart same = cc
+
+not_true : (b : Bool) → (b ≡ true → ⊥) → b ≡ false
+not_true true not = absurd (not refl)
+not_true false not = refl
+
 module _ {K V : Type 0} {cmp : K → K → Ordering} (o : IsTotalOrder cmp) (rows : List (K × V)) (sorted : IsInOrder cmp rows) (key : K) where
   -- the keys rise along the rows
   rises : (i j : ℕ) (d : K × V) → i < j → j < length rows → cmp (get_or rows i d).0 (get_or rows j d).0 ≡ Less
@@ -60,6 +69,21 @@ module _ {K V : Type 0} {cmp : K → K → Ordering} (o : IsTotalOrder cmp) (row
     | inl before ↦ ap is_lt (o.trans _ _ _ (rises i j d before inside) (less_from _ below))
     | inr after ↦ let same : i ≡ j = omega arith in rw same below
   ]
+
+  -- a place is where those rows end
+  pub point_is : (i : ℕ) → IsPlace (λ row. is_lt (cmp row.0 key)) rows i → IsPartitionPoint (λ row. is_lt (cmp row.0 key) ≡ true) (λ row. is_lt (cmp row.0 key) ≡ false) rows i
+  point_is i place = (
+    λ k d low high.
+        let last : i - 1 < length rows = omega (arith, place.inside) in
+        let all : i - 1 + 1 ≡ i = omega arith in
+        let passes = λ (row : K × V). is_lt (cmp row.0 key) in
+        is_partitioned k (i - 1) d (omega arith) last (sym (ends_take passes rows (i - 1) d last) ∙ ap (λ n. ends passes (take n rows)) all ∙ place.before (omega arith)),
+    λ k d low high. not_true _ (λ below.
+        let passes = λ (row : K × V). is_lt (cmp row.0 key) in
+        let here : i < length rows = omega arith in
+        let first : passes (get_or rows i d) ≡ true = is_partitioned i k d low high below in
+        apart (sym first ∙ sym (starts_drop passes rows i d here) ∙ place.behind)),
+  )
 
   -- so the rows before such a row are those below the key, and the others those from it on
   pub front_is : (i : ℕ) → IsPartitionPoint (λ row. is_lt (cmp row.0 key) ≡ true) (λ row. is_lt (cmp row.0 key) ≡ false) rows i → take i rows ≡ rows_below cmp rows key
@@ -75,3 +99,6 @@ between_is cmp lo hi (r ∷ rs) = elim (is_ge (cmp r.0 lo)) as (λ b. rows_below
   | true ↦ rw (between_is cmp lo hi rs) refl
   | false ↦ between_is cmp lo hi rs
 ]
+
+pub length_filter : {X : Type 0} (p : X → Bool) (xs : List X) → length (filter p xs) ≤ length xs
+length_filter p xs = omega (arith, length-filter_both p (λ x. not (p x)) (λ x. refl) xs)

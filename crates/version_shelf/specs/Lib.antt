@@ -1,2 +1,2 @@
+pub mod Pages
 pub mod Shelf
-pub mod Vector

@@ -3,36 +3,62 @@
 //! A [`Shelf`] maps keys to values, in the order of its keys. It is never changed: [`Shelf::with`] and
 //! [`Shelf::without`] answer a new shelf, and every older one reads as before. A contract sees a shelf as the list of
 //! its rows, each a key with its value, in strictly ascending order of keys; the words that the contracts use stand in
-//! `specs/Shelf.antt`. [`Range`]: the the rows between two bounds, one after another.
+//! `specs/Shelf.antt`. [`Range`]: the rows between two bounds, one after another. [`Count`]: what a call cost.
 //!
-//! What a call costs at most at a shelf of n rows, where log2 n is rounded up:
+//! A shelf has three fixed levels: its rows stand in leaves, the leaves in middles, and the middles in the shelf's root. A
+//! page has at most 128 parts, and at least 64 where it has a neighbour on its level; the root has at most 128 middles.
+//! A change makes the leaf, the middle and the root anew in which its key belongs. A page of 129 parts is cut into two
+//! halves; one of 63 is put together with a neighbour, and what comes out is cut into two halves where it is more than
+//! 128. So what the pages have to have, `IsShelf` of `specs/Pages.antt`, holds after any changes: keys that rise, fall or
+//! come in no order, and shelves that are filled and emptied again.
+//!
+//! What a call costs at most:
 //!
 //! | Call | Comparisons of keys | Copies of keys and values | Memory |
 //! |---|---|---|---|
 //! | `new`, `len`, `has_room` | none | none | none |
-//! | `get` | log2 n + 2 | none | none |
-//! | `range` | 2 log2 n + 2; none for a row that comes | none | none |
-//! | `clone` | none | none | none, but that one more owner is counted |
-//! | `with` | log2 n + 2 | none, but that one more owner of every row that stays is counted | for the row, and for a list of all rows |
-//! | `without` | log2 n + 2 | the same | for a list of all rows |
+//! | `get`, `find` | 25, and log2 n + 2 at up to 128 rows | none | none |
+//! | `range` | 48, and 2 log2 n + 2 at up to 128 rows; none for a row that comes | none | none |
+//! | `clone` | none | none | none, but that one more owner of the root is counted |
+//! | `with`, `with_counted` | as `get` | none | for the row, and for 1,024 rows and pages put into new pages; each that stays counts one more owner |
+//! | `without`, `without_counted` | as `get` | none | for 1,024 rows and pages put into new pages; none where no row has the key |
+//!
+//! The contracts of `find`, `with_counted` and `without_counted` say it by a [`Count`], with 32 comparisons; all
+//! comparisons of keys are made by `count::compared`, and rows and pages are put into new pages by `page::put`,
+//! `page::append` and the cut into halves, where each is counted.
 //!
 //! What sharing means: a row that a shelf has from an older one is the same key and value in memory, which are let go with
-//! the last shelf that has them. A clone of a shelf also has its list of rows; `with` and `without` make a list of their
-//! own.
+//! the last shelf that has them, and so is a page that stays. A shelf that is let go touches its root, and below it only
+//! pages that no other shelf has. A clone of a shelf also has its root.
 //!
 //! `AllocError` says that memory, or one more owner in a full count, was refused, and nothing else. The calls that need
 //! no memory have no such answer.
 //!
 //! - `shelf`: the face, what a shelf can be asked and how the next one is made.
-//! - `range`: the walk over the rows between two bounds.
-//! - `shared_row`: a key with its value, as several shelves hold it.
-//! - `vector`: the body, one sorted vector of rows; nothing outside this crate rests on it.
+//! - `range`: the walk over the rows between two bounds, as callers see it.
+//! - `count`: how the work of a call is counted.
+//! - `path`: where in a shelf a key belongs, and what a change makes of it.
+//! - `rebuilt`: pages, of which one has other parts than before.
+//! - `search`: where among parts in order a key belongs.
+//! - `walk`: a walk that steps from page to page.
+//! - `leaf`: the rows of one leaf.
+//! - `page`: parts that several shelves hold.
+//! - `shared_row`: a key with its value, as several pages hold it.
+//!
+//! Nothing outside this crate rests on the pages.
 #![tactic(auto)]
 
+mod count;
+mod leaf;
+mod page;
+mod path;
 mod range;
+mod rebuilt;
+mod search;
 mod shared_row;
 mod shelf;
-mod vector;
+mod walk;
 
+pub use count::Count;
 pub use range::Range;
 pub use shelf::Shelf;

@@ -1,31 +1,38 @@
 //! What does a walk over the rows between two bounds give?
 
-ghost use Rattle.std.specs.Prelude.{◌≡◌};
+ghost use Rattle.std.specs.Prelude.{◌≡◌, ◌++◌};
 ghost use Rattle.std.specs.Iterator.{YieldsFirstBy, item_count};
 
-use crate::shared_row::SharedRow;
+use crate::walk::{Walk, refill};
 use std::marker::Model;
 
 /// The rows of a shelf between two bounds, in ascending order of keys: an iterator that a contract sees as the list of
 /// the rows that are left. Each call of `next` gives the first of them, and no call takes memory.
 #[derive(Drop)]
 pub struct Range<'a, K: Ord + 'a, V: 'a> {
-    rest: &'a [SharedRow<K, V>],
+    walk: Walk<'a, K, V>,
 }
 
 impl<'a, K: Ord + 'a, V: 'a> Model for Range<'a, K, V> {
     ghost use Rattle.std.specs.Prelude.{List};
+    ghost use Rattle.version_shelf.specs.Pages.{AreWalkPages, walk_rows};
 
     ghost Value = { List (K × V) };
 
-    ghost view = { λ rows. rows.rest.now };
+    ghost view = { λ range. let walk = range.walk in walk_rows walk.rest.now walk.leaves.now walk.middles.now walk.last_leaves.now walk.last.now };
+
+    ghost invariant = { λ range. let walk = range.walk in AreWalkPages walk.leaves.now walk.middles.now walk.last_leaves.now };
 }
 
 impl<'a, K: Ord + 'a, V: 'a> Range<'a, K, V> {
-    pub(crate) fn of(rest: &'a [SharedRow<K, V>]) -> Range<'a, K, V>
-        ensures { result ≡ rest.now }
+    ghost use Rattle.std.specs.Prelude.{◌≡◌};
+    ghost use Rattle.version_shelf.specs.Pages.{AreWalkPages, walk_rows};
+
+    pub(crate) fn of(walk: Walk<'a, K, V>) -> Range<'a, K, V>
+        requires { AreWalkPages walk.leaves.now walk.middles.now walk.last_leaves.now }
+        ensures { result ≡ walk_rows walk.entry.rest.now walk.entry.leaves.now walk.entry.middles.now walk.entry.last_leaves.now walk.entry.last.now }
     {
-        Range { rest }
+        Range { walk }
     }
 }
 
@@ -37,8 +44,11 @@ impl<'a, K: Ord + 'a, V: 'a> Iterator for Range<'a, K, V> {
     ghost remaining = { item_count (λ rows. rows) };
 
     fn next(&mut self) -> Option<(&'a K, &'a V)> {
-        let (row, rest) = self.rest.split_first()?;
-        self.rest = rest;
+        if self.walk.rest.is_empty() {
+            refill(&mut self.walk);
+        }
+        let (row, rest) = self.walk.rest.split_first()?;
+        self.walk.rest = rest;
         Some((row.key(), row.value()))
     }
 }

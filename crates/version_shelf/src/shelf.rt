@@ -1,38 +1,42 @@
 //! What can a shelf be asked, and how is the next one made?
 
-ghost use Rattle.std.specs.Prelude.{◌≡◌, ◌↔◌, ◌+◌, ◌≤◌, [], length, IsTrue, IfOk, Some, None};
+ghost use Rattle.std.specs.Prelude.{◌≡◌, ◌↔◌, ◌+◌, ◌<◌, ◌≤◌, ◌^◌, [], length, IsTrue, IfOk, Some, None, if◌then◌else◌, is_some};
 ghost use Rattle.std.specs.Option.{option_copied};
 ghost use Rattle.version_shelf.specs.Shelf.{ClonesEqual, HasRoom, most_rows, IsInOrder, get, count_of, rows_between, with_key, without_key, ChangesAt};
+ghost use Rattle.version_shelf.specs.Pages.{ArePages, flatten};
 
+use crate::count::Count;
+use crate::leaf::{rows_with, rows_without};
+use crate::page::{Middle, Page};
+use crate::path::{middles_with, path_to};
 use crate::range::Range;
 use crate::shared_row::SharedRow;
-use crate::vector::{Parts, between, part, rows_with, rows_without};
+use crate::walk::walk_between;
 use std::alloc::{AllocError, Global};
 use std::marker::Model;
-use std::sync::Arc;
 
 const MOST_ROWS: usize = 262_144;
 
 /// One version of an ordered map of at most 262,144 rows, which is never changed. A reader has the same rows for as
-/// long as it keeps the shelf; a writer pays for the list of rows of the shelf that it makes.
+/// long as it keeps the shelf; a writer pays for the pages in which its row belongs, one on each of three levels, and shares
+/// all others with the shelf that it began with.
 #[derive(Drop)]
 pub struct Shelf<K: Ord, V> {
     alloc: Global,
+    len: usize,
     // The first shelf has none.
-    rows: Option<Arc<Vec<SharedRow<K, V>>>>,
+    middles: Option<Page<Middle<K, V>>>,
 }
 
 impl<K: Ord, V> Model for Shelf<K, V> {
-    ghost use Rattle.std.specs.Prelude.{◌≤◌, List, length};
-    ghost use Rattle.version_shelf.specs.Shelf.{IsInOrder, most_rows};
-    ghost use Rattle.version_shelf.specs.Vector.{rows_of};
+    ghost use Rattle.std.specs.Prelude.{List};
+    ghost use Rattle.version_shelf.specs.Pages.{IsShelf, flatten, middles_of};
 
     ghost Value = { List (K × V) };
 
-    ghost view = { λ shelf. rows_of shelf.rows };
+    ghost view = { λ shelf. flatten (flatten (middles_of shelf.middles)) };
 
-    ghost invariant = { λ shelf. let rows = rows_of shelf.rows in
-        IsInOrder K.cmp rows × (length rows ≤ most_rows) };
+    ghost invariant = { λ shelf. IsShelf K.cmp (middles_of shelf.middles) shelf.len };
 }
 
 impl<K: Ord + Clone, V: Clone> Shelf<K, V> {
@@ -40,7 +44,11 @@ impl<K: Ord + Clone, V: Clone> Shelf<K, V> {
     pub fn new(alloc: Global) -> Shelf<K, V>
         ensures { result ≡ [] }
     {
-        Shelf { alloc, rows: None }
+        Shelf {
+            alloc,
+            len: 0,
+            middles: None,
+        }
     }
 
     /// How many rows there are. Takes no memory.
@@ -49,7 +57,7 @@ impl<K: Ord + Clone, V: Clone> Shelf<K, V> {
         ensures most { length self.now ≤ most_rows }
         ensures order { IsInOrder K.cmp self.now }
     {
-        self.rows().len()
+        self.len
     }
 
     /// Are there fewer than 262,144 rows, so that `with` may be called? Takes no memory.
@@ -64,8 +72,18 @@ impl<K: Ord + Clone, V: Clone> Shelf<K, V> {
         ensures value { option_copied result ≡ get K.cmp self.now key.now }
         ensures order { IsInOrder K.cmp self.now }
     {
-        let Parts { value, .. } = part(self.rows(), key);
-        value
+        self.find(key, &mut Count::new())
+    }
+
+    /// The value at the key, as `get` answers it; none where no row has the key. The count rises by one for each
+    /// comparison of keys, so that it must have room for 32. Takes no memory.
+    pub fn find(&self, key: &K, count: &mut Count) -> Option<&V>
+        requires room { count.old + 32 < 2 ^ 64 }
+        ensures value { option_copied result ≡ get K.cmp self.now key.now }
+        ensures order { IsInOrder K.cmp self.now }
+        ensures counted { (count.old ≤ count.new) × (count.new ≤ count.old + 32) }
+    {
+        path_to(self.middles(), key, count).rows.value
     }
 
     /// The rows with `lo <= key < hi`, in ascending order of keys; none where `hi <= lo`. The bounds need not be keys of
@@ -73,8 +91,9 @@ impl<K: Ord + Clone, V: Clone> Shelf<K, V> {
     pub fn range(&self, lo: &K, hi: &K) -> Range<'_, K, V>
         ensures rows { result ≡ rows_between K.cmp self.now lo.now hi.now }
         ensures order { IsInOrder K.cmp result }
+        ensures most { length result ≤ most_rows }
     {
-        Range::of(between(self.rows(), lo, hi))
+        Range::of(walk_between(self.middles(), lo, hi, &mut Count::new()))
     }
 
     /// The shelf with this row, in the place of the row that has the key, if there is one. The caller sees to it that
@@ -89,11 +108,33 @@ impl<K: Ord + Clone, V: Clone> Shelf<K, V> {
         ensures count { IfOk result (λ new. length new + count_of K.cmp self.now key ≡ length self.now + 1) }
         ensures order { IfOk result (IsInOrder K.cmp) }
     {
-        let rows = rows_with(self.alloc, self.rows(), key, value)?;
-        Ok(Shelf {
-            alloc: self.alloc,
-            rows: Some(rows),
-        })
+        self.with_counted(key, value, &mut Count::new())
+    }
+
+    /// The shelf with this row, as `with` answers it and on the same conditions. The count rises by one for each row or
+    /// page that is put into a new page, so that it must have room for 1,024.
+    pub fn with_counted(
+        &self,
+        key: K,
+        value: V,
+        count: &mut Count,
+    ) -> Result<Shelf<K, V>, AllocError>
+        requires room { HasRoom self.now }
+        requires keys { ClonesEqual K.is_clone }
+        requires values { ClonesEqual V.is_clone }
+        requires count_room { count.old + 1024 < 2 ^ 64 }
+        ensures rows { IfOk result (λ new. new ≡ with_key K.cmp self.now key value) }
+        ensures map { IfOk result (λ new. ChangesAt K.cmp self.now new key (Some value)) }
+        ensures count { IfOk result (λ new. length new + count_of K.cmp self.now key ≡ length self.now + 1) }
+        ensures order { IfOk result (IsInOrder K.cmp) }
+        ensures counted { (count.old ≤ count.new) × (count.new ≤ count.old + 1024) }
+    {
+        let path = path_to(self.middles(), &key, &mut Count::new());
+        let len = len_with(self.len, path.rows.value);
+        let row = SharedRow::new(self.alloc, key, value)?;
+        let rows = rows_with(self.alloc, path.rows.below, row, path.rows.above, count)?;
+        let middles = middles_with(self.alloc, &path, rows, count)?;
+        Shelf::of(self.alloc, middles, len)
     }
 
     /// The shelf without the row that has the key, if there is one. The caller sees to it that clones of keys and of
@@ -106,22 +147,68 @@ impl<K: Ord + Clone, V: Clone> Shelf<K, V> {
         ensures count { IfOk result (λ new. length new + count_of K.cmp self.now key.now ≡ length self.now) }
         ensures order { IfOk result (IsInOrder K.cmp) }
     {
-        let rows = rows_without(self.alloc, self.rows(), key)?;
+        self.without_counted(key, &mut Count::new())
+    }
+
+    /// The shelf without the row that has the key, as `without` answers it and on the same conditions. The count rises by
+    /// one for each row or page that is put into a new page, so that it must have room for 1,024.
+    pub fn without_counted(&self, key: &K, count: &mut Count) -> Result<Shelf<K, V>, AllocError>
+        requires keys { ClonesEqual K.is_clone }
+        requires values { ClonesEqual V.is_clone }
+        requires count_room { count.old + 1024 < 2 ^ 64 }
+        ensures rows { IfOk result (λ new. new ≡ without_key K.cmp self.now key.now) }
+        ensures map { IfOk result (λ new. ChangesAt K.cmp self.now new key.now None) }
+        ensures count { IfOk result (λ new. length new + count_of K.cmp self.now key.now ≡ length self.now) }
+        ensures order { IfOk result (IsInOrder K.cmp) }
+        ensures counted { (count.old ≤ count.new) × (count.new ≤ count.old + 1024) }
+    {
+        let path = path_to(self.middles(), key, &mut Count::new());
+        if path.rows.value.is_none() {
+            return self.clone();
+        }
+        let rows = rows_without(self.alloc, path.rows.below, path.rows.above, count)?;
+        let middles = middles_with(self.alloc, &path, rows, count)?;
+        Shelf::of(self.alloc, middles, self.len - 1)
+    }
+
+    fn of(alloc: Global, middles: Vec<Middle<K, V>>, len: usize) -> Result<Shelf<K, V>, AllocError>
+        requires order { IsInOrder K.cmp (flatten (flatten middles.items)) }
+        requires rows { len ≡ length (flatten (flatten middles.items)) }
+        requires most { len ≤ most_rows }
+        requires leaves { ArePages (flatten middles.items) }
+        requires middles { ArePages middles.items }
+        ensures { IfOk result (λ new. new ≡ flatten (flatten middles.items)) }
+    {
         Ok(Shelf {
-            alloc: self.alloc,
-            rows: Some(rows),
+            alloc,
+            len,
+            middles: Some(Page::of(alloc, middles)?),
         })
     }
 
-    fn rows(&self) -> &[SharedRow<K, V>]
-        ensures rows { result.now ≡ self.now }
+    fn middles(&self) -> &[Middle<K, V>]
+        ensures rows { flatten (flatten result.now) ≡ self.now }
         ensures order { IsInOrder K.cmp self.now }
         ensures most { length self.now ≤ most_rows }
+        ensures middles { ArePages result.now }
+        ensures leaves { ArePages (flatten result.now) }
+        ensures size { length result.now ≤ 128 }
     {
-        match &self.rows {
-            Some(rows) => rows,
+        match &self.middles {
+            Some(middles) => middles.parts(),
             None => &[],
         }
+    }
+}
+
+/// How many rows there are with one more, which takes the place of the row that had its key, if there was one.
+fn len_with<V>(len: usize, found: Option<&V>) -> usize
+    requires { len < most_rows }
+    ensures { result + (if is_some found.entry then 1 else 0) ≡ len + 1 }
+{
+    match found {
+        Some(_) => len,
+        None => len + 1,
     }
 }
 
@@ -130,13 +217,14 @@ impl<K: Ord + Clone, V: Clone> Clone for Shelf<K, V> {
     ghost is_clone = { λ original copy. copy ≡ original };
 
     fn clone(&self) -> Result<Shelf<K, V>, AllocError> {
-        let rows = match &self.rows {
-            Some(rows) => Some(rows.clone()?),
+        let middles = match &self.middles {
+            Some(middles) => Some(middles.clone()?),
             None => None,
         };
         Ok(Shelf {
             alloc: self.alloc,
-            rows,
+            len: self.len,
+            middles,
         })
     }
 }

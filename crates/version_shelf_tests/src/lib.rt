@@ -6,13 +6,19 @@
 //! - `random_changes`: one shelf against a plain list, through random changes.
 //! - `equal_keys`: keys that differ and that the order calls equal.
 //! - `comparisons`: how many comparisons and copies of keys each call makes.
+//! - `filled_shelves`: shelves of many pages, filled and emptied in several orders.
 //! - `keys`: keys and values for these tests.
+//! - `counted_keys`: keys whose comparisons and copies are counted.
 #![tactic(auto)]
 
 #[cfg(test)]
 mod comparisons;
 #[cfg(test)]
+mod counted_keys;
+#[cfg(test)]
 mod equal_keys;
+#[cfg(test)]
+mod filled_shelves;
 #[cfg(test)]
 mod keys;
 #[cfg(test)]

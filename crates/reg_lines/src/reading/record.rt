@@ -3,6 +3,7 @@
 ghost use Rattle.std.specs.Prelude.{◌≡◌, Ok, IfOk, MatchResult};
 ghost use Rattle.serde_json.specs.View.{members_view, view};
 ghost use Rattle.reg_lines.specs.Fields.{Fails, Gives};
+ghost use Rattle.reg_lines.specs.ReadBack.{BatchesReadBack, OpsReadBack, RecordsReadBack};
 ghost use Rattle.reg_lines.specs.RecordViews.{recorded};
 ghost use Rattle.reg_lines.specs.Records.{number_or_null_at, object_at, record_in, recorded_batch_in, spelled_record};
 
@@ -157,3 +158,11 @@ pub fn read_record(
         }),
     }
 }
+
+/// What is printed of an operation, of a batch and of a record reads as that, told of their JSON values. This function has no
+/// code: it is a fact to cite.
+pub fn read_back_law()
+    ensures ops { OpsReadBack }
+    ensures batches { BatchesReadBack }
+    ensures records { RecordsReadBack }
+{}

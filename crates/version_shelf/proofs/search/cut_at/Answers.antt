@@ -1,0 +1,18 @@
+use Rattle.std.proofs.Common.{◌∙◌, ap}
+use Rattle.std.proofs.Common.{◌≡◌, ◌++◌, ◌∷◌}
+use Rattle.version_shelf.proofs.Cutting.{cuts_of, cuts_at}
+use Rattle.version_shelf.proofs.search.cut_at.Goals as goal
+
+-- the pages before the place, the one at it, and the rest
+parts : (g : _) (c : goal.After-parts g) → c.args.pages.now ≡ c.split_at.result.0.now ++ c.in-Some.page.now ∷ c.in-Some.above.now
+parts g c = c.split_at.ensures.by_index.0 ∙ ap (λ l. c.split_at.result.0.now ++ l) c.in-Some.ensures.cases.0
+
+pub returns-in-Some-clause-cuts : goal.returns-in-Some-clause-cuts
+returns-in-Some-clause-cuts g c =
+    let all = parts g c in
+    let pages = rw all at c.requires.pages in
+    let size = rw all at c.requires.size in
+    rw (c.parts.ensures, all) (cuts_of c.split_at.result.0.now c.in-Some.page.now c.in-Some.above.now pages size)
+
+pub returns-in-Some-clause-key : goal.returns-in-Some-clause-key
+returns-in-Some-clause-key g c = rw c.parts.ensures (cuts_at _ c.args.pages.now c.all_but_last.result.now c.split_at.result.0.now c.place.result c.in-Some.page.now c.in-Some.above.now c.all_but_last.ensures c.place.ensures.place c.split_at.ensures.front c.split_at.ensures.front_len (parts g c))

@@ -1,0 +1,17 @@
+use Rattle.std.proofs.Common.{◌-◌, ◌≡◌, ◌+◌, ◌<◌, ◌≤◌, true, false, length, take, drop}
+use Rattle.version_shelf.specs.Pages.{ends, starts}
+use Rattle.version_shelf.proofs.Ends.{Finds}
+use Rattle.version_shelf.proofs.search.place.Given as goal
+
+-- the place is from here until there, and so many comparisons find it
+abbrev pub invariant-loop-from : goal.invariant-loop-from
+invariant-loop-from g l = record {
+  inside : (l.from ≤ l.until) × (l.until ≤ length l.parts);
+  before : 0 < l.from → ends (g.T.Sought.below l.key) (take l.from l.parts) ≡ true;
+  behind : starts (g.T.Sought.below l.key) (drop l.until l.parts) ≡ false;
+  counted : l.initial.count ≤ l.count;
+  finds : Finds (l.until - l.from) l.count (l.initial.count + 8);
+}
+
+abbrev pub decreases-loop-from : goal.decreases-loop-from
+decreases-loop-from g l = l.until - l.from

@@ -1,0 +1,97 @@
+-- How the rows of a shelf stand in pages.
+use Rattle.std.specs.Prelude.{◌≡◌, ◌⊎◌, ℕ, ◌+◌, ◌/◌, ◌<◌, ◌≤◌, Bool, true, false, if◌then◌else◌, nat_lt, List, [], ◌∷◌, ◌++◌, length, filter, take, drop, Option, Some, None}
+use Rattle.std.specs.declared.cmp.Ordering.{Ordering}
+use Rattle.std.specs.List.{AllByRecursion}
+use Rattle.std.specs.Ordering.{is_ge}
+use Rattle.version_shelf.specs.Shelf.{IsInOrder, most_rows}
+
+-- what the pages hold, one page after another
+abbrev pub flatten : {X : Type 0} → List (List X) → List X
+flatten [] = []
+flatten (page ∷ pages) = page ++ flatten pages
+
+-- a page that has neighbours has 64 to 128 parts
+abbrev pub IsFull : {X : Type 0} → List X → Type 0
+IsFull page = (64 ≤ length page) × (length page ≤ 128)
+
+abbrev pub AreFull : {X : Type 0} → List (List X) → Type 0
+AreFull pages = AllByRecursion IsFull pages
+
+-- a page that stands alone has at most 128 parts
+abbrev pub ArePages : {X : Type 0} → List (List X) → Type 0
+ArePages [] = Unit {0}
+ArePages (page ∷ []) = length page ≤ 128
+ArePages (page ∷ other ∷ pages) = AreFull (page ∷ other ∷ pages)
+
+-- these parts as one page, or as two halves where they are too many for one
+abbrev pub in_pages : {X : Type 0} → List X → List (List X)
+in_pages parts = if nat_lt 128 (length parts) then take (length parts / 2) parts ∷ drop (length parts / 2) parts ∷ [] else parts ∷ []
+
+-- the middles of a shelf, which has none before its first row
+abbrev pub middles_of : {X : Type 0} → Option (List X) → List X
+middles_of None = []
+middles_of (Some middles) = middles
+
+-- a shelf's rows stand in leaves, and these in middles
+pub record IsShelf {K V : Type 0} (cmp : K → K → Ordering) (middles : List (List (List (K × V)))) (count : ℕ) : Type 0 where
+  pub order : IsInOrder cmp (flatten (flatten middles))
+  pub counted : count ≡ length (flatten (flatten middles))
+  pub room : length (flatten (flatten middles)) ≤ most_rows
+  pub are_leaves : ArePages (flatten middles)
+  pub are_middles : ArePages middles
+  pub size : length middles ≤ 128
+
+-- ---- search
+
+-- the last of the parts passes; no part, no
+abbrev pub ends : {X : Type 0} → (X → Bool) → List X → Bool
+ends passes [] = false
+ends passes (x ∷ []) = passes x
+ends passes (x ∷ y ∷ xs) = ends passes (y ∷ xs)
+
+-- the first of the parts passes; no part, no
+abbrev pub starts : {X : Type 0} → (X → Bool) → List X → Bool
+starts passes [] = false
+starts passes (x ∷ xs) = passes x
+
+-- the part before the place passes, and the one after it doesn't
+pub record IsPlace {X : Type 0} (passes : X → Bool) (parts : List X) (place : ℕ) : Type 0 where
+  pub inside : place ≤ length parts
+  pub before : 0 < place → ends passes (take place parts) ≡ true
+  pub behind : starts passes (drop place parts) ≡ false
+
+-- pages are those below, the page of some parts, and those above
+pub record Cuts {X : Type 0} (pages below : List (List X)) (parts : List X) (above : List (List X)) : Type 0 where
+  pub whole : (pages ≡ below ++ parts ∷ above) ⊎ ((pages ≡ []) × (below ≡ []))
+  pub joined : flatten pages ≡ flatten below ++ (parts ++ flatten above)
+  pub are_below : AreFull below
+  pub are_above : AreFull above
+  pub most : length parts ≤ 128
+  pub fewest : 0 < length below + length above → 64 ≤ length parts
+  pub fits : length below + length above < 128
+  pub all : length pages ≤ length below + length above + 1
+
+-- they are cut where the parts pass no longer
+pub record CutsAt {X : Type 0} (passes : X → Bool) (below : List (List X)) (parts : List X) (above : List (List X)) : Type 0 where
+  pub before : 0 < length below → ends (ends passes) below ≡ true
+  pub behind : 0 < length above → ends passes parts ≡ false
+
+-- the way down to a leaf: middles, cut at one, whose leaves are cut at one
+pub record Leads {X : Type 0} (middles middles_below : List (List (List X))) (leaves : List (List X)) (middles_above : List (List (List X))) (below : List (List X)) (rows : List X) (above : List (List X)) : Type 0 where
+  pub cut_middles : Cuts middles middles_below leaves middles_above
+  pub cut_leaves : Cuts leaves below rows above
+  pub are_leaves : ArePages (flatten middles)
+
+-- the rows whose keys are the key or above it
+abbrev pub rows_from : {K V : Type 0} → (K → K → Ordering) → List (K × V) → K → List (K × V)
+rows_from cmp rows key = filter (λ row. is_ge (cmp row.0 key)) rows
+
+-- ---- walks
+
+-- the rows that are left of a walk
+abbrev pub walk_rows : {X : Type 0} → List X → List (List X) → List (List (List X)) → List (List X) → List X → List X
+walk_rows rest leaves middles last_leaves last = rest ++ (flatten leaves ++ (flatten (flatten middles) ++ (flatten last_leaves ++ last)))
+
+-- each page that is to come has a part
+abbrev pub AreWalkPages : {X : Type 0} → List (List X) → List (List (List X)) → List (List X) → Type 0
+AreWalkPages leaves middles last_leaves = AreFull leaves × AreFull middles × AreFull (flatten middles) × AreFull last_leaves

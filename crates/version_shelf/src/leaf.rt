@@ -1,0 +1,120 @@
+//! How are the rows of one leaf found and changed?
+
+ghost use Rattle.std.specs.Prelude.{◌≡◌, ◌++◌, ◌∷◌, ◌+◌, ◌<◌, ◌≤◌, ◌^◌, IfOk, length};
+ghost use Rattle.std.specs.Option.{option_copied};
+ghost use Rattle.version_shelf.specs.Shelf.{IsInOrder, get, rows_below, rows_above, rows_between};
+ghost use Rattle.version_shelf.specs.Pages.{rows_from};
+
+use crate::count::{Count, compared};
+use crate::page::{append, put};
+use crate::search::place;
+use crate::shared_row::SharedRow;
+use std::alloc::{AllocError, Global};
+
+/// The rows below a key, the value at the key, and the rows above it.
+#[derive(Drop)]
+pub(crate) struct Parts<'a, K, V> {
+    pub(crate) below: &'a [SharedRow<K, V>],
+    pub(crate) value: Option<&'a V>,
+    pub(crate) above: &'a [SharedRow<K, V>],
+}
+
+/// The rows below a key, and the others.
+pub(crate) fn split<'a, K: Ord, V>(
+    rows: &'a [SharedRow<K, V>],
+    key: &K,
+    count: &mut Count,
+) -> (&'a [SharedRow<K, V>], &'a [SharedRow<K, V>])
+    requires order { IsInOrder K.cmp rows.now }
+    requires size { length rows.now ≤ 128 }
+    requires room { count.old + 8 < 2 ^ 64 }
+    ensures below { result.0.now ≡ rows_below K.cmp rows.now key.now }
+    ensures others { result.1.now ≡ rows_from K.cmp rows.now key.now }
+    ensures counted { (count.old ≤ count.new) × (count.new ≤ count.old + 8) }
+{
+    rows.split_at(place(rows, key, count))
+}
+
+/// Cuts the rows at a key.
+pub(crate) fn part<'a, K: Ord, V>(
+    rows: &'a [SharedRow<K, V>],
+    key: &K,
+    count: &mut Count,
+) -> Parts<'a, K, V>
+    requires order { IsInOrder K.cmp rows.now }
+    requires size { length rows.now ≤ 128 }
+    requires room { count.old + 9 < 2 ^ 64 }
+    ensures below { result.below.now ≡ rows_below K.cmp rows.now key.now }
+    ensures value { option_copied result.value ≡ get K.cmp rows.now key.now }
+    ensures above { result.above.now ≡ rows_above K.cmp rows.now key.now }
+    ensures counted { (count.old ≤ count.new) × (count.new ≤ count.old + 9) }
+{
+    let (below, others) = split(rows, key, count);
+    match others.split_first() {
+        Some((row, above)) if compared(row.key(), key, count).is_eq() => Parts {
+            below,
+            value: Some(row.value()),
+            above,
+        },
+        _ => Parts {
+            below,
+            value: None,
+            above: others,
+        },
+    }
+}
+
+/// The rows with `lo <= key < hi`.
+pub(crate) fn between<'a, K: Ord, V>(
+    rows: &'a [SharedRow<K, V>],
+    lo: &K,
+    hi: &K,
+    count: &mut Count,
+) -> &'a [SharedRow<K, V>]
+    requires order { IsInOrder K.cmp rows.now }
+    requires size { length rows.now ≤ 128 }
+    requires room { count.old + 16 < 2 ^ 64 }
+    ensures rows { result.now ≡ rows_between K.cmp rows.now lo.now hi.now }
+    ensures counted { (count.old ≤ count.new) × (count.new ≤ count.old + 16) }
+{
+    let (_, from) = split(rows, lo, count);
+    split(from, hi, count).0
+}
+
+/// The rows below a row, the row, and the rows above it.
+pub(crate) fn rows_with<K: Drop, V: Drop>(
+    alloc: Global,
+    below: &[SharedRow<K, V>],
+    row: SharedRow<K, V>,
+    above: &[SharedRow<K, V>],
+    count: &mut Count,
+) -> Result<Vec<SharedRow<K, V>>, AllocError>
+    requires size { length below.now + length above.now ≤ 128 }
+    requires room { count.old + 129 < 2 ^ 64 }
+    ensures rows { IfOk result (λ all. all.items ≡ below.now ++ row ∷ above.now) }
+    ensures counted { (count.old ≤ count.new) × (count.new ≤ count.old + 129) }
+{
+    let mut all = Vec::with_capacity(alloc, below.len() + 1 + above.len())?;
+    append(&mut all, below, count)?;
+    put(&mut all, row, count)?;
+    append(&mut all, above, count)?;
+    Ok(all)
+}
+
+/// The rows below a key, and those above it.
+pub(crate) fn rows_without<K: Drop, V: Drop>(
+    alloc: Global,
+    below: &[SharedRow<K, V>],
+    above: &[SharedRow<K, V>],
+    count: &mut Count,
+) -> Result<Vec<SharedRow<K, V>>, AllocError>
+    requires size { length below.now + length above.now ≤ 128 }
+    requires room { count.old + 129 < 2 ^ 64 }
+    ensures rows { IfOk result (λ all. all.items ≡ below.now ++ above.now) }
+    ensures counted { (count.old ≤ count.new) × (count.new ≤ count.old + 129) }
+{
+    let mut all = Vec::with_capacity(alloc, below.len() + above.len())?;
+    append(&mut all, below, count)?;
+    append(&mut all, above, count)?;
+    Ok(all)
+}

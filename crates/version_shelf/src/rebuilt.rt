@@ -1,0 +1,113 @@
+//! How are pages made anew where one of them has other parts than before?
+
+ghost use Rattle.std.specs.Prelude.{◌≡◌, ◌++◌, ◌+◌, ◌<◌, ◌≤◌, ◌^◌, OnOk, IfOk, length};
+ghost use Rattle.version_shelf.specs.Shelf.{ClonesEqual};
+ghost use Rattle.version_shelf.specs.Pages.{AreFull, ArePages, flatten, in_pages};
+
+use crate::count::Count;
+use crate::page::{Page, append, put};
+use std::alloc::{AllocError, Global};
+
+const FEWEST_PARTS: usize = 64;
+
+const MOST_PARTS: usize = 128;
+
+/// The pages below, the pages of these parts, and the pages above. Where the parts are too few for a page that has
+/// neighbours, they are put together with those of one. The error is want of memory.
+pub(crate) fn rebuilt<T: Clone>(
+    alloc: Global,
+    below: &[Page<T>],
+    parts: Vec<T>,
+    above: &[Page<T>],
+    count: &mut Count,
+) -> Result<Vec<Page<T>>, AllocError>
+    requires clones { ClonesEqual T.is_clone }
+    requires below { AreFull below.now }
+    requires above { AreFull above.now }
+    requires fits { length below.now + length above.now < 128 }
+    requires most { length parts.items ≤ 129 }
+    requires fewest { 0 < length below.now + length above.now → 63 ≤ length parts.items }
+    requires room { count.old + 447 < 2 ^ 64 }
+    ensures parts { IfOk result (λ pages. flatten pages.items ≡ flatten below.now ++ (parts.items ++ flatten above.now)) }
+    ensures pages { IfOk result (λ pages. ArePages pages.items) }
+    ensures fewest { IfOk result (λ pages. length below.now + length above.now ≤ length pages.items) }
+    ensures most { IfOk result (λ pages. length pages.items ≤ length below.now + length above.now + 2) }
+    ensures counted { (count.old ≤ count.new) × (count.new ≤ count.old + 447) }
+{
+    if parts.len() >= FEWEST_PARTS {
+        return joined(alloc, below, parts, above, count);
+    }
+    if let Some((neighbour, below)) = below.split_last() {
+        let parts = put_together(alloc, neighbour.parts(), &parts, count)?;
+        return joined(alloc, below, parts, above, count);
+    }
+    if let Some((neighbour, above)) = above.split_first() {
+        let parts = put_together(alloc, &parts, neighbour.parts(), count)?;
+        return joined(alloc, below, parts, above, count);
+    }
+    joined(alloc, below, parts, above, count)
+}
+
+/// These parts, and those after them.
+fn put_together<T: Clone>(
+    alloc: Global,
+    parts: &[T],
+    others: &[T],
+    count: &mut Count,
+) -> Result<Vec<T>, AllocError>
+    requires clones { ClonesEqual T.is_clone }
+    requires size { length parts.now + length others.now ≤ 192 }
+    requires room { count.old + 192 < 2 ^ 64 }
+    ensures parts { IfOk result (λ all. all.items ≡ parts.now ++ others.now) }
+    ensures counted { (count.old ≤ count.new) × (count.new ≤ count.old + 192) }
+{
+    let mut all = Vec::with_capacity(alloc, parts.len() + others.len())?;
+    append(&mut all, parts, count)?;
+    append(&mut all, others, count)?;
+    Ok(all)
+}
+
+/// The pages below, the pages of these parts, and the pages above.
+fn joined<T: Clone>(
+    alloc: Global,
+    below: &[Page<T>],
+    parts: Vec<T>,
+    above: &[Page<T>],
+    count: &mut Count,
+) -> Result<Vec<Page<T>>, AllocError>
+    requires size { length parts.items ≤ 192 }
+    requires fits { length below.now + length above.now < 128 }
+    requires room { count.old + 255 < 2 ^ 64 }
+    ensures pages { IfOk result (λ pages. pages.items ≡ below.now ++ (in_pages parts.items ++ above.now)) }
+    ensures counted { (count.old ≤ count.new) × (count.new ≤ count.old + 255) }
+{
+    let mut pages = Vec::with_capacity(alloc, below.len() + 2 + above.len())?;
+    append(&mut pages, below, count)?;
+    put_pages(alloc, &mut pages, parts, count)?;
+    append(&mut pages, above, count)?;
+    Ok(pages)
+}
+
+/// Adds these parts as one page, or as two halves where they are too many for one.
+fn put_pages<T: Drop>(
+    alloc: Global,
+    pages: &mut Vec<Page<T>>,
+    parts: Vec<T>,
+    count: &mut Count,
+) -> Result<(), AllocError>
+    requires size { length parts.items ≤ 192 }
+    requires room { count.old + 128 < 2 ^ 64 }
+    ensures pages { OnOk result (pages.new.items ≡ pages.old.items ++ in_pages parts.items) }
+    ensures counted { (count.old ≤ count.new) × (count.new ≤ count.old + 128) }
+{
+    let mut parts = parts;
+    if parts.len() > MOST_PARTS {
+        let half = parts.len() / 2;
+        count.raise(parts.len() - half);
+        let others = parts.split_off(half)?;
+        put(pages, Page::of(alloc, parts)?, count)?;
+        put(pages, Page::of(alloc, others)?, count)
+    } else {
+        put(pages, Page::of(alloc, parts)?, count)
+    }
+}

@@ -1,0 +1,108 @@
+//! Where among parts in order does a key belong?
+
+ghost use Rattle.std.specs.Prelude.{◌≡◌, ◌+◌, ◌-◌, ◌<◌, ◌≤◌, ◌^◌, Bool, length, take};
+ghost use Rattle.version_shelf.specs.Pages.{ArePages, Cuts, CutsAt, IsPlace, ends};
+
+use crate::count::{Count, compared};
+use crate::page::Page;
+use crate::shared_row::SharedRow;
+
+/// A row, or a page: a part that stands in the order of keys.
+pub(crate) trait Sought<K> {
+    // the last of the part's keys is below the key
+    ghost below: { K → Self → Bool };
+
+    fn is_below(&self, key: &K, count: &mut Count) -> bool
+        requires { count.old + 1 < 2 ^ 64 }
+        ensures below { result ≡ below key.now self.now }
+        ensures counted { (count.old ≤ count.new) × (count.new ≤ count.old + 1) };
+}
+
+impl<K: Ord, V> Sought<K> for SharedRow<K, V> {
+    ghost use Rattle.std.specs.Ordering.{is_lt};
+
+    ghost below = { λ key row. is_lt (K.cmp row.0 key) };
+
+    fn is_below(&self, key: &K, count: &mut Count) -> bool {
+        compared(self.key(), key, count).is_lt()
+    }
+}
+
+impl<K, T: Sought<K>> Sought<K> for Page<T> {
+    ghost use Rattle.version_shelf.specs.Pages.{ends};
+
+    ghost below = { λ key parts. ends (T.below key) parts };
+
+    fn is_below(&self, key: &K, count: &mut Count) -> bool {
+        match self.parts().split_last() {
+            Some((part, _)) => part.is_below(key, count),
+            None => false,
+        }
+    }
+}
+
+/// How many of the parts come before the key's place, by a search by halves.
+pub(crate) fn place<K, T: Sought<K>>(parts: &[T], key: &K, count: &mut Count) -> usize
+    requires size { length parts.now ≤ 128 }
+    requires room { count.old + 8 < 2 ^ 64 }
+    ensures place { IsPlace (T.below key.now) parts.now result }
+    ensures counted { (count.old ≤ count.new) × (count.new ≤ count.old + 8) }
+{
+    let mut from = 0;
+    let mut until = parts.len();
+    while from < until {
+        let middle = from + (until - from) / 2;
+        if parts[middle].is_below(key, count) {
+            from = middle + 1;
+        } else {
+            until = middle;
+        }
+    }
+    from
+}
+
+/// The parts, without the last one.
+fn all_but_last<T>(parts: &[T]) -> &[T]
+    ensures { result.now ≡ take (length parts.now - 1) parts.now }
+{
+    match parts.split_last() {
+        Some((_, others)) => others,
+        None => parts,
+    }
+}
+
+/// Pages in order, cut at a key: those before the key's place, the parts of the page at its place, which are none where
+/// there is no page, and the pages after it.
+#[derive(Drop)]
+pub(crate) struct Cut<'a, T> {
+    pub(crate) below: &'a [Page<T>],
+    pub(crate) at: &'a [T],
+    pub(crate) above: &'a [Page<T>],
+}
+
+pub(crate) fn cut_at<'a, K, T: Sought<K>>(
+    pages: &'a [Page<T>],
+    key: &K,
+    count: &mut Count,
+) -> Cut<'a, T>
+    requires pages { ArePages pages.now }
+    requires size { length pages.now ≤ 128 }
+    requires room { count.old + 8 < 2 ^ 64 }
+    ensures cuts { Cuts pages.now result.below.now result.at.now result.above.now }
+    ensures key { CutsAt (T.below key.now) result.below.now result.at.now result.above.now }
+    ensures counted { (count.old ≤ count.new) × (count.new ≤ count.old + 8) }
+{
+    let (below, from) = pages.split_at(place(all_but_last(pages), key, count));
+    match from.split_first() {
+        Some((page, above)) => Cut {
+            below,
+            at: page.parts(),
+            above,
+        },
+        None => Cut {
+            below,
+            at: &[],
+            above: from,
+        },
+    }
+}

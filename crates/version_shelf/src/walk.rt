@@ -1,0 +1,138 @@
+//! How does a walk step from page to page?
+
+ghost use Rattle.std.specs.Prelude.{◌≡◌, ◌++◌, ◌+◌, ◌<◌, ◌≤◌, ◌^◌, [], length};
+ghost use Rattle.version_shelf.specs.Shelf.{IsInOrder, rows_between};
+ghost use Rattle.version_shelf.specs.Pages.{ArePages, AreWalkPages, flatten, walk_rows};
+
+use crate::count::Count;
+use crate::leaf::{between, split};
+use crate::page::{Leaf, Middle};
+use crate::search::cut_at;
+use crate::shared_row::SharedRow;
+
+/// What is left of a walk: rows, the leaves after them, the middles after these, and the leaves and rows of the page in
+/// which the walk ends.
+#[derive(Drop)]
+pub(crate) struct Walk<'a, K, V> {
+    pub(crate) rest: &'a [SharedRow<K, V>],
+    pub(crate) leaves: &'a [Leaf<K, V>],
+    pub(crate) middles: &'a [Middle<K, V>],
+    pub(crate) last_leaves: &'a [Leaf<K, V>],
+    pub(crate) last: &'a [SharedRow<K, V>],
+}
+
+/// Steps on to the rows of the next leaf, where no row is at hand.
+pub(crate) fn refill<K, V>(walk: &mut Walk<'_, K, V>)
+    requires pages { AreWalkPages walk.old.leaves.now walk.old.middles.now walk.old.last_leaves.now }
+    requires none { length walk.old.rest.now ≡ 0 }
+    ensures pages { AreWalkPages walk.new.leaves.now walk.new.middles.now walk.new.last_leaves.now }
+    ensures rows { walk_rows walk.new.rest.now walk.new.leaves.now walk.new.middles.now walk.new.last_leaves.now walk.new.last.now ≡ walk_rows walk.old.rest.now walk.old.leaves.now walk.old.middles.now walk.old.last_leaves.now walk.old.last.now }
+    ensures ends { length walk.new.rest.now ≡ 0 → walk_rows walk.new.rest.now walk.new.leaves.now walk.new.middles.now walk.new.last_leaves.now walk.new.last.now ≡ [] }
+{
+    refill_leaves(walk);
+    match walk.leaves.split_first() {
+        Some((leaf, leaves)) => {
+            walk.rest = leaf.parts();
+            walk.leaves = leaves;
+        }
+        None => {
+            walk.rest = walk.last;
+            walk.last = &[];
+        }
+    }
+}
+
+/// Steps on to the leaves of the next middle, where no leaf is at hand.
+fn refill_leaves<K, V>(walk: &mut Walk<'_, K, V>)
+    requires pages { AreWalkPages walk.old.leaves.now walk.old.middles.now walk.old.last_leaves.now }
+    ensures pages { AreWalkPages walk.new.leaves.now walk.new.middles.now walk.new.last_leaves.now }
+    ensures rest { walk.new.rest.now ≡ walk.old.rest.now }
+    ensures last { walk.new.last.now ≡ walk.old.last.now }
+    ensures leaves { flatten walk.new.leaves.now ++ (flatten (flatten walk.new.middles.now) ++ flatten walk.new.last_leaves.now) ≡ flatten walk.old.leaves.now ++ (flatten (flatten walk.old.middles.now) ++ flatten walk.old.last_leaves.now) }
+    ensures ends { length walk.new.leaves.now ≡ 0 → flatten (flatten walk.new.middles.now) ++ flatten walk.new.last_leaves.now ≡ [] }
+{
+    if !walk.leaves.is_empty() {
+        return;
+    }
+    match walk.middles.split_first() {
+        Some((middle, middles)) => {
+            walk.leaves = middle.parts();
+            walk.middles = middles;
+        }
+        None => {
+            walk.leaves = walk.last_leaves;
+            walk.last_leaves = &[];
+        }
+    }
+}
+
+/// The walk over the rows of a shelf with `lo <= key < hi`.
+pub(crate) fn walk_between<'a, K: Ord, V>(
+    middles: &'a [Middle<K, V>],
+    lo: &K,
+    hi: &K,
+    count: &mut Count,
+) -> Walk<'a, K, V>
+    requires order { IsInOrder K.cmp (flatten (flatten middles.now)) }
+    requires middles { ArePages middles.now }
+    requires leaves { ArePages (flatten middles.now) }
+    requires size { length middles.now ≤ 128 }
+    requires room { count.old + 48 < 2 ^ 64 }
+    ensures pages { AreWalkPages result.leaves.now result.middles.now result.last_leaves.now }
+    ensures rows { walk_rows result.rest.now result.leaves.now result.middles.now result.last_leaves.now result.last.now ≡ rows_between K.cmp (flatten (flatten middles.now)) lo.now hi.now }
+    ensures counted { (count.old ≤ count.new) × (count.new ≤ count.old + 48) }
+{
+    let start = cut_at(middles, lo, count);
+    let (_, from) = middles.split_at(start.below.len());
+    let end = cut_at(from, hi, count);
+    match end.below.split_first() {
+        None => walk_in_middle(end.at, lo, hi, count),
+        Some((_, middles)) => {
+            let start = cut_at(start.at, lo, count);
+            let end = cut_at(end.at, hi, count);
+            Walk {
+                rest: split(start.at, lo, count).1,
+                leaves: start.above,
+                middles,
+                last_leaves: end.below,
+                last: split(end.at, hi, count).0,
+            }
+        }
+    }
+}
+
+/// The walk over the rows of one middle with `lo <= key < hi`.
+fn walk_in_middle<'a, K: Ord, V>(
+    leaves: &'a [Leaf<K, V>],
+    lo: &K,
+    hi: &K,
+    count: &mut Count,
+) -> Walk<'a, K, V>
+    requires order { IsInOrder K.cmp (flatten leaves.now) }
+    requires leaves { ArePages leaves.now }
+    requires size { length leaves.now ≤ 128 }
+    requires room { count.old + 32 < 2 ^ 64 }
+    ensures pages { AreWalkPages result.leaves.now result.middles.now result.last_leaves.now }
+    ensures rows { walk_rows result.rest.now result.leaves.now result.middles.now result.last_leaves.now result.last.now ≡ rows_between K.cmp (flatten leaves.now) lo.now hi.now }
+    ensures counted { (count.old ≤ count.new) × (count.new ≤ count.old + 32) }
+{
+    let start = cut_at(leaves, lo, count);
+    let (_, from) = leaves.split_at(start.below.len());
+    let end = cut_at(from, hi, count);
+    match end.below.split_first() {
+        None => Walk {
+            rest: between(end.at, lo, hi, count),
+            leaves: &[],
+            middles: &[],
+            last_leaves: &[],
+            last: &[],
+        },
+        Some((_, leaves)) => Walk {
+            rest: split(start.at, lo, count).1,
+            leaves,
+            middles: &[],
+            last_leaves: &[],
+            last: split(end.at, hi, count).0,
+        },
+    }
+}

@@ -1,0 +1,150 @@
+//! Shelves of many pages, filled and emptied in several orders: is each call's work under its bound, and does an old shelf
+//! read as before?
+
+ghost use Rattle.std.specs.Prelude.{◌<◌};
+
+use crate::counted_keys::{CountedKey, Counts};
+use std::alloc::Global;
+use std::process::Abort;
+use std::test::Fail;
+use version_shelf::{Count, Shelf};
+
+type CountedShelf<'a> = Shelf<CountedKey<'a>, CountedKey<'a>>;
+
+const ROWS: u64 = 9_000;
+
+/// In which order keys come.
+#[derive(Clone, Copy)]
+enum Order {
+    Rising,
+    Falling,
+    Mixed,
+}
+
+impl Order {
+    /// The key that comes at this turn: each below `ROWS` comes once.
+    fn key(self, turn: u64) -> u64
+        requires { turn < 9000 }
+    {
+        match self {
+            Order::Rising => turn,
+            Order::Falling => ROWS - 1 - turn,
+            Order::Mixed => turn * 7_919 % ROWS,
+        }
+    }
+}
+
+/// The shelf has the value at the key, found at a price under its bound, of which nothing was kept back.
+fn assert_found<'a>(
+    rt: &impl Abort,
+    shelf: &CountedShelf<'a>,
+    counts: &'a Counts,
+    key: u64,
+    value: Option<u64>,
+) {
+    let mut count = Count::new();
+    counts.comparisons();
+    let found = shelf.find(&counts.number(key), &mut count);
+    assert_eq!(rt; found.map(|found| found.value()), value);
+    assert_eq!(rt; count.number(), counts.comparisons());
+    assert!(rt; count.number() <= 32);
+}
+
+/// The shelf with the key, whose value is the turn.
+fn with_key<'a>(
+    rt: &impl Abort,
+    shelf: &CountedShelf<'a>,
+    counts: &'a Counts,
+    key: u64,
+    turn: u64,
+) -> Result<CountedShelf<'a>, Fail> {
+    let mut count = Count::new();
+    assert!(rt; shelf.has_room());
+    let more = shelf.with_counted(counts.number(key), counts.number(turn), &mut count)?;
+    assert!(rt; 0 < count.number() && count.number() <= 1_024);
+    assert_eq!(rt; counts.copies(), 0);
+    Ok(more)
+}
+
+/// The shelf without the key.
+fn without_key<'a>(
+    rt: &impl Abort,
+    shelf: &CountedShelf<'a>,
+    counts: &'a Counts,
+    key: u64,
+) -> Result<CountedShelf<'a>, Fail> {
+    let mut count = Count::new();
+    let fewer = shelf.without_counted(&counts.number(key), &mut count)?;
+    assert!(rt; 0 < count.number() && count.number() <= 1_024);
+    assert_eq!(rt; counts.copies(), 0);
+    Ok(fewer)
+}
+
+/// The shelf has the rows of so many turns, and no others.
+fn assert_turns<'a>(
+    rt: &impl Abort,
+    shelf: &CountedShelf<'a>,
+    counts: &'a Counts,
+    order: Order,
+    turns: u64,
+) {
+    assert_eq!(rt; shelf.len() as u64, turns);
+    for turn in 0..ROWS {
+        let value = if turn < turns { Some(turn) } else { None };
+        assert_found(rt, shelf, counts, order.key(turn), value);
+    }
+    let mut last = None;
+    let mut rows = 0_u64;
+    for (key, _) in shelf.range(&counts.number(0), &counts.number(ROWS)) {
+        assert!(rt; last < Some(key.value()));
+        last = Some(key.value());
+        rows = rows.wrapping_add(1);
+    }
+    assert_eq!(rt; rows, turns);
+}
+
+/// Fills a shelf in one order and empties it in another, and looks at old ones then.
+fn assert_filled_and_emptied(
+    rt: &impl Abort,
+    alloc: Global,
+    order: Order,
+    emptying: Order,
+) -> Result<(), Fail> {
+    let counts = Counts::new();
+    let mut shelf = Shelf::new(alloc);
+    let mut kept = Vec::new(alloc);
+    for turn in 0..ROWS {
+        if turn % 1_000 == 0 {
+            kept.push((turn, shelf.clone()?))?;
+        }
+        shelf = with_key(rt, &shelf, &counts, order.key(turn), turn)?;
+    }
+    assert_turns(rt, &shelf, &counts, order, ROWS);
+    for turn in 0..ROWS {
+        shelf = without_key(rt, &shelf, &counts, emptying.key(turn))?;
+    }
+    assert_turns(rt, &shelf, &counts, order, 0);
+    for (turns, old) in &kept {
+        assert_turns(rt, old, &counts, order, *turns);
+    }
+    Ok(())
+}
+
+#[test]
+fn a_shelf_is_filled_by_rising_keys_and_emptied_by_falling_ones(
+    rt: HostRuntime,
+) -> Result<(), Fail> {
+    assert_filled_and_emptied(&rt, rt.alloc(), Order::Rising, Order::Falling)
+}
+
+#[test]
+fn a_shelf_is_filled_by_falling_keys_and_emptied_by_mixed_ones(
+    rt: HostRuntime,
+) -> Result<(), Fail> {
+    assert_filled_and_emptied(&rt, rt.alloc(), Order::Falling, Order::Mixed)
+}
+
+#[test]
+fn a_shelf_is_filled_by_mixed_keys_and_emptied_by_rising_ones(rt: HostRuntime) -> Result<(), Fail> {
+    assert_filled_and_emptied(&rt, rt.alloc(), Order::Mixed, Order::Rising)
+}
