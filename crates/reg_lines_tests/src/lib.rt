@@ -5,7 +5,6 @@
 //!
 //! - `frames`, `requests`, `operations`, `pages`, `tokens` and `ids`: what lines spell, told in the words of `spelled`.
 //! - `events`: what the lines of events spell.
-//! - `records`: what the lines of records spell; `recorded`: how calls are recorded, and their batches.
 //! - `schedules`: the lines of a schedule: what is printed for each answer to an event.
 //! - `texts` and `replies`: what is printed, by `answers`, which runs a plain book on lines.
 //! - `bytes`: lines of memory, of devices that are interrupted, and of one that is full, by the engine of `engine`. What it
@@ -28,10 +27,6 @@ mod ids;
 mod operations;
 #[cfg(test)]
 mod pages;
-#[cfg(test)]
-mod recorded;
-#[cfg(test)]
-mod records;
 #[cfg(test)]
 mod replies;
 #[cfg(test)]
