@@ -1,0 +1,104 @@
+-- Which record may stand behind others, and why a line is none: the first cause that holds, in their order.
+use Rattle.std.specs.Prelude.{◌≡◌, ℕ, Bool, false, not, ◌&&◌, ◌==◌, ⊤, List, [], ◌∷◌, ◌++◌, map, codes, nat_lt, Option, None, Some, Result, Ok, Err, if◌then◌else◌, option_and_then}
+use Rattle.std.specs.List.{list_any}
+use Rattle.std.specs.Str.{bytes_eq}
+use Rattle.serde_json.specs.Data.{Data}
+use Rattle.serde_json.specs.Find.{as_str, get}
+use Rattle.serde_json.specs.Written.{compact_text, has_float}
+use Rattle.spiffe_name.specs.declared.refusals.Failure.{Failure}
+use Rattle.spiffe_name.specs.declared.refusals.Failure.TheVariants.{NoMemory, Refused}
+use Rattle.entry_book.specs.Batches.{Batch}
+use Rattle.entry_book.specs.History.{books_of, reply_to}
+use Rattle.reg_lines.specs.Records.{AuditRecord, spelled_record}
+use Rattle.reg_lines.specs.Replies.{reply_json}
+use Rattle.reg_lines.specs.declared.fault.Fault.{Fault}
+use Rattle.call_audit.specs.declared.cause.Cause.{Cause}
+use Rattle.call_audit.specs.declared.cause.Cause.TheVariants.{Call, Order, Reply, Spelling, Stamps}
+
+-- ---- what is asked of a record, beside those before it
+
+abbrev pub has_call : ℕ → List AuditRecord → Bool
+has_call call before = list_any (λ r. call == r.call) before
+
+-- the reply tells a committed batch
+abbrev pub is_word_of_commit : Option (List ℕ) → Bool
+is_word_of_commit None = false
+is_word_of_commit (Some word) = bytes_eq word (codes "committed")
+
+abbrev pub is_commit : Data → Bool
+is_commit reply = is_word_of_commit (option_and_then as_str (get (codes "result") reply))
+
+-- it replied after its invoke, or it hasn't replied and tells a commit
+abbrev pub is_ended : Option ℕ → ℕ → Data → Bool
+is_ended (Some n) invoked reply = nat_lt invoked n
+is_ended None invoked reply = is_commit reply
+
+abbrev pub is_stamped : AuditRecord → Bool
+is_stamped r = is_ended r.replied r.invoked r.reply
+
+-- a reply at this number comes before this invoke
+abbrev pub is_past : Option ℕ → ℕ → Bool
+is_past None invoked = false
+is_past (Some n) invoked = nat_lt n invoked
+
+abbrev pub is_late : AuditRecord → List AuditRecord → Bool
+is_late r before = list_any (λ e. is_past r.replied e.invoked) before
+
+-- the value has this compact text; a value with a float has none
+abbrev pub is_text_of : Data → List ℕ → Bool
+is_text_of d text = not (has_float d) && bytes_eq (compact_text d) text
+
+abbrev pub batches_of : List AuditRecord → List Batch
+batches_of before = map (λ r. r.batch) before
+
+-- the plain book gives this reply, behind the batches of the records before
+abbrev pub is_given : AuditRecord → List AuditRecord → Bool
+is_given r before = is_text_of r.reply (reply_json r.call (reply_to r.batch (books_of (batches_of before))))
+
+-- ---- the first cause
+
+unfoldable pub cause_of : List AuditRecord → AuditRecord → Option Cause
+cause_of before r =
+    if has_call r.call before then Some Call else
+    (if not (is_stamped r) then Some Stamps else
+    (if is_late r before then Some Order else
+    (if not (is_given r before) then Some Reply else
+    None)))
+
+-- ---- a line
+
+-- The line is the record without a fault that is told, or it has this cause.
+abbrev pub judged_when : List AuditRecord → AuditRecord → Option Cause → Result AuditRecord Cause
+judged_when before r None = Ok r
+judged_when before r (Some cause) = Err cause
+
+abbrev pub judged_spelled : List AuditRecord → Result AuditRecord Fault → Result AuditRecord Cause
+judged_spelled before (Err fault) = Err (Spelling fault.code)
+judged_spelled before (Ok r) = judged_when before r (cause_of before r)
+
+-- this is the cause of a line that has this fault
+abbrev pub IsSpellingCause : Failure Fault → Cause → Type 0
+IsSpellingCause NoMemory cause = ⊥
+IsSpellingCause (Refused fault) cause = cause ≡ Spelling fault.code
+
+-- what a line comes to in a trust domain, behind these records: a record, or the first cause
+unfoldable pub judged : List ℕ → List AuditRecord → List ℕ → Result AuditRecord Cause
+judged domain before line = judged_spelled before (spelled_record domain line)
+
+-- ---- what an auditor answers
+
+-- Where it takes the record, what it keeps then is behind this record, too.
+abbrev pub JudgesRecord : List AuditRecord → AuditRecord → (List AuditRecord → Type 0) → Option Cause → Type 0
+JudgesRecord before r Keeps None = (cause_of before r ≡ None) × Keeps (before ++ r ∷ [])
+JudgesRecord before r Keeps (Some cause) = cause_of before r ≡ Some cause
+
+abbrev pub Judges : List ℕ → List AuditRecord → List ℕ → (List AuditRecord → Type 0) → Option Cause → Type 0
+Judges domain before line Keeps None = (r : AuditRecord) × (judged domain before line ≡ Ok r) × Keeps (before ++ r ∷ [])
+Judges domain before line Keeps (Some cause) = judged domain before line ≡ Err cause
+
+-- ---- many records
+
+-- none has a fault behind those before it
+abbrev pub AreFaultless : List AuditRecord → List AuditRecord → Type 0
+AreFaultless before [] = ⊤
+AreFaultless before (r ∷ rs) = (cause_of before r ≡ None) × AreFaultless (before ++ r ∷ []) rs

@@ -1,0 +1,5 @@
+pub mod Texts
+pub mod Audits
+pub mod Follows
+pub mod Keeps
+pub mod Verdicts

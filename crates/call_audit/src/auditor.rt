@@ -1,0 +1,157 @@
+//! What does an auditor keep of the records so far?
+
+ghost use Rattle.std.specs.Prelude.{◌≡◌};
+
+use crate::cause::Cause;
+use crate::reply::is_reply;
+use indexmap::IndexSet;
+use plain_book::PlainBook;
+use reg_lines::{Fault, Record, read_record};
+use serde_json::Value;
+use spiffe_name::{Failure, TrustDomain};
+use std::alloc::{AllocError, Global};
+use std::marker::Model;
+
+/// Takes the records of a run, line after line, and runs their batches on a plain book. A contract sees it as the record of
+/// the book, the numbers of the calls, and when the last of them was invoked.
+#[derive(Drop)]
+pub struct Auditor {
+    alloc: Global,
+    book: PlainBook,
+    calls: IndexSet<u64>,
+    latest: u64,
+}
+
+impl Model for Auditor {
+    ghost use Rattle.call_audit.specs.Keeps.{AuditState};
+
+    ghost Value = { AuditState };
+
+    ghost view = { λ auditor. record {
+      book = auditor.book;
+      calls = auditor.calls.keys;
+      latest = auditor.latest;
+    } };
+}
+
+impl Auditor {
+    ghost use Rattle.std.specs.Prelude.{◌≡◌, ◌<◌, ◌^◌, IfOk, List, [], length};
+    ghost use Rattle.reg_lines.specs.Records.{AuditRecord};
+    ghost use Rattle.call_audit.specs.Audits.{Judges};
+    ghost use Rattle.call_audit.specs.Keeps.{Keeps};
+
+    /// The auditor of a trust domain's records, before the first one. The error is want of memory.
+    pub fn new(alloc: Global, domain: TrustDomain) -> Result<Auditor, AllocError>
+        ensures domain { IfOk result (λ auditor. auditor.book.domain ≡ domain) }
+        ensures keeps { IfOk result (λ auditor. Keeps auditor []) }
+    {
+        Ok(Auditor {
+            alloc,
+            book: PlainBook::new(alloc, domain)?,
+            calls: IndexSet::new(alloc),
+            latest: 0,
+        })
+    }
+
+    /// The next line, with its LF where it has one: none where it is a record without a fault behind those before it, or
+    /// else the first cause that holds. Then, and where memory is wanting, which is the error, the audit is over: nothing is
+    /// promised of a further line.
+    pub fn audit(&mut self, line: &[u8]) -> Result<Option<Cause>, AllocError>
+        ensures domain { self.new.book.domain ≡ self.old.book.domain }
+        ensures judged { (records : List AuditRecord) → Keeps self.old records
+            → IfOk result (Judges self.old.book.domain records line.now (Keeps self.new)) }
+    {
+        // of a refusal its number isn't used
+        match read_record(self.alloc, self.book.domain(), line, 1) {
+            Ok(told) => self.audit_record(&told),
+            Err(refusal) => Ok(Some(spelling_cause(&refusal.failure)?)),
+        }
+    }
+
+    /// How many records were taken, none of them with a fault.
+    pub fn count(&self) -> usize
+        ensures count { (records : List AuditRecord) → Keeps self.now records → result ≡ length records }
+        ensures small { result < 2 ^ 63 }
+    {
+        self.calls.len()
+    }
+}
+
+impl Auditor {
+    ghost use Rattle.std.specs.Prelude.{◌≡◌, IfOk, List};
+    ghost use Rattle.serde_json.specs.View.{view};
+    ghost use Rattle.reg_lines.specs.Records.{AuditRecord};
+    ghost use Rattle.reg_lines.specs.RecordViews.{recorded};
+    ghost use Rattle.call_audit.specs.Audits.{JudgesRecord, is_past};
+    ghost use Rattle.call_audit.specs.Keeps.{Keeps};
+
+    /// The same, of a record.
+    fn audit_record(&mut self, told: &Record) -> Result<Option<Cause>, AllocError>
+        requires domain { told.now.batch.domain ≡ self.old.book.domain }
+        ensures domain { self.new.book.domain ≡ self.old.book.domain }
+        ensures judged { (records : List AuditRecord) → Keeps self.old records
+            → IfOk result (JudgesRecord records (recorded told.now) (Keeps self.new)) }
+    {
+        if self.calls.contains(&told.call) {
+            return Ok(Some(Cause::Call));
+        }
+        if !is_stamped(told) {
+            return Ok(Some(Cause::Stamps));
+        }
+        if self.is_late(told.replied) {
+            return Ok(Some(Cause::Order));
+        }
+        let reply = self.book.run(&told.batch)?;
+        if !is_reply(self.alloc, &told.reply, told.call, &reply)? {
+            return Ok(Some(Cause::Reply));
+        }
+        self.calls.insert(told.call)?;
+        self.latest = self.latest.max(told.invoked);
+        Ok(None)
+    }
+
+    /// Was an earlier record's call invoked after this reply?
+    fn is_late(&self, replied: Option<u64>) -> bool
+        ensures { result ≡ is_past replied self.now.latest }
+    {
+        match replied {
+            Some(number) => number < self.latest,
+            None => false,
+        }
+    }
+}
+
+ghost use Rattle.std.specs.Prelude.{IfOk};
+ghost use Rattle.reg_lines.specs.RecordViews.{recorded};
+ghost use Rattle.serde_json.specs.View.{view};
+ghost use Rattle.call_audit.specs.Audits.{IsSpellingCause, is_commit, is_stamped};
+
+/// The cause of a line that spells no record. The error is want of memory.
+fn spelling_cause(failure: &Failure<Fault>) -> Result<Cause, AllocError>
+    ensures { IfOk result (IsSpellingCause failure.now) }
+{
+    match failure {
+        Failure::NoMemory => Err(AllocError),
+        Failure::Refused(fault) => Ok(Cause::Spelling(fault.code)),
+    }
+}
+
+/// Did the call reply after it was invoked, or is it committed, where it hasn't replied?
+fn is_stamped(told: &Record) -> bool
+    ensures { result ≡ is_stamped (recorded told.now) }
+{
+    match told.replied {
+        Some(number) => told.invoked < number,
+        None => is_commit(&told.reply),
+    }
+}
+
+/// Is the reply that of a committed batch?
+fn is_commit(reply: &Value) -> bool
+    ensures { result ≡ is_commit (view reply.now) }
+{
+    match reply.get("result") {
+        Some(word) => word.as_str() == Some("committed"),
+        None => false,
+    }
+}
