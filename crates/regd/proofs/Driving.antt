@@ -284,3 +284,32 @@ RunsOver-closes step more less wants first input rest output out result w r = re
     no_memory = r.no_memory;
     front = front_weaker step more less w first input.left output.written out.written r.front;
   }
+
+-- ---- the same of another result
+
+pub RunsOver-ok : {State V W : Type 0} (step : State → List ℕ → State → List ℕ → Type 0) (closes : State → List ℕ → Type 0) (wants : Type 0) (first : State) (input rest : InputState) (output out : OutputState) (ran : Result V RunFault) (x : V) (y : W) → ran ≡ Ok x → RunsOver step closes wants first input rest output out ran → RunsOver {T = W} step closes wants first input rest output out (Ok y)
+RunsOver-ok step closes wants first input rest output out (Ok z) x y e r = record {
+    text = r.text;
+    done = r.done;
+    input_failed = tt;
+    output_failed = tt;
+    so_far = tt;
+    no_memory = tt;
+    front = r.front;
+  }
+RunsOver-ok step closes wants first input rest output out (Err z) x y e r = absurd (cc)
+
+pub RunsOver-err : {State V W : Type 0} (step : State → List ℕ → State → List ℕ → Type 0) (closes : State → List ℕ → Type 0) (wants : Type 0) (first : State) (input rest : InputState) (output out : OutputState) (ran : Result V RunFault) (x : RunFault) → ran ≡ Err x → RunsOver step closes wants first input rest output out ran → RunsOver {T = W} step closes wants first input rest output out (Err x)
+RunsOver-err step closes wants first input rest output out (Ok z) x e r = absurd (cc)
+RunsOver-err {W = W} step closes wants first input rest output out (Err z) x e r =
+    let same : z ≡ x = cc in
+    let P : RunFault → Type 0 = λ f. RunsOver {T = W} step closes wants first input rest output out (Err f) in
+    subst P same (record {
+      text = tt;
+      done = tt;
+      input_failed = r.input_failed;
+      output_failed = r.output_failed;
+      so_far = r.so_far;
+      no_memory = r.no_memory;
+      front = r.front;
+    })

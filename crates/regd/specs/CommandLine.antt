@@ -44,8 +44,12 @@ abbrev pub regd_alone : App
 regd_alone = on_top (λ s. record s { subcommand_required = true; disable_help_subcommand = true })
     (new_app (codes "regd"))
 
+-- with those of its programs that keep a book
+abbrev pub book_commands : App
+book_commands = with_subcommand (with_subcommand regd_alone plain_command.top) schedule_command.top
+
 abbrev pub regd_command : App
-regd_command = with_subcommand (with_subcommand (with_subcommand regd_alone plain_command.top) schedule_command.top) audit_command.top
+regd_command = with_subcommand book_commands audit_command.top
 
 -- ---- what the words say; the program's own name is the first of them
 

@@ -87,7 +87,7 @@ impl Settings {
 ghost use Rattle.std.specs.Prelude.{◌≡◌, IfOk, false, option_map};
 ghost use Rattle.clap.specs.Words.{app_of, rule_of, subcommand_rows_of};
 ghost use Rattle.clap.specs.declared.Command.TheViews.{out-Command};
-ghost use Rattle.regd.specs.CommandLine.{audit_command, domain_option, option_in, plain_command, program_in, regd_command, schedule_command, seed_option};
+ghost use Rattle.regd.specs.CommandLine.{audit_command, book_commands, domain_option, option_in, plain_command, program_in, regd_command, schedule_command, seed_option};
 
 fn domain_option<'a>(alloc: Global) -> Arg<'a>
     ensures rule { rule_of result ≡ domain_option }
@@ -142,17 +142,23 @@ fn audit_command<'a>(alloc: Global) -> Result<Command<'a>, AllocError>
         .arg(domain_option(alloc))
 }
 
-/// The program as the command-line parser is told of it.
-fn regd_command<'a>(alloc: Global) -> Result<Command<'a>, AllocError>
-    ensures { IfOk result (λ command. app_of command ≡ regd_command) }
+/// The program with those of its programs that keep a book.
+fn book_commands<'a>(alloc: Global) -> Result<Command<'a>, AllocError>
+    ensures { IfOk result (λ command. app_of command ≡ book_commands) }
 {
     Command::new(alloc, "regd")
         .about("A workload registration server")
         .subcommand_required(true)
         .disable_help_subcommand(true)
         .subcommand(plain_command(alloc)?)?
-        .subcommand(schedule_command(alloc)?)?
-        .subcommand(audit_command(alloc)?)
+        .subcommand(schedule_command(alloc)?)
+}
+
+/// The program as the command-line parser is told of it.
+fn regd_command<'a>(alloc: Global) -> Result<Command<'a>, AllocError>
+    ensures { IfOk result (λ command. app_of command ≡ regd_command) }
+{
+    book_commands(alloc)?.subcommand(audit_command(alloc)?)
 }
 
 /// The program that the words ask for.
