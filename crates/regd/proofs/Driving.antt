@@ -7,7 +7,7 @@ use Rattle.reg_lines.specs.Runs.{AppendsRun, IsRun, StepsKept, first_lines}
 use Rattle.reg_lines.specs.Stream.{InputState, IsOut, OutputState, Puts}
 use Rattle.reg_lines.proofs.Puts.{Puts-then, Puts-same}
 use Rattle.reg_lines.proofs.RunLemmas.{RunsFrom, RunsFrom-start, RunsFrom-flush, RunsFrom-more, IsRun-on, IsRun-append, AppendsRun-so_far, all_put, front_put, front_longer, lines_done, lines_end, lines_more}
-use Rattle.regd.specs.Driver.{AnswersKept, AppendsClosed, AppendsClosedFront, Closes, FailsToClose, MayClose, RunsOver, Steps}
+use Rattle.regd.specs.Driver.{AnswersKept, AppendsClosed, AppendsClosedFront, Closes, ClosesAs, FailsToClose, IsClosedRun, MayClose, RunsOver, Steps}
 use Rattle.regd.specs.declared.faults.RunFault.{RunFault}
 use Rattle.regd.specs.declared.faults.RunFault.TheVariants as fault
 
@@ -245,3 +245,71 @@ closed_of {Setting = Setting} closes stands a b result e mid out k now s =
 pub closed_or_none : {State A E : Type 0} (closes : State → List ℕ → Type 0) (now : State) (r : Result A E) (a b c : OutputState) → OnOk r (Closes closes now a b) → OnErr r (b ≡ a) → Puts b c [] → Closes closes now a c ⊎ Puts a c []
 closed_or_none closes now (Ok x) a b c k s p = inl (Closes-flushed closes now a b c k p)
 closed_or_none closes now (Err e) a b c k s p = inr (subst (λ o. Puts o c []) s p)
+
+-- what stood before the last text stands after it
+pub closes_as : {State : Type 0} (closes : State → List ℕ → Type 0) (stood stands : State → Type 0) (mid out : OutputState) → ((now : State) → stood now → stands now) → ((now : State) → stood now → Closes closes now mid out ⊎ Puts mid out []) → (now : State) → stood now → Closes (ClosesAs closes stands) now mid out ⊎ Puts mid out []
+closes_as closes stood stands mid out on k now s = ⊎_elim (λ c. inl (c.0, (c.1, on now s), c.2)) (λ p. inr p) (k now s)
+
+closed_as_by : {State V : Type 0} (closes : State → List ℕ → Type 0) (stands : State → Type 0) (mid out : OutputState) (now : State) (result : Result V RunFault) → stands now → OnOk result (Closes closes now mid out) → OnOk result (Closes (ClosesAs closes stands) now mid out)
+closed_as_by closes stands mid out now (Ok x) s c = (c.0, (c.1, s), c.2)
+closed_as_by closes stands mid out now (Err e) s c = tt
+
+pub closed_as : {State V : Type 0} (closes : State → List ℕ → Type 0) (stood stands : State → Type 0) (mid out : OutputState) (result : Result V RunFault) → ((now : State) → stood now → stands now) → ((now : State) → stood now → OnOk result (Closes closes now mid out)) → (now : State) → stood now → OnOk result (Closes (ClosesAs closes stands) now mid out)
+closed_as closes stood stands mid out result on k now s = closed_as_by closes stands mid out now result (on now s) (k now s)
+
+-- ---- a run that is told with less
+
+closed_weaker : {State : Type 0} (step : State → List ℕ → State → List ℕ → Type 0) (more less : State → List ℕ → Type 0) → ((now : State) (end : List ℕ) → more now end → less now end) → (first : State) (lines : List (List ℕ)) (text : List ℕ) → IsClosedRun step more first lines text → IsClosedRun step less first lines text
+closed_weaker step more less w first lines text c = (c.0, c.1, c.2, c.3, w c.0 c.2 c.4, c.5)
+
+may_close_weaker : {State : Type 0} (more less : State → List ℕ → Type 0) → ((now : State) (end : List ℕ) → more now end → less now end) → (now : State) (end : List ℕ) → MayClose more now end → MayClose less now end
+may_close_weaker more less w now end m = ⊎_elim (λ k. inl (w now end k)) (λ n. inr n) m
+
+text_weaker : {State V : Type 0} (step : State → List ℕ → State → List ℕ → Type 0) (more less : State → List ℕ → Type 0) → ((now : State) (end : List ℕ) → more now end → less now end) → (first : State) (result : Result V RunFault) (left a b : Option (List ℕ)) → OnOk result (IfSome left (λ bytes. AppendsClosed step more first (first_lines most_lines bytes) a b)) → OnOk result (IfSome left (λ bytes. AppendsClosed step less first (first_lines most_lines bytes) a b))
+text_weaker step more less w first (Err e) left a b k = tt
+text_weaker step more less w first (Ok x) None a b k = tt
+text_weaker step more less w first (Ok x) (Some bytes) a b k = (k.0, closed_weaker step more less w first _ k.0 k.1, k.2)
+
+front_weaker : {State : Type 0} (step : State → List ℕ → State → List ℕ → Type 0) (more less : State → List ℕ → Type 0) → ((now : State) (end : List ℕ) → more now end → less now end) → (first : State) (left a b : Option (List ℕ)) → IfSome left (λ bytes. AppendsClosedFront step (MayClose more) first (first_lines most_lines bytes) a b) → IfSome left (λ bytes. AppendsClosedFront step (MayClose less) first (first_lines most_lines bytes) a b)
+front_weaker step more less w first None a b k = tt
+front_weaker step more less w first (Some bytes) a b k = (k.0, closed_weaker step (MayClose more) (MayClose less) (may_close_weaker more less w) first _ k.0 k.1, k.2)
+
+pub RunsOver-closes : {State V : Type 0} (step : State → List ℕ → State → List ℕ → Type 0) (more less : State → List ℕ → Type 0) (wants : Type 0) (first : State) (input rest : InputState) (output out : OutputState) (result : Result V RunFault) → ((now : State) (end : List ℕ) → more now end → less now end) → RunsOver step more wants first input rest output out result → RunsOver step less wants first input rest output out result
+RunsOver-closes step more less wants first input rest output out result w r = record {
+    text = text_weaker step more less w first result input.left output.written out.written r.text;
+    done = r.done;
+    input_failed = r.input_failed;
+    output_failed = r.output_failed;
+    so_far = r.so_far;
+    no_memory = r.no_memory;
+    front = front_weaker step more less w first input.left output.written out.written r.front;
+  }
+
+-- ---- the same of another result
+
+pub RunsOver-ok : {State V W : Type 0} (step : State → List ℕ → State → List ℕ → Type 0) (closes : State → List ℕ → Type 0) (wants : Type 0) (first : State) (input rest : InputState) (output out : OutputState) (ran : Result V RunFault) (x : V) (y : W) → ran ≡ Ok x → RunsOver step closes wants first input rest output out ran → RunsOver {T = W} step closes wants first input rest output out (Ok y)
+RunsOver-ok step closes wants first input rest output out (Ok z) x y e r = record {
+    text = r.text;
+    done = r.done;
+    input_failed = tt;
+    output_failed = tt;
+    so_far = tt;
+    no_memory = tt;
+    front = r.front;
+  }
+RunsOver-ok step closes wants first input rest output out (Err z) x y e r = absurd (cc)
+
+pub RunsOver-err : {State V W : Type 0} (step : State → List ℕ → State → List ℕ → Type 0) (closes : State → List ℕ → Type 0) (wants : Type 0) (first : State) (input rest : InputState) (output out : OutputState) (ran : Result V RunFault) (x : RunFault) → ran ≡ Err x → RunsOver step closes wants first input rest output out ran → RunsOver {T = W} step closes wants first input rest output out (Err x)
+RunsOver-err step closes wants first input rest output out (Ok z) x e r = absurd (cc)
+RunsOver-err {W = W} step closes wants first input rest output out (Err z) x e r =
+    let same : z ≡ x = cc in
+    let P : RunFault → Type 0 = λ f. RunsOver {T = W} step closes wants first input rest output out (Err f) in
+    subst P same (record {
+      text = tt;
+      done = tt;
+      input_failed = r.input_failed;
+      output_failed = r.output_failed;
+      so_far = r.so_far;
+      no_memory = r.no_memory;
+      front = r.front;
+    })

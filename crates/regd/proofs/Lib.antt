@@ -4,3 +4,4 @@ pub mod Driving
 pub mod Running
 pub mod Scheduling
 pub mod Seeds
+pub mod Auditing

@@ -9,7 +9,7 @@ use Rattle.regd.specs.Laws.{DomainApart, HelpIsRefused, JoinedDomain, JoinedSeed
 
 pub joined_domain : JoinedDomain
 unfolding clap_on_literals
-joined_domain name domain = (record { taken = refl; asked = refl; given = refl }, record { taken = refl; asked = refl; given = refl })
+joined_domain name domain = (record { taken = refl; asked = refl; given = refl }, record { taken = refl; asked = refl; given = refl }, record { taken = refl; asked = refl; given = refl })
 
 pub joined_seed : JoinedSeed
 unfolding clap_on_literals

@@ -6,7 +6,7 @@ use Rattle.clap.specs.Simple.{on_top}
 use Rattle.hex.specs.Hex.{IsBytes, encode_lower}
 use Rattle.spiffe_name.specs.Domain.{domain_refusal}
 use Rattle.regd.specs.declared.programs.Program.{Program}
-use Rattle.regd.specs.declared.programs.Program.TheVariants.{Plain, Schedule}
+use Rattle.regd.specs.declared.programs.Program.TheVariants.{Audit, Plain, Schedule}
 use Rattle.regd.specs.declared.faults.CommandLineFault.{CommandLineFault}
 use Rattle.regd.specs.declared.faults.CommandLineFault.TheVariants.{Refused, Domain, Seed, NotText, NoMemory}
 
@@ -35,13 +35,21 @@ plain_command = with_rule (with_rule (new_app (codes "plain")) domain_option) se
 abbrev pub schedule_command : App
 schedule_command = with_rule (with_rule (new_app (codes "schedule")) domain_option) seed_option
 
+-- `audit --domain D`
+abbrev pub audit_command : App
+audit_command = with_rule (new_app (codes "audit")) domain_option
+
 -- `regd`, which wants the word of one of its programs
 abbrev pub regd_alone : App
 regd_alone = on_top (λ s. record s { subcommand_required = true; disable_help_subcommand = true })
     (new_app (codes "regd"))
 
+-- with those of its programs that keep a book
+abbrev pub book_commands : App
+book_commands = with_subcommand (with_subcommand regd_alone plain_command.top) schedule_command.top
+
 abbrev pub regd_command : App
-regd_command = with_subcommand (with_subcommand regd_alone plain_command.top) schedule_command.top
+regd_command = with_subcommand book_commands audit_command.top
 
 -- ---- what the words say; the program's own name is the first of them
 
@@ -56,10 +64,11 @@ option_in name id = option_and_then (λ program. if bytes_eq program.0 name then
 abbrev pub program_name : Program → Text
 program_name Plain = codes "plain"
 program_name Schedule = codes "schedule"
+program_name Audit = codes "audit"
 
 -- the program that was met: each needs its domain, so it is the one to which a domain was given
 abbrev pub program_in : Option (Text × List Row) → Program
-program_in met = if is_some (option_in (codes "schedule") (codes "domain") met) then Schedule else Plain
+program_in met = if is_some (option_in (codes "schedule") (codes "domain") met) then Schedule else (if is_some (option_in (codes "audit") (codes "domain") met) then Audit else Plain)
 
 -- the program that the words ask for
 abbrev pub program_asked : List Text → Program

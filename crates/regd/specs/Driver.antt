@@ -20,6 +20,10 @@ AnswersKept {State} answers ends stands now bytes old new goes_on = (next : Stat
 abbrev pub Closes : {State : Type 0} → (State → List ℕ → Type 0) → State → OutputState → OutputState → Type 0
 Closes closes now old new = (end : List ℕ) × closes now end × Puts old new end
 
+-- a text that may come last behind what the run has come to, which stands in the end
+abbrev pub ClosesAs : {State : Type 0} → (State → List ℕ → Type 0) → (State → Type 0) → State → List ℕ → Type 0
+ClosesAs closes stands now end = closes now end × stands now
+
 -- memory was wanting for the last text: nothing was put, and all that was put before is out
 pub record FailsToClose (wants : Type 0) (old new : OutputState) : Type 0 where
   pub may : wants

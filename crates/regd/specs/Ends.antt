@@ -7,6 +7,8 @@ use Rattle.regd.specs.declared.faults.RunFault.{RunFault}
 use Rattle.regd.specs.declared.faults.RunFault.TheVariants as run
 use Rattle.regd.specs.declared.faults.CommandLineFault.{CommandLineFault}
 use Rattle.regd.specs.declared.faults.CommandLineFault.TheVariants as line
+use Rattle.regd.specs.declared.programs.Outcome.{Outcome}
+use Rattle.regd.specs.declared.programs.Outcome.TheVariants.{Denied, Done}
 use Rattle.regd.specs.declared.told.Told.{Told}
 use Rattle.regd.specs.declared.told.Told.TheVariants as told
 
@@ -29,8 +31,9 @@ abbrev pub with : ℕ → Told Error → Ended
 with status told = record { status = status; told = told }
 
 -- the end of a run that had its settings
-abbrev pub ended_by_run : Result Unit RunFault → Ended
-ended_by_run (Ok _) = with 0 told.Nothing
+abbrev pub ended_by_run : Result Outcome RunFault → Ended
+ended_by_run (Ok Done) = with 0 told.Nothing
+ended_by_run (Ok Denied) = with 3 told.Nothing
 ended_by_run (Err run.Input) = with 1 told.Input
 ended_by_run (Err run.Output) = with 1 told.Output
 ended_by_run (Err run.NoMemory) = with 1 told.NoMemory
@@ -44,6 +47,6 @@ ended_by_line line.NotText = with 2 told.NotText
 ended_by_line line.NoMemory = with 1 told.NoMemory
 
 -- the end, by what the command line and then the run answered
-abbrev pub ended_of : Result (Result Unit RunFault) CommandLineFault → Ended
+abbrev pub ended_of : Result (Result Outcome RunFault) CommandLineFault → Ended
 ended_of (Ok answered) = ended_by_run answered
 ended_of (Err fault) = ended_by_line fault

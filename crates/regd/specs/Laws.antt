@@ -4,7 +4,7 @@ use Rattle.clap.specs.Words.{Text}
 use Rattle.clap.specs.declared.error.ErrorKind.TheVariants.{DisplayHelp, MissingSubcommand}
 use Rattle.regd.specs.CommandLine.{domain_word, first_seed, line_faults, program_asked, seed_text}
 use Rattle.regd.specs.declared.programs.Program.{Program}
-use Rattle.regd.specs.declared.programs.Program.TheVariants.{Plain, Schedule}
+use Rattle.regd.specs.declared.programs.Program.TheVariants.{Audit, Plain, Schedule}
 
 -- the parser takes the words, and they ask for this program and give this domain
 pub record GivesDomain (words : List Text) (program : Program) (domain : Text) : Type 0 where
@@ -12,11 +12,13 @@ pub record GivesDomain (words : List Text) (program : Program) (domain : Text) :
   pub asked : program_asked words ≡ program
   pub given : domain_word words ≡ Some domain
 
--- `regd plain --domain=D` asks for `plain` and gives D, and so does `regd schedule --domain=D` for `schedule`
+-- `regd plain --domain=D` asks for `plain` and gives D, and so do `regd schedule --domain=D` for `schedule` and
+-- `regd audit --domain=D` for `audit`
 abbrev pub JoinedDomain : Type 0
 JoinedDomain = (name domain : Text)
     → GivesDomain (name ∷ codes "plain" ∷ (codes "--domain=" ++ domain) ∷ []) Plain domain
     × GivesDomain (name ∷ codes "schedule" ∷ (codes "--domain=" ++ domain) ∷ []) Schedule domain
+    × GivesDomain (name ∷ codes "audit" ∷ (codes "--domain=" ++ domain) ∷ []) Audit domain
 
 -- `regd plain --domain D` gives D, where D begins with no hyphen (45)
 abbrev pub DomainApart : Type 0

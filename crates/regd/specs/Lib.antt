@@ -1,5 +1,6 @@
 pub mod Answers
 pub mod Asked
+pub mod Audited
 pub mod CommandLine
 pub mod Conversions
 pub mod Driver

@@ -1,13 +1,22 @@
 -- What the programs do.
-use Rattle.std.specs.Prelude.{List, ℕ, Result}
+use Rattle.std.specs.Prelude.{◌≡◌, List, ℕ, Result, Ok, Err}
 use Rattle.reg_lines.specs.Stream.{InputState, OutputState}
 use Rattle.regd.specs.Answers.{RunsPlain}
+use Rattle.regd.specs.Audited.{RunsAudit}
 use Rattle.regd.specs.Schedules.{RunsSchedule}
 use Rattle.regd.specs.declared.faults.RunFault.{RunFault}
+use Rattle.regd.specs.declared.programs.Outcome.{Outcome}
+use Rattle.regd.specs.declared.programs.Outcome.TheVariants.{Done}
 use Rattle.regd.specs.declared.programs.Program.{Program}
-use Rattle.regd.specs.declared.programs.Program.TheVariants.{Plain, Schedule}
+use Rattle.regd.specs.declared.programs.Program.TheVariants.{Audit, Plain, Schedule}
 
--- what a run of this program over an input and an output has done
-abbrev pub RunsAs : {T : Type 0} → Program → List ℕ → List ℕ → InputState → InputState → OutputState → OutputState → Result T RunFault → Type 0
-RunsAs Plain domain seed input rest output out result = RunsPlain domain seed input rest output out result
-RunsAs Schedule domain seed input rest output out result = RunsSchedule domain seed input rest output out result
+-- a run that denies nothing
+abbrev pub done_of : Result Unit RunFault → Result Outcome RunFault
+done_of (Ok none) = Ok Done
+done_of (Err fault) = Err fault
+
+-- What a run of this program over an input and an output has done. Only an audit denies.
+abbrev pub RunsAs : Program → List ℕ → List ℕ → InputState → InputState → OutputState → OutputState → Result Outcome RunFault → Type 0
+RunsAs Plain domain seed input rest output out result = (ran : Result Unit RunFault) × (result ≡ done_of ran) × RunsPlain domain seed input rest output out ran
+RunsAs Schedule domain seed input rest output out result = (ran : Result Unit RunFault) × (result ≡ done_of ran) × RunsSchedule domain seed input rest output out ran
+RunsAs Audit domain seed input rest output out result = RunsAudit domain input rest output out result

@@ -2,7 +2,7 @@
 
 ghost use Rattle.std.specs.Prelude.{◌≡◌, ◌+◌, ◌<◌, ◌^◌, ◌⊎◌, ℕ, Bool, false, List, [], OnErr, OnOk, IfErr};
 ghost use Rattle.reg_lines.specs.Stream.{IsOut, Puts};
-ghost use Rattle.regd.specs.Driver.{AnswersKept, Closes, FailsToClose, RunsOver, Steps};
+ghost use Rattle.regd.specs.Driver.{AnswersKept, Closes, ClosesAs, FailsToClose, RunsOver, Steps};
 
 use crate::faults::RunFault;
 use reg_lines::{Input, Line, Output, Sink, Source, flush_before_waiting, most_lines};
@@ -44,10 +44,12 @@ pub trait Answerer {
         ensures answered { (now : Self.State) → Self.stands self.old now
             → AnswersKept (Self.answers (Self.setting self.old)) Self.ends (Self.stands self.new) now line.now output.old output.new result };
 
-    /// Puts the text that comes behind the last reply. The error is want of memory, and nothing is put then.
+    /// Puts the text that comes behind the last reply, and leaves what the run has come to. The error is want of memory, and
+    /// nothing is put then.
     fn close<K: Sink>(&mut self, alloc: Global, output: &mut Output<K>) -> Result<(), AllocError>
         ensures closed { (now : Self.State) → Self.stands self.old now
             → OnOk result (Closes (Self.closes (Self.setting self.old)) now output.old output.new) }
+        ensures stood { (now : Self.State) → Self.stands self.old now → Self.stands self.new now }
         ensures wanting { OnErr result Self.wants }
         ensures stays { OnErr result (output.new ≡ output.old) };
 
@@ -57,7 +59,8 @@ pub trait Answerer {
 
 /// Has each line of the input answered, in order, until the answerer ends the run, and then the last text put.
 ///
-/// The replies are out before each read that may wait, and at the end.
+/// The replies are out before each read that may wait, and at the end. What the run has come to then is what the answerer
+/// stands for.
 pub fn run_lines<A: Answerer, S: Source, K: Sink>(
     alloc: Global,
     answerer: &mut A,
@@ -69,7 +72,7 @@ pub fn run_lines<A: Answerer, S: Source, K: Sink>(
     requires output { output.old.failures ≡ 0 }
     requires none_held { output.old.held ≡ [] }
     ensures { (first : A.State) → A.stands answerer.old first → A.ends first ≡ false
-        → RunsOver (Steps A.ends (A.answers (A.setting answerer.old))) (A.closes (A.setting answerer.old)) A.wants first input.old input.new output.old output.new result }
+        → RunsOver (Steps A.ends (A.answers (A.setting answerer.old))) (ClosesAs (A.closes (A.setting answerer.old)) (A.stands answerer.new)) A.wants first input.old input.new output.old output.new result }
 {
     let mut line = Line::new(alloc)?;
     for count in 0..most_lines() {
@@ -98,6 +101,7 @@ fn finish<A: Answerer, K: Sink>(
 ) -> Result<(), RunFault>
     ensures closed { (now : A.State) → A.stands answerer.old now
         → Closes (A.closes (A.setting answerer.old)) now output.old output.new ⊎ Puts output.old output.new [] }
+    ensures stood { (now : A.State) → A.stands answerer.old now → A.stands answerer.new now }
     ensures ok { OnOk result ((output.new.failures ≡ 0) × IsOut output.new) }
     ensures ok_closed { (now : A.State) → A.stands answerer.old now
         → OnOk result (Closes (A.closes (A.setting answerer.old)) now output.old output.new) }

@@ -4,13 +4,14 @@ ghost use Rattle.std.specs.Prelude.{◌≡◌};
 ghost use Rattle.regd.specs.Ends.{ended_of};
 
 use crate::faults::{CommandLineFault, RunFault};
+use crate::programs::Outcome;
 use crate::told::Told;
 
 /// The end of a run, as the caller gets to know it.
 #[derive(Debug, Drop)]
 pub struct Ended {
-    /// The exit status: 0 where all was done, 2 for a command line that is none, and 1 for a device that failed and for
-    /// want of memory.
+    /// The exit status: 0 where all was done, 3 where an audit found a fault, 2 for a command line that is none, and 1 for a
+    /// device that failed and for want of memory.
     pub status: u8,
     /// What standard error gets.
     pub told: Told<clap::Error>,
@@ -18,11 +19,12 @@ pub struct Ended {
 
 impl Ended {
     /// The end, by why the command line is none, or else by what the run of its settings answered.
-    pub fn of(answered: Result<Result<(), RunFault>, CommandLineFault>) -> Ended
+    pub fn of(answered: Result<Result<Outcome, RunFault>, CommandLineFault>) -> Ended
         ensures { result ≡ ended_of answered }
     {
         match answered {
-            Ok(Ok(())) => Ended::with(0, Told::Nothing),
+            Ok(Ok(Outcome::Done)) => Ended::with(0, Told::Nothing),
+            Ok(Ok(Outcome::Denied)) => Ended::with(3, Told::Nothing),
             Ok(Err(RunFault::Input)) => Ended::with(1, Told::Input),
             Ok(Err(RunFault::Output)) => Ended::with(1, Told::Output),
             Ok(Err(RunFault::NoMemory)) | Err(CommandLineFault::NoMemory) => Ended::with(

@@ -3,13 +3,15 @@
 //! - [`Settings`]: what a command line asks for.
 //! - [`Answerer`]: what answers the lines of an input; [`run_lines`]: a run of any of them over the bytes.
 //! - [`plain`]: the program `regd plain`, from the bytes of request lines to the bytes of reply lines; [`schedule`]: the
-//!   program `regd schedule`, from event lines to their answers and the order of the calls. [`Program`] and [`run_settings`]: the
-//!   program that the settings ask for.
+//!   program `regd schedule`, from event lines to their answers and the order of the calls; [`audit`]: the program `regd audit`,
+//!   from records of calls to the verdict on them. [`Program`] and [`run_settings`]: the program that the settings ask for, and an
+//!   [`Outcome`] where it got to its end.
 //! - [`RunFault`] and [`CommandLineFault`]: why a run stopped, and why a command line is none.
 //! - [`a_line_gives_its_domain`]: which words give which domain.
 //! - [`Ended`]: what the caller gets to know of that, the exit status and what standard error gets, a [`Told`].
 #![tactic(auto)]
 
+mod audit_engine;
 mod driver;
 mod ended;
 mod faults;
@@ -21,12 +23,13 @@ mod seed;
 mod settings;
 mod told;
 
+pub use audit_engine::audit;
 pub use driver::{Answerer, run_lines};
 pub use ended::Ended;
 pub use faults::{CommandLineFault, RunFault};
 pub use laws::a_line_gives_its_domain;
 pub use plain_engine::plain;
-pub use programs::{Program, run_settings};
+pub use programs::{Outcome, Program, run_settings};
 use reg_lines::{CountedDevice, Input, Output};
 pub use schedule_engine::schedule;
 pub use settings::Settings;
@@ -45,7 +48,7 @@ fn main(rt: HostRuntime) -> ExitCode {
 /// From the command line to the end of the input: why the command line is none, or else what the run answered.
 fn run<R: Env + io::Input + Print + AllocGlobal>(
     rt: &R,
-) -> Result<Result<(), RunFault>, CommandLineFault> {
+) -> Result<Result<Outcome, RunFault>, CommandLineFault> {
     let settings = settings_of_process(rt)?;
     let mut input = Input::new(CountedDevice::new(rt.reader()));
     let mut output = Output::new(CountedDevice::new(io::writer(rt)));

@@ -1,8 +1,9 @@
 //! Which programs are there, and what does each do?
 
 ghost use Rattle.std.specs.Prelude.{◌≡◌, []};
-ghost use Rattle.regd.specs.Programs.{RunsAs};
+ghost use Rattle.regd.specs.Programs.{RunsAs, done_of};
 
+use crate::audit_engine::audit;
 use crate::faults::RunFault;
 use crate::plain_engine::plain;
 use crate::schedule_engine::schedule;
@@ -17,6 +18,8 @@ pub enum Program {
     Plain,
     /// Event lines are answered by a machine of calls.
     Schedule,
+    /// Records of calls are audited.
+    Audit,
 }
 
 impl Program {
@@ -30,8 +33,18 @@ impl Program {
         match self {
             Program::Plain => "plain",
             Program::Schedule => "schedule",
+            Program::Audit => "audit",
         }
     }
+}
+
+/// How a run ended that got to its end.
+#[derive(Clone, Copy, Debug, PartialEq, Eq, Drop)]
+pub enum Outcome {
+    /// All was done that was asked for; an audit found no fault.
+    Done,
+    /// An audit found a fault.
+    Denied,
 }
 
 /// Runs the program that the settings ask for, with their trust domain and seed: each line of the input is answered, in order.
@@ -40,7 +53,7 @@ pub fn run_settings<S: Source, K: Sink>(
     settings: Settings,
     input: &mut Input<S>,
     output: &mut Output<K>,
-) -> Result<(), RunFault>
+) -> Result<Outcome, RunFault>
     requires input { input.old.failures ≡ 0 }
     requires output { output.old.failures ≡ 0 }
     requires none_held { output.old.held ≡ [] }
@@ -50,7 +63,18 @@ pub fn run_settings<S: Source, K: Sink>(
     let seed = settings.seed();
     let domain = settings.into_domain();
     match program {
-        Program::Plain => plain(alloc, domain, seed, input, output),
-        Program::Schedule => schedule(alloc, domain, seed, input, output),
+        Program::Plain => done(plain(alloc, domain, seed, input, output)),
+        Program::Schedule => done(schedule(alloc, domain, seed, input, output)),
+        Program::Audit => audit(alloc, domain, input, output),
+    }
+}
+
+/// What a run comes to that denies nothing.
+fn done(ran: Result<(), RunFault>) -> Result<Outcome, RunFault>
+    ensures { result ≡ done_of ran }
+{
+    match ran {
+        Ok(()) => Ok(Outcome::Done),
+        Err(fault) => Err(fault),
     }
 }

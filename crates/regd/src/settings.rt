@@ -8,7 +8,8 @@ use spiffe_name::TrustDomain;
 use std::alloc::{AllocError, Global};
 use std::marker::Model;
 
-/// What `regd` was asked to do: `regd plain --domain D [--seed S]`, or `regd schedule --domain D [--seed S]`.
+/// What `regd` was asked to do: `regd plain --domain D [--seed S]`, `regd schedule --domain D [--seed S]`, or
+/// `regd audit --domain D`.
 #[derive(Debug, Drop)]
 pub struct Settings {
     program: Program,
@@ -86,7 +87,7 @@ impl Settings {
 ghost use Rattle.std.specs.Prelude.{◌≡◌, IfOk, false, option_map};
 ghost use Rattle.clap.specs.Words.{app_of, rule_of, subcommand_rows_of};
 ghost use Rattle.clap.specs.declared.Command.TheViews.{out-Command};
-ghost use Rattle.regd.specs.CommandLine.{domain_option, option_in, plain_command, program_in, regd_command, schedule_command, seed_option};
+ghost use Rattle.regd.specs.CommandLine.{audit_command, book_commands, domain_option, option_in, plain_command, program_in, regd_command, schedule_command, seed_option};
 
 fn domain_option<'a>(alloc: Global) -> Arg<'a>
     ensures rule { rule_of result ≡ domain_option }
@@ -132,9 +133,18 @@ fn schedule_command<'a>(alloc: Global) -> Result<Command<'a>, AllocError>
         .arg(seed_option(alloc))
 }
 
-/// The program as the command-line parser is told of it.
-fn regd_command<'a>(alloc: Global) -> Result<Command<'a>, AllocError>
-    ensures { IfOk result (λ command. app_of command ≡ regd_command) }
+fn audit_command<'a>(alloc: Global) -> Result<Command<'a>, AllocError>
+    ensures app { IfOk result (λ command. app_of command ≡ audit_command) }
+    ensures local { IfOk result (λ command. (out-Command command).has_globals ≡ false) }
+{
+    Command::new(alloc, "audit")
+        .about("Audits the records of calls, one thread: standard input to standard output")
+        .arg(domain_option(alloc))
+}
+
+/// The program with those of its programs that keep a book.
+fn book_commands<'a>(alloc: Global) -> Result<Command<'a>, AllocError>
+    ensures { IfOk result (λ command. app_of command ≡ book_commands) }
 {
     Command::new(alloc, "regd")
         .about("A workload registration server")
@@ -144,14 +154,24 @@ fn regd_command<'a>(alloc: Global) -> Result<Command<'a>, AllocError>
         .subcommand(schedule_command(alloc)?)
 }
 
+/// The program as the command-line parser is told of it.
+fn regd_command<'a>(alloc: Global) -> Result<Command<'a>, AllocError>
+    ensures { IfOk result (λ command. app_of command ≡ regd_command) }
+{
+    book_commands(alloc)?.subcommand(audit_command(alloc)?)
+}
+
 /// The program that the words ask for.
 fn program_of(matches: &ArgMatches<'_>) -> Program
     ensures { result ≡ program_in (subcommand_rows_of matches.now) }
 {
-    match option_word(matches, "schedule", "domain") {
-        Some(_) => Program::Schedule,
-        None => Program::Plain,
+    if option_word(matches, "schedule", "domain").is_some() {
+        return Program::Schedule;
     }
+    if option_word(matches, "audit", "domain").is_some() {
+        return Program::Audit;
+    }
+    Program::Plain
 }
 
 /// The text that the words give to the option `id` of `program`, where that is the program that they name.

@@ -1,5 +1,6 @@
 //! Command lines and what is told of them, word for word.
 
+mod audits;
 mod engine;
 mod ids;
 mod limits;
@@ -12,7 +13,7 @@ mod schedules;
 mod story;
 mod tokens;
 
-use crate::{CommandLineFault, Ended, RunFault, Settings, a_line_gives_its_domain};
+use crate::{CommandLineFault, Ended, Outcome, RunFault, Settings, a_line_gives_its_domain};
 use spiffe_name::IdRefusal;
 use std::alloc::Global;
 use std::test::Fail;
@@ -127,8 +128,8 @@ fn the_parser_refuses_every_other_word(rt: HostRuntime) -> Result<(), Fail> {
             "error: 'regd' requires a subcommand but one was not provided\n",
         ),
         (
-            &["regd", "audit", "--domain", "A"],
-            "error: unrecognized subcommand 'audit'\n",
+            &["regd", "session", "--domain", "A"],
+            "error: unrecognized subcommand 'session'\n",
         ),
         (
             &["regd", "plain"],
@@ -162,7 +163,8 @@ fn the_parser_refuses_every_other_word(rt: HostRuntime) -> Result<(), Fail> {
 #[test]
 fn each_end_has_its_status_and_its_text(rt: HostRuntime) -> Result<(), Fail> {
     let ends = [
-        (Ok(Ok(())), 0, ""),
+        (Ok(Ok(Outcome::Done)), 0, ""),
+        (Ok(Ok(Outcome::Denied)), 3, ""),
         (Ok(Err(RunFault::Input)), 1, "regd: input failed\n"),
         (Ok(Err(RunFault::Output)), 1, "regd: output failed\n"),
         (Ok(Err(RunFault::NoMemory)), 1, "regd: out of memory\n"),

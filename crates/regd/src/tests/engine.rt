@@ -1,6 +1,6 @@
 //! The engine over memory: what a run answers, and tables of what it has to answer.
 
-use crate::{RunFault, Settings, plain, run_settings};
+use crate::{Outcome, RunFault, Settings, plain, run_settings};
 use reg_lines::{CountedDevice, Input, Output};
 use serde_json::Value;
 use spiffe_name::TrustDomain;
@@ -60,6 +60,18 @@ pub fn answers_of_words(
     words: &[&str],
     bytes: &[u8],
 ) -> Result<Vec<u8>, Fail> {
+    let (outcome, answers) = told_of_words(rt, alloc, words, bytes)?;
+    assert_eq!(rt; outcome, Outcome::Done);
+    Ok(answers)
+}
+
+/// The same, and how the run ended.
+pub fn told_of_words(
+    rt: &impl Abort,
+    alloc: Global,
+    words: &[&str],
+    bytes: &[u8],
+) -> Result<(Outcome, Vec<u8>), Fail> {
     let settings = Settings::from_words(alloc, words)
         .ok()
         .ok_or("no settings")?;
@@ -69,7 +81,10 @@ pub fn answers_of_words(
     let mut output = Output::new(CountedDevice::new(&mut taker));
     let ended = run_settings(alloc, settings, &mut input, &mut output);
     drop(output);
-    compact_bytes(rt, alloc, ended, taker)
+    let Ok(outcome) = ended else {
+        return Err(Fail::from("the run failed"));
+    };
+    Ok((outcome, compact_bytes(rt, alloc, Ok(()), taker)?))
 }
 
 /// What a run that ended well has written; each of its lines is compact.

@@ -4,7 +4,7 @@ use Rattle.std.proofs.lemmas.Grind.{common_steps}
 use Rattle.regd.specs.Driver.{RunsOver}
 use Rattle.regd.specs.Schedules.{AnswersEvent, ClosesWithOrder, an_event_answer, start}
 use Rattle.regd.specs.declared.faults.RunFault.TheVariants.{NoMemory}
-use Rattle.regd.proofs.Driving.{RunsOver-no_memory}
+use Rattle.regd.proofs.Driving.{RunsOver-closes, RunsOver-no_memory}
 use Rattle.regd.proofs.schedule_engine.schedule.Goals as goal
 
 pub returns-in_err-run : goal.returns-in_err-run
@@ -15,4 +15,4 @@ returns-in_err-run g c =
 pub returns : goal.returns
 returns g c =
     let P : List ℕ → Type 0 = λ d. RunsOver (AnswersEvent d) ClosesWithOrder ⊤ (start c.args.domain c.args.seed) c.args.input.now c.run_lines.new.input c.args.output.now c.run_lines.new.output c.run_lines.result in
-    subst P c.in_ok-run.ensures.domain (c.run_lines.ensures (start c.args.domain c.args.seed) c.in_ok-run.ensures.stands refl)
+    subst P c.in_ok-run.ensures.domain (RunsOver-closes _ _ ClosesWithOrder _ _ _ _ _ _ _ (λ now end k. k.0) (c.run_lines.ensures (start c.args.domain c.args.seed) c.in_ok-run.ensures.stands refl))
