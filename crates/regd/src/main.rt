@@ -3,8 +3,8 @@
 //! - [`Settings`]: what a command line asks for.
 //! - [`Answerer`]: what answers the lines of an input; [`run_lines`]: a run of any of them over the bytes.
 //! - [`plain`]: the program `regd plain`, from the bytes of request lines to the bytes of reply lines; [`schedule`]: the
-//!   program `regd schedule`, from event lines to their answers and the order of the calls. [`Program`] and [`run_settings`]: the
-//!   program that the settings ask for.
+//!   program `regd schedule`, from event lines to their answers and the order of the calls; [`record_schedule`]: the same with
+//!   `--record`, to the records of the calls alone. [`Program`] and [`run_settings`]: the program that the settings ask for.
 //! - [`RunFault`] and [`CommandLineFault`]: why a run stopped, and why a command line is none.
 //! - [`a_line_gives_its_domain`]: which words give which domain.
 //! - [`Ended`]: what the caller gets to know of that, the exit status and what standard error gets, a [`Told`].
@@ -16,6 +16,7 @@ mod faults;
 mod laws;
 mod plain_engine;
 mod programs;
+mod record_engine;
 mod schedule_engine;
 mod seed;
 mod settings;
@@ -27,6 +28,7 @@ pub use faults::{CommandLineFault, RunFault};
 pub use laws::a_line_gives_its_domain;
 pub use plain_engine::plain;
 pub use programs::{Program, run_settings};
+pub use record_engine::record_schedule;
 use reg_lines::{CountedDevice, Input, Output};
 pub use schedule_engine::schedule;
 pub use settings::Settings;

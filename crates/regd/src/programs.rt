@@ -5,6 +5,7 @@ ghost use Rattle.regd.specs.Programs.{RunsAs};
 
 use crate::faults::RunFault;
 use crate::plain_engine::plain;
+use crate::record_engine::record_schedule;
 use crate::schedule_engine::schedule;
 use crate::settings::Settings;
 use reg_lines::{Input, Output, Sink, Source};
@@ -17,6 +18,8 @@ pub enum Program {
     Plain,
     /// Event lines are answered by a machine of calls.
     Schedule,
+    /// Event lines are taken by a machine of calls, and the calls are recorded.
+    Record,
 }
 
 impl Program {
@@ -29,7 +32,7 @@ impl Program {
     {
         match self {
             Program::Plain => "plain",
-            Program::Schedule => "schedule",
+            Program::Schedule | Program::Record => "schedule",
         }
     }
 }
@@ -52,5 +55,6 @@ pub fn run_settings<S: Source, K: Sink>(
     match program {
         Program::Plain => plain(alloc, domain, seed, input, output),
         Program::Schedule => schedule(alloc, domain, seed, input, output),
+        Program::Record => record_schedule(alloc, domain, seed, input, output),
     }
 }
