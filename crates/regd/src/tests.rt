@@ -14,7 +14,9 @@ mod schedules;
 mod story;
 mod tokens;
 
-use crate::{CommandLineFault, Ended, Outcome, Program, RunFault, Settings, a_line_gives_its_domain};
+use crate::{
+    CommandLineFault, Ended, Outcome, Program, RunFault, Settings, a_line_gives_its_domain,
+};
 use spiffe_name::IdRefusal;
 use std::alloc::Global;
 use std::test::Fail;
