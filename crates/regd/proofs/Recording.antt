@@ -1,5 +1,5 @@
 -- The records of a machine's calls.
-use Rattle.std.proofs.Common.{◌≡◌, ◌+◌, ◌≤◌, ◌<◌, ℕ, zero, suc, ◌⊎◌, inl, inr, ⊎_elim, List, [], ◌∷◌, ◌++◌, take, length, get_or, Option, None, Some, Result, Ok, Err, refl, sym, ap, ◌∙◌, subst, arith}
+use Rattle.std.proofs.Common.{◌≡◌, ◌+◌, ◌≤◌, ◌<◌, ℕ, zero, suc, true, ◌⊎◌, inl, inr, ⊎_elim, List, [], ◌∷◌, ◌++◌, take, length, get_or, Option, None, Some, Result, Ok, Err, refl, sym, ap, ◌∙◌, subst, arith}
 use Rattle.std.specs.Prelude.{OnOk, IfSome}
 use Rattle.std.specs.Io.KnownBytes.{Appends}
 use Rattle.std.specs.List.{AllByRecursion, flat_map}
@@ -9,14 +9,14 @@ use Rattle.std.specs.Borrow.{Bor}
 use Rattle.entry_book.specs.declared.reply.Reply.{Reply}
 use Rattle.entry_book.specs.Book.{Book}
 use Rattle.entry_book.specs.Batches.{Batch}
-use Rattle.entry_book.specs.History.{books_after, first_books, reply_to}
+use Rattle.entry_book.specs.History.{books_after, first_books, is_committed, reply_to}
 use Rattle.entry_book.specs.Order.{Within}
 use Rattle.entry_book.proofs.Sets.{All-within}
 use Rattle.call_machine.specs.Calls.{Call, Stage, State, waiting, running, ready, answered, committed, conflict, call_at, first_state, told_of}
 use Rattle.call_machine.specs.Known.{Tells, TellsAnswer, TellsCall}
 use Rattle.call_machine.specs.Laws.{HoldReplies, IsOrder, IsStamped}
 use Rattle.call_machine.specs.Machine.{Runs}
-use Rattle.call_machine.specs.Schedules.{Answer, At, Different, EndedBefore, Happened, Headline, StandsBefore, accepted}
+use Rattle.call_machine.specs.Schedules.{Answer, At, Different, EndedBefore, GaveOut, HandedIn, Happened, Headline, IsListed, IsReplyOf, OneBatch, RunsFrom, StandsBefore, accepted}
 use Rattle.call_machine.specs.declared.call.CallAnswer.{CallAnswer}
 use Rattle.call_machine.specs.declared.call.CallAnswer.TheVariants as is
 use Rattle.call_machine.specs.declared.call.KnownCall.{KnownCall}
@@ -27,8 +27,11 @@ use Rattle.call_machine.specs.declared.event.Event.TheVariants.{Invoke}
 use Rattle.call_machine.specs.declared.event.Event.TheVariants as on
 use Rattle.call_machine.specs.declared.event.Told.{Told}
 use Rattle.call_machine.specs.declared.event.Told.TheVariants.{Replied}
-use Rattle.call_machine.proofs.Rows.{call_within}
-use Rattle.call_machine.proofs.Whole.{calls_are_stamped}
+use Rattle.call_machine.proofs.Events.{first_sound}
+use Rattle.call_machine.proofs.Line.{is_begun}
+use Rattle.call_machine.proofs.Rows.{call_within, same_call}
+use Rattle.call_machine.proofs.Ties.{first_tied}
+use Rattle.call_machine.proofs.Whole.{Stands, calls_are_stamped, runs_stand}
 use Rattle.reg_lines.specs.CallRecords.{record_of, record_with}
 use Rattle.reg_lines.specs.RecordLines.{record_json}
 use Rattle.reg_lines.specs.Runs.{IsRun}
@@ -36,7 +39,7 @@ use Rattle.reg_lines.specs.Stream.{OutputState, Puts}
 use Rattle.reg_lines.specs.declared.printing.records.CallRecord.{CallRecord}
 use Rattle.regd.specs.Answers.{as_line}
 use Rattle.regd.specs.Driver.{AppendsClosed, Closes}
-use Rattle.regd.specs.Recorded.{AppendsRecords, AreLegal, AreRecords, ClosesWithRecords, HasStamps, IsNotPast, IsRecordOf, Recorded, StampsInOrder, TakesEvent, TellsRecords, record_line}
+use Rattle.regd.specs.Recorded.{AppendsRecords, AreLegal, AreRecords, ClosesWithRecords, HasStamps, IsEnded, IsEndedAt, IsNotPast, IsRecordOf, Recorded, StampsInOrder, TakesEvent, TellsRecords, record_line}
 use Rattle.regd.specs.Schedules.{Scheduled, start}
 use Rattle.regd.specs.declared.faults.RunFault.{RunFault}
 
@@ -193,6 +196,62 @@ in_order log calls (n ∷ ns) (r ∷ rs) a s d strict =
       in_order log calls ns rs a.1 s.1 d.1 (λ b c v w e. ⊎_elim (λ p. absurd (apart b v p.0)) (λ t. t) (strict b c (inr v) (inr w) e)),
     )
 
+-- ---- their ends
+
+-- with the plain book's reply it has begun
+begun_told : (stage : Stage) (reply : Reply) → told_of stage ≡ Some (Replied reply) → is_begun stage ≡ true
+begun_told waiting reply e = absurd (cc)
+begun_told (running base made) reply e = absurd (cc)
+begun_told (ready base) reply e = absurd (cc)
+begun_told (conflict n) reply e = absurd (cc)
+begun_told (answered r) reply e = refl
+begun_told (committed r) reply e = refl
+
+-- a call that gave out a reply has replied
+gave_out : (log : List Happened) (s : State) → Stands log s → (n : ℕ) (call : Call) → call_at n s.calls ≡ Some call → (reply : Reply) → GaveOut log n reply → (k : ℕ) × (call.replied ≡ Some k)
+gave_out log s h n call found reply out =
+    let kept = h.tied.kept out.1.0 _ out.1.2 in
+    let within = call_within n s.calls call found in
+    let same : kept.0 ≡ call = same_call s.calls kept.0 call h.sound.numbers kept.1 within.0 (kept.2 ∙ sym within.1) in
+    (out.1.0 + 1, ap (λ (c : Call). c.replied) (sym same) ∙ kept.3)
+
+none_some : (k : ℕ) → None ≡ Some k → ⊥
+none_some k e = cc
+
+ended_by : (replied : Option ℕ) (invoked : ℕ) (reply : Reply) → (replied ≡ None → is_committed reply.outcome ≡ true) → ((k : ℕ) → replied ≡ Some k → invoked < k) → IsEndedAt replied invoked reply
+ended_by None invoked reply f g = f refl
+ended_by (Some k) invoked reply f g = g k refl
+
+-- the second list of books is the first one: both come from the batches of the calls
+have_ended : (log : List Happened) (s : State) → Stands log s → OneBatch log → ((n : ℕ) (call : Call) → call_at n s.calls ≡ Some call → IsStamped log call) → (books : List Book) (order : List ℕ) (records : List Recorded) → ((n : ℕ) → Within order n → IsListed log n) → AreRecords s.calls order records → AreLegal books records → RunsFrom log books order → AllByRecursion IsEnded records
+have_ended log s h one stamps books [] [] listed are legal runs = tt
+have_ended log s h one stamps books [] (r ∷ rs) listed are legal runs = absurd are
+have_ended log s h one stamps books (n ∷ ns) [] listed are legal runs = absurd are
+have_ended log s h one stamps books (n ∷ ns) (r ∷ rs) listed are legal runs =
+    let of = are.0 in
+    let call = of.call in
+    let within = call_within n s.calls call of.found in
+    let stamp = h.sound.stamped call within.0 in
+    let invoked = (stamps n call of.found).invoked in
+    let begun = begun_told call.stage r.reply of.holds in
+    let handed : HandedIn log n call.batch = subst (λ m. HandedIn log m call.batch) within.1 (call.invoked, invoked.0, invoked.1) in
+    let batch : runs.0 ≡ r.batch = one n runs.0 call.batch runs.1 handed ∙ sym of.batch_is in
+    let reply : reply_to runs.0 books ≡ r.reply = ap (λ b. reply_to b books) batch ∙ sym legal.0 in
+    let is_reply : IsReplyOf log n r.reply = subst (IsReplyOf log n) reply runs.2 in
+    let rest : RunsFrom log (books_after r.batch books) ns = subst (λ b. RunsFrom log (books_after b books) ns) batch runs.3 in (
+      ended_by r.replied r.invoked r.reply
+          (λ none. ⊎_elim
+          (λ c. (is_reply.committed c.0 c.1).1)
+          (λ g. let k = gave_out log s h n call of.found g.0 g.1 in absurd (none_some k.0 (sym none ∙ (of.replied_is ∙ k.1))))
+          (listed n (inl refl)))
+          (λ k e.
+          let late = (stamp.over k (sym of.replied_is ∙ e)).2 begun in
+          let early = (stamp.begun begun).0 in
+          let same = of.invoked_is in
+          omega arith),
+      have_ended log s h one stamps (books_after r.batch books) ns rs (λ m w. listed m (inr w)) are.1 legal.1 rest,
+    )
+
 -- ---- what the end of a run tells
 
 pub tells_records : (own : List ℕ) (last : Scheduled) (order : List ℕ) → Runs (first_state own) last.events last.answers last.machine → IsOrder last.machine order → Headline (accepted last.events last.answers) order → HoldReplies last.machine.calls first_books order → (records : List Recorded) × TellsRecords last order records (flat_map record_line records)
@@ -200,6 +259,8 @@ tells_records own last order runs is headline held =
     let log = accepted last.events last.answers in
     let calls = last.machine.calls in
     let found = records_of calls first_books order held in
+    let stamps : (n : ℕ) (call : Call) → call_at n calls ≡ Some call → IsStamped log call = λ n call at. calls_are_stamped own last.events last.answers last.machine n call runs at in
+    let stands : Stands log last.machine = runs_stand last.events last.answers [] (first_state own) last.machine (record { sound = first_sound own; tied = first_tied own }) runs in
     let stamped = have_stamps log calls (λ n call at. calls_are_stamped own last.events last.answers last.machine n call runs at) order found.0 found.1 in (
       found.0,
       record {
@@ -207,6 +268,7 @@ tells_records own last order runs is headline held =
         headline = headline;
         records = found.1;
         stamped = stamped;
+        ended = have_ended log last.machine stands headline.one_batch stamps first_books order found.0 (λ n w. (headline.serial.listed n).0 w) found.1 found.2 headline.legal;
         legal = found.2;
         in_order = in_order log calls order found.0 found.1 stamped headline.serial.once (λ a b v w e. headline.strict a b ((headline.serial.listed a).0 v) ((headline.serial.listed b).0 w) e);
         end_is = refl;

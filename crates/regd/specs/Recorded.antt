@@ -1,11 +1,11 @@
 -- What the engine `record` writes: nothing line by line, and in the end the records of the machine's calls.
-use Rattle.std.specs.Prelude.{◌≡◌, ◌≤◌, ℕ, ⊤, List, [], ◌∷◌, Option, Some, Result, OnOk, IfSome, refl}
+use Rattle.std.specs.Prelude.{◌≡◌, ◌<◌, ◌≤◌, ℕ, true, ⊤, List, [], ◌∷◌, Option, None, Some, Result, OnOk, IfSome, refl}
 use Rattle.std.specs.Io.KnownBytes.{Appends}
 use Rattle.std.specs.List.{AllByRecursion, flat_map}
 use Rattle.entry_book.specs.declared.reply.Reply.{Reply}
 use Rattle.entry_book.specs.Batches.{Batch}
 use Rattle.entry_book.specs.Book.{Book}
-use Rattle.entry_book.specs.History.{books_after, first_books, reply_to}
+use Rattle.entry_book.specs.History.{books_after, first_books, is_committed, reply_to}
 use Rattle.call_machine.specs.Calls.{Call, call_at, told_of}
 use Rattle.call_machine.specs.Laws.{IsOrder}
 use Rattle.call_machine.specs.Schedules.{At, Happened, Headline, accepted}
@@ -50,6 +50,14 @@ abbrev pub StampsInOrder : List Recorded → Type 0
 StampsInOrder [] = ⊤
 StampsInOrder (r ∷ rs) = AllByRecursion (IsNotPast r) rs × StampsInOrder rs
 
+-- It was replied after its invoke; or it wasn't, and its reply is that of a batch that was committed.
+abbrev pub IsEndedAt : Option ℕ → ℕ → Reply → Type 0
+IsEndedAt None invoked reply = is_committed reply.outcome ≡ true
+IsEndedAt (Some n) invoked reply = invoked < n
+
+abbrev pub IsEnded : Recorded → Type 0
+IsEnded r = IsEndedAt r.replied r.invoked r.reply
+
 -- ---- records of a machine's calls
 
 -- The stamps are numbers of accepted events: the one that handed in the batch, and the one that gave out the reply.
@@ -80,12 +88,13 @@ AreRecords calls (n ∷ ns) (r ∷ rs) = IsRecordOf calls n r × AreRecords call
 abbrev pub TakesEvent : List ℕ → Scheduled → List ℕ → Scheduled → List ℕ → Type 0
 TakesEvent domain now line next reply = (reply ≡ []) × (answer : List ℕ) × AnswersEvent domain now line next answer
 
--- The text in the end is the records of the machine's calls, a line each, in an order of which the headline holds for the events and for what they were answered. Their stamps are those of the events, the plain book gives them their replies in this order, and by their stamps alone it is strict.
+-- The text in the end is the records of the machine's calls, a line each, in an order of which the headline holds for the events and for what they were answered. Their stamps are those of the events, each was replied after its invoke or was committed, the plain book gives them their replies in this order, and by their stamps alone it is strict.
 pub record TellsRecords (last : Scheduled) (order : List ℕ) (recorded : List Recorded) (end : List ℕ) : Type 0 where
   pub is_order : IsOrder last.machine order
   pub headline : Headline (accepted last.events last.answers) order
   pub records : AreRecords last.machine.calls order recorded
   pub stamped : AllByRecursion (HasStamps (accepted last.events last.answers)) recorded
+  pub ended : AllByRecursion IsEnded recorded
   pub legal : AreLegal first_books recorded
   pub in_order : StampsInOrder recorded
   pub end_is : end ≡ flat_map record_line recorded
