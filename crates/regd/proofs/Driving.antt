@@ -276,27 +276,27 @@ front_weaker step more less w first (Some bytes) a b k = (k.0, closed_weaker ste
 
 pub RunsOver-closes : {State V : Type 0} (step : State → List ℕ → State → List ℕ → Type 0) (more less : State → List ℕ → Type 0) (wants : Type 0) (first : State) (input rest : InputState) (output out : OutputState) (result : Result V RunFault) → ((now : State) (end : List ℕ) → more now end → less now end) → RunsOver step more wants first input rest output out result → RunsOver step less wants first input rest output out result
 RunsOver-closes step more less wants first input rest output out result w r = record {
-    text = text_weaker step more less w first result input.left output.written out.written r.text;
-    done = r.done;
-    input_failed = r.input_failed;
-    output_failed = r.output_failed;
-    so_far = r.so_far;
-    no_memory = r.no_memory;
-    front = front_weaker step more less w first input.left output.written out.written r.front;
-  }
+  text = text_weaker step more less w first result input.left output.written out.written r.text;
+  done = r.done;
+  input_failed = r.input_failed;
+  output_failed = r.output_failed;
+  so_far = r.so_far;
+  no_memory = r.no_memory;
+  front = front_weaker step more less w first input.left output.written out.written r.front;
+}
 
 -- ---- the same of another result
 
 pub RunsOver-ok : {State V W : Type 0} (step : State → List ℕ → State → List ℕ → Type 0) (closes : State → List ℕ → Type 0) (wants : Type 0) (first : State) (input rest : InputState) (output out : OutputState) (ran : Result V RunFault) (x : V) (y : W) → ran ≡ Ok x → RunsOver step closes wants first input rest output out ran → RunsOver {T = W} step closes wants first input rest output out (Ok y)
 RunsOver-ok step closes wants first input rest output out (Ok z) x y e r = record {
-    text = r.text;
-    done = r.done;
-    input_failed = tt;
-    output_failed = tt;
-    so_far = tt;
-    no_memory = tt;
-    front = r.front;
-  }
+  text = r.text;
+  done = r.done;
+  input_failed = tt;
+  output_failed = tt;
+  so_far = tt;
+  no_memory = tt;
+  front = r.front;
+}
 RunsOver-ok step closes wants first input rest output out (Err z) x y e r = absurd (cc)
 
 pub RunsOver-err : {State V W : Type 0} (step : State → List ℕ → State → List ℕ → Type 0) (closes : State → List ℕ → Type 0) (wants : Type 0) (first : State) (input rest : InputState) (output out : OutputState) (ran : Result V RunFault) (x : RunFault) → ran ≡ Err x → RunsOver step closes wants first input rest output out ran → RunsOver {T = W} step closes wants first input rest output out (Err x)

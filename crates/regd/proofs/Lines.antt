@@ -5,7 +5,7 @@ use Rattle.clap.specs.Words.{Text}
 use Rattle.clap.proofs.OnLiterals.{clap_on_literals}
 use Rattle.regd.specs.CommandLine.{domain_word, line_faults, program_asked}
 use Rattle.regd.specs.declared.programs.Program.TheVariants.{Plain}
-use Rattle.regd.specs.Laws.{DomainApart, HelpIsRefused, JoinedDomain, JoinedSeed, NoSeed, NothingIsRefused}
+use Rattle.regd.specs.Laws.{DomainApart, HelpIsRefused, JoinedDomain, JoinedRecord, JoinedSeed, NoSeed, NothingIsRefused}
 
 pub joined_domain : JoinedDomain
 unfolding clap_on_literals
@@ -14,6 +14,10 @@ joined_domain name domain = (record { taken = refl; asked = refl; given = refl }
 pub joined_seed : JoinedSeed
 unfolding clap_on_literals
 joined_seed name domain seed = (record { taken = refl; asked = refl; given = refl }, refl)
+
+pub joined_record : JoinedRecord
+unfolding clap_on_literals
+joined_record name domain = (record { taken = refl; asked = refl; given = refl }, record { taken = refl; asked = refl; given = refl })
 
 pub no_seed : NoSeed
 unfolding clap_on_literals

@@ -1,12 +1,14 @@
 -- Which words are a command line of `regd`, by the command-line parser's own account of its words.
-use Rattle.std.specs.Prelude.{codes, if◌then◌else◌, is_some, length, option_and_then, true, unwrap_or, ◌≡◌, ◌≢◌, ℕ, List, None, Option, Some, [], ⊤}
+use Rattle.std.specs.Prelude.{Bool, codes, false, if◌then◌else◌, is_some, length, option_and_then, true, unwrap_or, ◌≡◌, ◌≢◌, ℕ, List, None, Option, Some, [], ⊤}
+use Rattle.std.specs.Option.{option_map_or}
 use Rattle.std.specs.Str.{bytes_eq}
 use Rattle.clap.specs.Words.{App, IsAmong, Kinds, Row, Rule, Text, fault_of, first_of, kind_of, new_app, new_rule, subcommand_of, with_rule, with_subcommand}
 use Rattle.clap.specs.Simple.{on_top}
+use Rattle.clap.specs.declared.builder.action.ArgAction.TheVariants.{SetTrue}
 use Rattle.hex.specs.Hex.{IsBytes, encode_lower}
 use Rattle.spiffe_name.specs.Domain.{domain_refusal}
 use Rattle.regd.specs.declared.programs.Program.{Program}
-use Rattle.regd.specs.declared.programs.Program.TheVariants.{Audit, Plain, Schedule}
+use Rattle.regd.specs.declared.programs.Program.TheVariants.{Audit, Plain, Record, Schedule}
 use Rattle.regd.specs.declared.faults.CommandLineFault.{CommandLineFault}
 use Rattle.regd.specs.declared.faults.CommandLineFault.TheVariants.{Refused, Domain, Seed, NotText, NoMemory}
 
@@ -27,13 +29,20 @@ seed_option = record (new_rule (codes "seed")) {
   value_names = 1;
 }
 
+-- `--record`, which is given or not
+abbrev pub record_option : Rule
+record_option = record (new_rule (codes "record")) {
+  long = Some (codes "record");
+  action = Some SetTrue;
+}
+
 -- `plain --domain D [--seed S]`
 abbrev pub plain_command : App
 plain_command = with_rule (with_rule (new_app (codes "plain")) domain_option) seed_option
 
--- `schedule --domain D [--seed S]`
+-- `schedule --domain D [--seed S] [--record]`
 abbrev pub schedule_command : App
-schedule_command = with_rule (with_rule (new_app (codes "schedule")) domain_option) seed_option
+schedule_command = with_rule (with_rule (with_rule (new_app (codes "schedule")) domain_option) seed_option) record_option
 
 -- `audit --domain D`
 abbrev pub audit_command : App
@@ -64,11 +73,16 @@ option_in name id = option_and_then (λ program. if bytes_eq program.0 name then
 abbrev pub program_name : Program → Text
 program_name Plain = codes "plain"
 program_name Schedule = codes "schedule"
+program_name Record = codes "schedule"
 program_name Audit = codes "audit"
+
+-- `--record` was given to `schedule`: the parser gives such an option the text `true` then, and `false` where it isn't given
+abbrev pub is_recorded : Option (Text × List Row) → Bool
+is_recorded met = option_map_or (λ word. bytes_eq word (codes "true")) (option_in (codes "schedule") (codes "record") met) false
 
 -- the program that was met: each needs its domain, so it is the one to which a domain was given
 abbrev pub program_in : Option (Text × List Row) → Program
-program_in met = if is_some (option_in (codes "schedule") (codes "domain") met) then Schedule else (if is_some (option_in (codes "audit") (codes "domain") met) then Audit else Plain)
+program_in met = if is_some (option_in (codes "schedule") (codes "domain") met) then (if is_recorded met then Record else Schedule) else (if is_some (option_in (codes "audit") (codes "domain") met) then Audit else Plain)
 
 -- the program that the words ask for
 abbrev pub program_asked : List Text → Program

@@ -4,7 +4,7 @@ use Rattle.clap.specs.Words.{Text}
 use Rattle.clap.specs.declared.error.ErrorKind.TheVariants.{DisplayHelp, MissingSubcommand}
 use Rattle.regd.specs.CommandLine.{domain_word, first_seed, line_faults, program_asked, seed_text}
 use Rattle.regd.specs.declared.programs.Program.{Program}
-use Rattle.regd.specs.declared.programs.Program.TheVariants.{Audit, Plain, Schedule}
+use Rattle.regd.specs.declared.programs.Program.TheVariants.{Audit, Plain, Record, Schedule}
 
 -- the parser takes the words, and they ask for this program and give this domain
 pub record GivesDomain (words : List Text) (program : Program) (domain : Text) : Type 0 where
@@ -35,6 +35,12 @@ JoinedSeed = (name domain seed : Text)
 abbrev pub NoSeed : Type 0
 NoSeed = (name domain : Text)
     → seed_text (name ∷ codes "plain" ∷ (codes "--domain=" ++ domain) ∷ []) ≡ first_seed
+
+-- `regd schedule --domain=D --record` asks for the records and gives D, and so does `--record` in front
+abbrev pub JoinedRecord : Type 0
+JoinedRecord = (name domain : Text)
+    → GivesDomain (name ∷ codes "schedule" ∷ (codes "--domain=" ++ domain) ∷ codes "--record" ∷ []) Record domain
+    × GivesDomain (name ∷ codes "schedule" ∷ codes "--record" ∷ (codes "--domain=" ++ domain) ∷ []) Record domain
 
 -- `regd --help` and `regd plain --help` are refused, with the help as the refusal's text
 abbrev pub HelpIsRefused : Type 0

@@ -7,4 +7,5 @@ pub mod Driver
 pub mod Ends
 pub mod Laws
 pub mod Programs
+pub mod Recorded
 pub mod Schedules

@@ -3,12 +3,13 @@ use Rattle.std.specs.Prelude.{◌≡◌, List, ℕ, Result, Ok, Err}
 use Rattle.reg_lines.specs.Stream.{InputState, OutputState}
 use Rattle.regd.specs.Answers.{RunsPlain}
 use Rattle.regd.specs.Audited.{RunsAudit}
+use Rattle.regd.specs.Recorded.{RunsRecord}
 use Rattle.regd.specs.Schedules.{RunsSchedule}
 use Rattle.regd.specs.declared.faults.RunFault.{RunFault}
 use Rattle.regd.specs.declared.programs.Outcome.{Outcome}
 use Rattle.regd.specs.declared.programs.Outcome.TheVariants.{Done}
 use Rattle.regd.specs.declared.programs.Program.{Program}
-use Rattle.regd.specs.declared.programs.Program.TheVariants.{Audit, Plain, Schedule}
+use Rattle.regd.specs.declared.programs.Program.TheVariants.{Audit, Plain, Record, Schedule}
 
 -- a run that denies nothing
 abbrev pub done_of : Result Unit RunFault → Result Outcome RunFault
@@ -19,4 +20,5 @@ done_of (Err fault) = Err fault
 abbrev pub RunsAs : Program → List ℕ → List ℕ → InputState → InputState → OutputState → OutputState → Result Outcome RunFault → Type 0
 RunsAs Plain domain seed input rest output out result = (ran : Result Unit RunFault) × (result ≡ done_of ran) × RunsPlain domain seed input rest output out ran
 RunsAs Schedule domain seed input rest output out result = (ran : Result Unit RunFault) × (result ≡ done_of ran) × RunsSchedule domain seed input rest output out ran
+RunsAs Record domain seed input rest output out result = (ran : Result Unit RunFault) × (result ≡ done_of ran) × RunsRecord domain seed input rest output out ran
 RunsAs Audit domain seed input rest output out result = RunsAudit domain input rest output out result

@@ -9,12 +9,15 @@ use Rattle.call_machine.specs.declared.event.Event.{Event}
 use Rattle.reg_lines.specs.EventAnswers.{event_json, event_refusal_json, order_json}
 use Rattle.reg_lines.specs.Events.{spelled_event}
 use Rattle.reg_lines.specs.Ids.{first_ids}
-use Rattle.reg_lines.specs.Refusals.{fault_json, no_memory_json}
-use Rattle.reg_lines.specs.Stream.{InputState, OutputState, Puts}
+use Rattle.reg_lines.specs.Refusals.{fault_json, no_memory_json, refusal_json}
+use Rattle.reg_lines.specs.Runs.{StepsKept}
+use Rattle.reg_lines.specs.Stream.{InputState, OutputState}
 use Rattle.reg_lines.specs.declared.fault.Fault.{Fault}
 use Rattle.regd.specs.Answers.{as_line}
 use Rattle.regd.specs.Driver.{RunsOver}
 use Rattle.regd.specs.declared.faults.RunFault.{RunFault}
+use Rattle.regd.specs.declared.schedule_engine.LineAnswer.{LineAnswer}
+use Rattle.regd.specs.declared.schedule_engine.LineAnswer.TheVariants.{Done, Refused, NotRead}
 
 -- What a run has come to: the events that lines spelled and what each was answered, where the machine stands after them, the
 -- ids that are still to be given, and how many lines were read.
@@ -85,19 +88,27 @@ pub record Counts (domain : List ℕ) (machine : State) (lines : ℕ) : Type 0 w
   pub of_domain : machine.domain ≡ domain
   pub count : machine.count ≤ lines
 
--- one event was applied, and its answer was put
-abbrev pub Applied : State → Event → ℕ → OutputState → OutputState → State → Type 0
-Applied machine event line old new after = (answer : Answer) × Applies machine event answer after × Puts old new (as_line (answer_json line answer))
+-- what a line is answered, as it is printed
+abbrev pub line_answer_json : LineAnswer → List ℕ
+line_answer_json (Done done) = event_json done
+line_answer_json (Refused event) = event_refusal_json event.line event.refusal
+line_answer_json (NotRead refusal) = refusal_json refusal
 
--- One line was answered: its reply was put, and this is where it left the machine and the ids; a run goes on by it.
-pub record AnswersEventLine (domain : List ℕ) (now : Scheduled) (line : List ℕ) (old new : OutputState) (machine : State) (ids : ChaCha) : Type 0 where
+-- one event was applied, and its answer is printed so
+abbrev pub Applied : State → Event → ℕ → List ℕ → State → Type 0
+Applied machine event line text after = (answer : Answer) × Applies machine event answer after × (text ≡ answer_json line answer)
+
+-- One line was taken: its reply has this text, and this is where it left the machine and the ids; a run goes on by it.
+pub record TakesEventLine (domain : List ℕ) (now : Scheduled) (line : List ℕ) (text : List ℕ) (machine : State) (ids : ChaCha) : Type 0 where
   pub next : Scheduled
-  pub reply : List ℕ
-  pub answers : AnswersEvent domain now line next reply
-  pub put : Puts old new reply
+  pub answers : AnswersEvent domain now line next (as_line text)
   pub machine_is : next.machine ≡ machine
   pub ids_is : next.ids ≡ ids
   pub lines_is : next.lines ≡ now.lines + 1
   pub domain_is : machine.domain ≡ now.machine.domain
   pub count : machine.count ≤ now.machine.count + 1
   pub runs : (first : State) → Runs first now.events now.answers now.machine → Runs first next.events next.answers next.machine
+
+-- the line of which these bytes are kept was taken, whichever line it is, and what is kept of the run stands for what it has come to then
+abbrev pub TakesKept : List ℕ → ScheduleKept → Scheduled → List ℕ → List ℕ → Type 0
+TakesKept domain kept now bytes text = (next : Scheduled) × StepsKept (AnswersEvent domain) now bytes next (as_line text) × StandsFor kept next

@@ -3,9 +3,9 @@
 //! - [`Settings`]: what a command line asks for.
 //! - [`Answerer`]: what answers the lines of an input; [`run_lines`]: a run of any of them over the bytes.
 //! - [`plain`]: the program `regd plain`, from the bytes of request lines to the bytes of reply lines; [`schedule`]: the
-//!   program `regd schedule`, from event lines to their answers and the order of the calls; [`audit`]: the program `regd audit`,
-//!   from records of calls to the verdict on them. [`Program`] and [`run_settings`]: the program that the settings ask for, and an
-//!   [`Outcome`] where it got to its end.
+//!   program `regd schedule`, from event lines to their answers and the order of the calls; [`record_schedule`]: the same with
+//!   `--record`, to the records of the calls alone; [`audit`]: the program `regd audit`, from records of calls to the verdict on
+//!   them. [`Program`] and [`run_settings`]: the program that the settings ask for, and an [`Outcome`] where it got to its end.
 //! - [`RunFault`] and [`CommandLineFault`]: why a run stopped, and why a command line is none.
 //! - [`a_line_gives_its_domain`]: which words give which domain.
 //! - [`Ended`]: what the caller gets to know of that, the exit status and what standard error gets, a [`Told`].
@@ -18,6 +18,7 @@ mod faults;
 mod laws;
 mod plain_engine;
 mod programs;
+mod record_engine;
 mod schedule_engine;
 mod seed;
 mod settings;
@@ -30,6 +31,7 @@ pub use faults::{CommandLineFault, RunFault};
 pub use laws::a_line_gives_its_domain;
 pub use plain_engine::plain;
 pub use programs::{Outcome, Program, run_settings};
+pub use record_engine::record_schedule;
 use reg_lines::{CountedDevice, Input, Output};
 pub use schedule_engine::schedule;
 pub use settings::Settings;

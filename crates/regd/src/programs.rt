@@ -6,6 +6,7 @@ ghost use Rattle.regd.specs.Programs.{RunsAs, done_of};
 use crate::audit_engine::audit;
 use crate::faults::RunFault;
 use crate::plain_engine::plain;
+use crate::record_engine::record_schedule;
 use crate::schedule_engine::schedule;
 use crate::settings::Settings;
 use reg_lines::{Input, Output, Sink, Source};
@@ -18,6 +19,8 @@ pub enum Program {
     Plain,
     /// Event lines are answered by a machine of calls.
     Schedule,
+    /// Event lines are taken by a machine of calls, and the calls are recorded.
+    Record,
     /// Records of calls are audited.
     Audit,
 }
@@ -32,7 +35,7 @@ impl Program {
     {
         match self {
             Program::Plain => "plain",
-            Program::Schedule => "schedule",
+            Program::Schedule | Program::Record => "schedule",
             Program::Audit => "audit",
         }
     }
@@ -65,6 +68,7 @@ pub fn run_settings<S: Source, K: Sink>(
     match program {
         Program::Plain => done(plain(alloc, domain, seed, input, output)),
         Program::Schedule => done(schedule(alloc, domain, seed, input, output)),
+        Program::Record => done(record_schedule(alloc, domain, seed, input, output)),
         Program::Audit => audit(alloc, domain, input, output),
     }
 }

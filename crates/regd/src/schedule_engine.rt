@@ -2,13 +2,14 @@
 
 ghost use Rattle.std.specs.Prelude.{◌≡◌, ◌+◌, ◌<◌, ◌^◌, []};
 ghost use Rattle.call_machine.specs.Machine.{IsFor};
-ghost use Rattle.regd.specs.Schedules.{AnswersEventLine, Applied, RunsSchedule, Scheduled};
+ghost use Rattle.regd.specs.Schedules.{Applied, RunsSchedule, Scheduled, TakesEventLine, line_answer_json};
 
 use crate::driver::{Answerer, run_lines};
 use crate::faults::RunFault;
-use call_machine::{Event, Machine};
+use call_machine::{Done, Event, Machine};
 use reg_lines::{
-    CallOrder, EventRefused, Ids, Input, Output, Sink, Source, print_line, read_event,
+    CallOrder, EventRefused, Ids, Input, LineRefusal, Output, PrintJson, Sink, Source, print_line,
+    read_event,
 };
 use spiffe_name::TrustDomain;
 use std::alloc::{AllocError, Global};
@@ -37,7 +38,7 @@ pub fn schedule<S: Source, K: Sink>(
 
 /// A machine that answers event lines, the ids that it gives, and how many lines were read.
 #[derive(Drop)]
-struct ScheduleRun {
+pub(crate) struct ScheduleRun {
     domain: TrustDomain,
     machine: Machine,
     ids: Ids,
@@ -55,11 +56,15 @@ impl Model for ScheduleRun {
 }
 
 impl ScheduleRun {
-    ghost use Rattle.std.specs.Prelude.{◌≡◌, IfOk};
-    ghost use Rattle.regd.specs.Schedules.{StandsFor, start};
+    ghost use Rattle.std.specs.Prelude.{◌≡◌, ◌+◌, ◌<◌, ◌^◌, IfOk};
+    ghost use Rattle.regd.specs.Schedules.{Scheduled, StandsFor, TakesKept, line_answer_json, start};
 
     /// Before the first line. The error is that memory was refused.
-    fn new(alloc: Global, domain: TrustDomain, seed: [u8; 32]) -> Result<ScheduleRun, AllocError>
+    pub(crate) fn new(
+        alloc: Global,
+        domain: TrustDomain,
+        seed: [u8; 32],
+    ) -> Result<ScheduleRun, AllocError>
         ensures stands { IfOk result (λ run. StandsFor run (start domain seed)) }
         ensures domain { IfOk result (λ run. run.machine.domain ≡ domain) }
         ensures lines { IfOk result (λ run. run.lines ≡ 0) }
@@ -70,6 +75,33 @@ impl ScheduleRun {
             ids: Ids::of_seed(seed),
             lines: 0,
         })
+    }
+
+    /// Takes the line that comes next, of which these bytes are kept: what it is answered.
+    pub(crate) fn take(&mut self, alloc: Global, line: &[u8]) -> LineAnswer
+        requires lines { self.old.lines < 2 ^ 63 }
+        ensures lines { self.new.lines ≡ self.old.lines + 1 }
+        ensures domain { self.new.machine.domain ≡ self.old.machine.domain }
+        ensures taken { (now : Scheduled) → StandsFor self.old now
+            → TakesKept self.old.machine.domain self.new now line.now (line_answer_json result) }
+    {
+        let answer = take(
+            alloc,
+            &self.domain,
+            &mut self.machine,
+            &mut self.ids,
+            self.lines,
+            line,
+        );
+        self.lines += 1;
+        answer
+    }
+
+    /// The machine, after the lines so far.
+    pub(crate) fn machine(&self) -> &Machine
+        ensures { result.now ≡ self.now.machine }
+    {
+        &self.machine
     }
 }
 
@@ -98,16 +130,7 @@ impl Answerer for ScheduleRun {
     ghost some_answer = { an_event_answer };
 
     fn answer<K: Sink>(&mut self, alloc: Global, line: &[u8], output: &mut Output<K>) -> bool {
-        answer(
-            alloc,
-            &self.domain,
-            &mut self.machine,
-            &mut self.ids,
-            self.lines,
-            line,
-            output,
-        );
-        self.lines += 1;
+        print_line(&self.take(alloc, line), output);
         true
     }
 
@@ -124,42 +147,61 @@ impl Answerer for ScheduleRun {
     }
 }
 
-/// Answers one line, of which `lines` came before.
-fn answer<K: Sink>(
+/// What a line is answered.
+#[derive(Drop)]
+pub(crate) enum LineAnswer {
+    /// What the machine answers to its event.
+    Done(Done),
+    /// The machine refuses its event.
+    Refused(EventRefused),
+    /// It spells no event, or memory was wanting to read it.
+    NotRead(LineRefusal),
+}
+
+impl PrintJson for LineAnswer {
+    ghost text = { line_answer_json };
+
+    fn print_to<S: Sink>(&self, output: &mut Output<S>) {
+        match self {
+            LineAnswer::Done(done) => done.print_to(output),
+            LineAnswer::Refused(refused) => refused.print_to(output),
+            LineAnswer::NotRead(refusal) => refusal.print_to(output),
+        }
+    }
+}
+
+/// Takes one line, of which `lines` came before: what it is answered.
+fn take(
     alloc: Global,
     domain: &TrustDomain,
     machine: &mut Machine,
     ids: &mut Ids,
     lines: u64,
     line: &[u8],
-    output: &mut Output<K>,
-)
+) -> LineAnswer
     requires domain { domain.now ≡ machine.old.domain }
     requires numbers { machine.old.count + 1 < 2 ^ 64 }
     requires lines { lines + 1 < 2 ^ 64 }
     ensures line { (now : Scheduled) → now.machine ≡ machine.old → now.ids ≡ ids.old → now.lines ≡ lines
-        → AnswersEventLine domain.now now line.now output.old output.new machine.new ids.new }
+        → TakesEventLine domain.now now line.now (line_answer_json result) machine.new ids.new }
 {
     match read_event(alloc, domain, ids, line, lines + 1) {
-        Err(refusal) => print_line(&refusal, output),
-        Ok(event) => apply(machine, event, lines + 1, output),
+        Err(refusal) => LineAnswer::NotRead(refusal),
+        Ok(event) => apply(machine, event, lines + 1),
     }
 }
 
-/// Applies the event of the line of this number, and prints what it is answered.
-fn apply<K: Sink>(machine: &mut Machine, event: Event, line: u64, output: &mut Output<K>)
+/// Applies the event of the line of this number: what it is answered.
+fn apply(machine: &mut Machine, event: Event, line: u64) -> LineAnswer
     requires domain { IsFor machine.old.domain event }
     requires numbers { machine.old.count + 1 < 2 ^ 64 }
-    ensures { Applied machine.old event line output.old output.new machine.new }
+    ensures { Applied machine.old event line (line_answer_json result) machine.new }
 {
     match machine.apply(event) {
-        Ok(done) => print_line(&done, output),
-        Err(refused) => print_line(
-            &EventRefused {
-                line,
-                refusal: refused.refusal,
-            },
-            output,
-        ),
+        Ok(done) => LineAnswer::Done(done),
+        Err(refused) => LineAnswer::Refused(EventRefused {
+            line,
+            refusal: refused.refusal,
+        }),
     }
 }

@@ -3,12 +3,12 @@
 use crate::faults::CommandLineFault;
 use crate::programs::Program;
 use crate::seed::{FIRST_SEED, seed_of};
-use clap::{Arg, ArgMatches, Command};
+use clap::{Arg, ArgAction, ArgMatches, Command};
 use spiffe_name::TrustDomain;
 use std::alloc::{AllocError, Global};
 use std::marker::Model;
 
-/// What `regd` was asked to do: `regd plain --domain D [--seed S]`, `regd schedule --domain D [--seed S]`, or
+/// What `regd` was asked to do: `regd plain --domain D [--seed S]`, `regd schedule --domain D [--seed S] [--record]`, or
 /// `regd audit --domain D`.
 #[derive(Debug, Drop)]
 pub struct Settings {
@@ -87,7 +87,7 @@ impl Settings {
 ghost use Rattle.std.specs.Prelude.{◌≡◌, IfOk, false, option_map};
 ghost use Rattle.clap.specs.Words.{app_of, rule_of, subcommand_rows_of};
 ghost use Rattle.clap.specs.declared.Command.TheViews.{out-Command};
-ghost use Rattle.regd.specs.CommandLine.{audit_command, book_commands, domain_option, option_in, plain_command, program_in, regd_command, schedule_command, seed_option};
+ghost use Rattle.regd.specs.CommandLine.{audit_command, book_commands, domain_option, is_recorded, option_in, plain_command, program_in, record_option, regd_command, schedule_command, seed_option};
 
 fn domain_option<'a>(alloc: Global) -> Arg<'a>
     ensures rule { rule_of result ≡ domain_option }
@@ -107,6 +107,16 @@ fn seed_option<'a>(alloc: Global) -> Arg<'a>
     Arg::new(alloc, "seed").long("seed").value_name("S").help(
         "The seed of the ids that are given, 64 lower-case hexadecimal digits; zeros by default",
     )
+}
+
+fn record_option<'a>(alloc: Global) -> Arg<'a>
+    ensures rule { rule_of result ≡ record_option }
+    ensures local { result.global ≡ false }
+{
+    Arg::new(alloc, "record")
+        .long("record")
+        .action(ArgAction::SetTrue)
+        .help("Nothing but a record of each call, in their order, at the end of the input")
 }
 
 fn plain_command<'a>(alloc: Global) -> Result<Command<'a>, AllocError>
@@ -130,7 +140,8 @@ fn schedule_command<'a>(alloc: Global) -> Result<Command<'a>, AllocError>
             "Answers event lines by a machine of calls, and tells their order: standard input to standard output",
         )
         .arg(domain_option(alloc))?
-        .arg(seed_option(alloc))
+        .arg(seed_option(alloc))?
+        .arg(record_option(alloc))
 }
 
 fn audit_command<'a>(alloc: Global) -> Result<Command<'a>, AllocError>
@@ -166,12 +177,26 @@ fn program_of(matches: &ArgMatches<'_>) -> Program
     ensures { result ≡ program_in (subcommand_rows_of matches.now) }
 {
     if option_word(matches, "schedule", "domain").is_some() {
-        return Program::Schedule;
+        return if is_recorded(matches) {
+            Program::Record
+        } else {
+            Program::Schedule
+        };
     }
     if option_word(matches, "audit", "domain").is_some() {
         return Program::Audit;
     }
     Program::Plain
+}
+
+/// Whether the words ask for records.
+fn is_recorded(matches: &ArgMatches<'_>) -> bool
+    ensures { result ≡ is_recorded (subcommand_rows_of matches.now) }
+{
+    match option_word(matches, "schedule", "record") {
+        Some(word) => word == "true",
+        None => false,
+    }
 }
 
 /// The text that the words give to the option `id` of `program`, where that is the program that they name.

@@ -7,13 +7,16 @@ mod limits;
 mod operations;
 mod pages;
 mod places;
+mod records;
 mod refusals;
 mod runs;
 mod schedules;
 mod story;
 mod tokens;
 
-use crate::{CommandLineFault, Ended, Outcome, RunFault, Settings, a_line_gives_its_domain};
+use crate::{
+    CommandLineFault, Ended, Outcome, Program, RunFault, Settings, a_line_gives_its_domain,
+};
 use spiffe_name::IdRefusal;
 use std::alloc::Global;
 use std::test::Fail;
@@ -46,6 +49,42 @@ fn settings_have_the_domain_that_was_given(rt: HostRuntime) -> Result<(), Fail> 
         assert_eq!(rt; status, 0);
         assert_eq!(rt; text.as_str(), "ex.org 0");
     }
+    Ok(())
+}
+
+#[test]
+fn records_are_asked_for_by_a_word_of_their_own(rt: HostRuntime) -> Result<(), Fail> {
+    let lines: [(&[&str], Program); 4] = [
+        (&["regd", "plain", "--domain", "ex.org"], Program::Plain),
+        (
+            &["regd", "schedule", "--domain", "ex.org"],
+            Program::Schedule,
+        ),
+        (
+            &["regd", "schedule", "--domain", "ex.org", "--record"],
+            Program::Record,
+        ),
+        (
+            &["regd", "schedule", "--record", "--domain=ex.org"],
+            Program::Record,
+        ),
+    ];
+    for (words, program) in lines {
+        let settings = Settings::from_words(rt.alloc(), words)
+            .ok()
+            .ok_or("no settings")?;
+        assert_eq!(rt; settings.program(), program);
+        assert_eq!(rt; program.name(), words[1]);
+    }
+    let (status, text) = told(
+        rt.alloc(),
+        &["regd", "plain", "--domain", "ex.org", "--record"],
+    )?;
+    assert_eq!(rt; status, 2);
+    assert!(rt;
+        text.starts_with("error: unexpected argument '--record' found\n"),
+        "{text}"
+    );
     Ok(())
 }
 

@@ -30,28 +30,48 @@ fn are_denied(rt: &impl Abort, alloc: Global, tables: &[(&str, &str)]) -> Result
 }
 
 /// Two creates of the same group: the second one is refused with the first one's id.
-const CREATED: &str = r#"{"batch":{"after":0,"ops":[{"domains":[],"expiry":0,"hint":"","id":"00000000-0000-0000-0000-000000000001","identity":"spiffe://ex.org/web","op":"create","parent":"spiffe://ex.org/spire/agent/n1","selectors":["u:1"]}]},"call":1,"invoked":1,"replied":15,"reply":{"call":1,"place":1,"replies":[{"entry":{"domains":[],"expiry":0,"hint":"","id":"00000000-0000-0000-0000-000000000001","identity":"spiffe://ex.org/web","parent":"spiffe://ex.org/spire/agent/n1","revision":0,"selectors":["u:1"]}}],"result":"committed"}}
+const CREATED: &str =
+    r#"{"batch":{"after":0,"ops":[{"domains":[],"expiry":0,"hint":"","id":"00000000-0000-0000-0000-000000000001","identity":"spiffe://ex.org/web","op":"create","parent":"spiffe://ex.org/spire/agent/n1","selectors":["u:1"]}]},"call":1,"invoked":1,"replied":15,"reply":{"call":1,"place":1,"replies":[{"entry":{"domains":[],"expiry":0,"hint":"","id":"00000000-0000-0000-0000-000000000001","identity":"spiffe://ex.org/web","parent":"spiffe://ex.org/spire/agent/n1","revision":0,"selectors":["u:1"]}}],"result":"committed"}}
 {"batch":{"after":0,"ops":[{"domains":[],"expiry":0,"hint":"","id":"00000000-0000-0000-0000-000000000002","identity":"spiffe://ex.org/web","op":"create","parent":"spiffe://ex.org/spire/agent/n1","selectors":["u:1"]}]},"call":3,"invoked":11,"replied":17,"reply":{"call":3,"code":"O2","detail":"00000000-0000-0000-0000-000000000001","op":0,"place":1,"result":"refused"}}
 "#;
 
 #[test]
 fn records_of_two_calls_are_audited_yes(rt: HostRuntime) -> Result<(), Fail> {
-    is_audited(&rt, rt.alloc(), CREATED, Outcome::Done, "{\"audit\":\"yes\",\"calls\":2}\n")
+    is_audited(
+        &rt,
+        rt.alloc(),
+        CREATED,
+        Outcome::Done,
+        "{\"audit\":\"yes\",\"calls\":2}\n",
+    )
 }
 
 #[test]
 fn no_records_are_audited_yes(rt: HostRuntime) -> Result<(), Fail> {
-    is_audited(&rt, rt.alloc(), "", Outcome::Done, "{\"audit\":\"yes\",\"calls\":0}\n")
+    is_audited(
+        &rt,
+        rt.alloc(),
+        "",
+        Outcome::Done,
+        "{\"audit\":\"yes\",\"calls\":0}\n",
+    )
 }
 
 /// A committed call may not have replied, and the keys and escapes of a reply may stand otherwise than they are written.
-const UNREPLIED: &str = r#"{"batch":{"after":0,"ops":[{"op":"drop_bundle","domain":"b.org"}]},"call":4,"invoked":3,"replied":9,"reply":{"result":"refused","code":"O5","op":0,"place":0,"detail":"b.\u006frg","call":4}}
+const UNREPLIED: &str =
+    r#"{"batch":{"after":0,"ops":[{"op":"drop_bundle","domain":"b.org"}]},"call":4,"invoked":3,"replied":9,"reply":{"result":"refused","code":"O5","op":0,"place":0,"detail":"b.\u006frg","call":4}}
 {"batch":{"after":0,"ops":[{"op":"set_bundle","domain":"b.org","text":"t"}]},"call":2,"invoked":3,"replied":null,"reply":{"call":2,"place":1,"replies":[{"bundle":{"domain":"b.org","sequence":0,"text":"t"}}],"result":"committed"}}
 "#;
 
 #[test]
 fn a_committed_call_may_not_have_replied(rt: HostRuntime) -> Result<(), Fail> {
-    is_audited(&rt, rt.alloc(), UNREPLIED, Outcome::Done, "{\"audit\":\"yes\",\"calls\":2}\n")
+    is_audited(
+        &rt,
+        rt.alloc(),
+        UNREPLIED,
+        Outcome::Done,
+        "{\"audit\":\"yes\",\"calls\":2}\n",
+    )
 }
 
 /// Of two records each cause, and where several hold the first: the number of a call before its stamps, these before the order,

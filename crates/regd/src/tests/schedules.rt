@@ -266,7 +266,7 @@ fn no_question_sees_what_isnt_committed(rt: HostRuntime) -> Result<(), Fail> {
 }
 
 /// Events out of turn, and lines that spell none, are refused among others, and change nothing.
-const OUT_OF_TURN: &str = r#"
+pub const OUT_OF_TURN: &str = r#"
 {"event":"begin","call":7}
 {"code":"E2","line":1}
 {"event":"invoke","call":7,"batch":{"ops":[{"op":"set_agent","agent":"spiffe://ex.org/spire/agent/n1","selectors":["x:1"]}]}}

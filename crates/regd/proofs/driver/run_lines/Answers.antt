@@ -116,7 +116,7 @@ loop-count-preserved g c =
           let setting = g.A.Answerer.setting c.args.answerer.now in
           let ends = g.A.Answerer.ends in
           let answers = g.A.Answerer.answers setting in
-                let wants = g.A.Answerer.wants in
+          let wants = g.A.Answerer.wants in
           let step = Steps ends answers in
           let some = some_step ends answers (g.met.A.Answerer.some_answer setting) in
           λ first stands begun.
