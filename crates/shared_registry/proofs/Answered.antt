@@ -3,10 +3,9 @@ use Rattle.std.proofs.Common.{◌≡◌, Bool, true, false, Some, refl, sym, ap,
 use Rattle.entry_book.specs.declared.reply.Reply.{Reply}
 use Rattle.entry_book.specs.Batches.{Batch, IsMadeFor, is_query}
 use Rattle.entry_book.specs.History.{books_of, reply_to}
-use Rattle.batch_work.specs.declared.status.Status.{Status}
 use Rattle.batch_work.specs.declared.status.Status.TheVariants.{Running, Settled}
 use Rattle.batch_work.specs.Reads.{awaits_commit}
-use Rattle.batch_work.specs.Working.{Base, Work, IsAnswer, IsReplyOn, awaits_there, base_in, end_status, reply_there, status_from, status_of}
+use Rattle.batch_work.specs.Working.{Work, IsAnswer, IsReplyOn, awaits_there, base_in, end_status, reply_there, status_from, status_of}
 use Rattle.batch_work.proofs.Batches.{awaits_said}
 use Rattle.batch_work.proofs.Windows.{window_stands}
 use Rattle.commit_head.specs.Heads.{IsJournal}

@@ -2,9 +2,9 @@
 use Rattle.std.proofs.Common.{◌≡◌, ℕ, ◌+◌, ◌*◌, ◌<◌, ◌≤◌, ◌^◌, true, false, List, [], ◌∷◌, length, Option, Some, None, refl, sym, ap, subst, ◌∙◌, arith}
 use Rattle.std.specs.Prelude.{slice_get, slice_index, nat_lt, cond, IfSome}
 use Rattle.entry_book.specs.Rows.{Bytes}
-use Rattle.entry_book.specs.Book.{Book, empty_book}
+use Rattle.entry_book.specs.Book.{Book}
 use Rattle.entry_book.specs.Batches.{Batch, IsMadeFor, past_place}
-use Rattle.entry_book.specs.History.{IsHistory, among_last, book_for, books_of, first_books, last_book, last_or, place_of}
+use Rattle.entry_book.specs.History.{IsHistory, book_for, books_of, first_books, last_book, last_or, place_of}
 use Rattle.entry_book.proofs.Histories.{history_some, lawful_history}
 use Rattle.entry_book.proofs.WithinLimits.{all_within_limits}
 use Rattle.version_book.specs.CommittedRows.{State}

@@ -1,5 +1,4 @@
-use Rattle.std.proofs.Common.{◌≤◌, ◌^◌, length, arith}
-use Rattle.batch_work.specs.Working.{base_in, footprint_there}
+use Rattle.std.proofs.Common.{arith}
 use Rattle.shared_registry.proofs.Showing.{reads_few}
 use Rattle.shared_registry.proofs.run.run_to_end.Goals as goal
 

@@ -1,4 +1,4 @@
-use Rattle.shared_registry.proofs.Answered.{answer_is, query_settled}
+use Rattle.shared_registry.proofs.Answered.{answer_is}
 use Rattle.shared_registry.proofs.seat.answered.Goals as goal
 
 pub returns : goal.returns

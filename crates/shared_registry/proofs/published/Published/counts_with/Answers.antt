@@ -1,7 +1,5 @@
-use Rattle.std.proofs.Common.{◌+◌, ◌≤◌, ◌<◌, ◌^◌, ◌∷◌, ◌++◌, [], ap, sym, subst, arith}
+use Rattle.std.proofs.Common.{◌+◌, ◌≤◌, ◌^◌, sym, arith}
 use Rattle.std.specs.Prelude.{slice_index}
-use Rattle.commit_head.specs.declared.item.Item.{Item}
-use Rattle.shared_registry.specs.Seats.{IsCounted}
 use Rattle.shared_registry.proofs.Counts.{counted_here}
 use Rattle.shared_registry.proofs.Showing.{count_low}
 use Rattle.shared_registry.proofs.published.Published.counts_with.Goals as goal

@@ -1,4 +1,4 @@
-use Rattle.std.proofs.Common.{◌≡◌, ◌+◌, ◌∙◌, sym, ap, refl, arith}
+use Rattle.std.proofs.Common.{◌+◌, ◌∙◌, sym, ap, refl, arith}
 use mathlib.Core.List.{IsPrefix}
 use Rattle.shared_registry.proofs.Calls.{calls_same, below_more}
 use Rattle.shared_registry.proofs.Prefixes.{prefix_self}
