@@ -1,0 +1,9 @@
+pub mod Adding
+pub mod Answered
+pub mod Calls
+pub mod Counts
+pub mod Opening
+pub mod Prefixes
+pub mod Results
+pub mod Showing
+pub mod Steps

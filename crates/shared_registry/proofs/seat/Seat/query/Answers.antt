@@ -1,0 +1,62 @@
+use Rattle.std.proofs.Common.{◌+◌, ◌∙◌, sym, ap, refl, arith}
+use mathlib.Core.List.{IsPrefix}
+use Rattle.shared_registry.proofs.Calls.{calls_same, below_more}
+use Rattle.shared_registry.proofs.Prefixes.{prefix_self}
+use Rattle.shared_registry.proofs.Results.{ok_of}
+use Rattle.shared_registry.proofs.seat.Seat.query.Goals as goal
+
+pub invariant_of-self : goal.invariant_of-self
+invariant_of-self g c =
+    let i = c.self.invariant in
+    (i.0, i.1, below_more _ _ _ (omega arith) i.2, refl, c.find-reader.ensures.page)
+
+pub invariant_of-self-in-Err-answered : goal.invariant_of-self-in-Err-answered
+invariant_of-self-in-Err-answered g c =
+    let i = c.self.invariant in
+    (i.0, i.1, below_more _ _ _ (omega arith) i.2, refl, c.find-reader.ensures.page)
+
+pub invariant_of-self-in-Ok-answered : goal.invariant_of-self-in-Ok-answered
+invariant_of-self-in-Ok-answered g c =
+    let i = c.self.invariant in
+    let count = ok_of _ _ _ c.in-Ok.is c.find-reader.ensures.count in
+    let more : IsPrefix c.self.inside.seen c.in-Ok.front = ok_of _ _ _ c.in-Ok.is c.find-reader.ensures.seen in
+    let same = calls_same c.self.inside.number _ _ more (sym (count ∙ i.1)) in
+    (i.0, sym count, rw same (below_more _ _ _ (omega arith) i.2), refl, c.find-reader.ensures.page)
+
+pub returns-in-Err-clause-entered : goal.returns-in-Err-clause-entered
+returns-in-Err-clause-entered g c =
+    let is = c.self.view_is in
+    record {
+      along = record {
+        number = ap (λ s. s.number) is;
+        calls = ap (λ s. s.calls + 1) is;
+        lawful = c.len-seen.ensures.lawful;
+        seen = rw (← is) (prefix_self c.self.inside.seen);
+        told = ap (λ s. s.told) is;
+        own = refl;
+      };
+      same = ap (λ s. s.seen) is;
+    }
+
+pub returns-in-Ok-answered-clause-entered : goal.returns-in-Ok-answered-clause-entered
+returns-in-Ok-answered-clause-entered g c =
+    let is = c.self.view_is in
+    let more : IsPrefix c.self.inside.seen c.in-Ok.front = ok_of _ _ _ c.in-Ok.is c.find-reader.ensures.seen in
+    let heard : IsPrefix c.self.inside.told c.in-Ok.front = ok_of _ _ _ c.in-Ok.is c.find-reader.ensures.told in
+    record {
+      along = record {
+        number = ap (λ s. s.number) is;
+        calls = ap (λ s. s.calls + 1) is;
+        lawful = c.len-place.ensures.lawful;
+        seen = rw (← is) more;
+        told = ap (λ s. s.told) is;
+        own = refl;
+      };
+      heard = rw (← is) heard;
+    }
+
+pub returns-in-Ok-answered-clause-own : goal.returns-in-Ok-answered-clause-own
+returns-in-Ok-answered-clause-own g c =
+    let count = ok_of _ _ _ c.in-Ok.is c.find-reader.ensures.count in
+    let more : IsPrefix c.self.inside.seen c.in-Ok.front = ok_of _ _ _ c.in-Ok.is c.find-reader.ensures.seen in
+    calls_same c.self.inside.number _ _ more (sym (count ∙ c.self.invariant.1)) ∙ ap (λ s. s.own) c.self.view_is

@@ -1,0 +1,17 @@
+-- What lies under the lock.
+use Rattle.std.specs.Prelude.{◌≡◌, List}
+use Rattle.logbook.specs.Pages.{Book as WordBook}
+use Rattle.entry_book.specs.Rows.{Bytes}
+use Rattle.commit_head.specs.declared.item.Item.{Item}
+use Rattle.commit_head.specs.Heads.{Head, IsJournal}
+use Rattle.shared_registry.specs.Shown.{Shown, IsOf}
+
+-- The head's journal is this list, and it is of the trust domain.
+pub record IsTied (domain : Bytes) (journal : List Item) (h : Head) : Type 0 where
+  pub journal_is : IsJournal journal h
+  pub domain_is : h.window.newest.domain ≡ domain
+
+-- The journal is published, of this history and trust domain.
+pub record IsPublished (history : WordBook) (domain : Bytes) (journal : List Item) (shown : Shown) : Type 0 where
+  pub of_it : IsOf history domain shown
+  pub journal_is : shown.journal ≡ journal

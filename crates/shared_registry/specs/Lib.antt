@@ -1,0 +1,6 @@
+pub mod Desk
+pub mod Rules
+pub mod Seated
+pub mod Seats
+pub mod Shown
+pub mod Works

@@ -1,0 +1,135 @@
+//! What lies under the lock?
+
+ghost use Rattle.std.specs.Prelude.{◌≡◌, [], IfOk, MatchResult};
+ghost use Rattle.shared_registry.specs.Seated.{Goes};
+
+use crate::history::{Front, Naming};
+use crate::published::{Published, opening};
+use crate::rule::{Rule, View};
+use crate::seat::{NoEntry, Receipt, Seat};
+use commit_head::Head;
+use left_right::writer::Writer;
+use spiffe_name::TrustDomain;
+use std::alloc::{AllocError, Global};
+use std::marker::Model;
+use std::sync::Wait;
+
+/// The writer of what is published.
+pub(crate) type WindowWriter<J> = Writer<Published, Published, View, Rule<J>>;
+
+/// There are 32 seats already, or no reader was given.
+#[derive(Clone, Copy, Debug, PartialEq, Eq, Drop)]
+pub struct NoSeat;
+
+/// The head, the writer, and the whole journal. Contracts see it as the journal.
+pub(crate) struct Core<J: Naming> {
+    alloc: Global,
+    head: Head,
+    writer: Option<WindowWriter<J>>,
+    seats: usize,
+    start: Front<J>,
+    last: Front<J>,
+}
+
+impl<J: Naming> Model for Core<J> {
+    ghost use Rattle.std.specs.Prelude.{◌≡◌, List, [], IsSome, IfSome, drop};
+    ghost use Rattle.commit_head.specs.declared.item.Item.{Item};
+    ghost use Rattle.shared_registry.specs.Desk.{IsPublished, IsTied};
+
+    ghost Value = { List Item };
+
+    ghost view = { λ c. c.last };
+
+    ghost invariant = { λ c. IsTied J.domain c.last c.head × (c.start ≡ []) × IsSome c.writer × IfSome c.writer (λ w. IsPublished J.history J.domain c.last w.desk.shown.value × (drop w.behind w.log.items ≡ [])) };
+}
+
+impl<J: Naming> Core<J> {
+    ghost use Rattle.std.specs.Prelude.{◌≡◌, [], IfOk, length};
+
+    /// An empty book of the trust domain. The error is want of memory.
+    pub(crate) fn new(
+        alloc: Global,
+        domain: TrustDomain,
+        front: Front<J>,
+    ) -> Result<Core<J>, AllocError>
+        requires front { front ≡ [] }
+        requires domain { domain ≡ J.domain }
+        ensures { IfOk result (λ c. c ≡ []) }
+    {
+        let head = Head::new(alloc, domain)?;
+        let first = opening(alloc, &front, &head)?;
+        let second = first.again()?;
+        let writer = WindowWriter::<J>::new(alloc, first, second, 32)?;
+        Ok(Core {
+            alloc,
+            head,
+            writer: Some(writer),
+            seats: 0,
+            start: front.again(),
+            last: front,
+        })
+    }
+
+    /// The next seat, which has seen nothing.
+    pub(crate) fn seat(&mut self) -> Result<Seat<J>, NoSeat>
+        ensures same { self.new ≡ self.old }
+        ensures seat { IfOk result (λ s. (s.seen ≡ []) × (s.told ≡ []) × (s.own ≡ []) × (s.calls ≡ 0)) }
+    {
+        let Some(writer) = &self.writer else {
+            unreachable!()
+        };
+        let number = self.seats;
+        if number >= 32 {
+            return Err(NoSeat);
+        }
+        let Ok(page) = writer.published().again() else {
+            return Err(NoSeat);
+        };
+        let Ok(reader) = writer.factory().reader() else {
+            return Err(NoSeat);
+        };
+        let seat = Seat::new(self.alloc, reader, number, &self.start, page);
+        self.seats = number + 1;
+        Ok(seat)
+    }
+
+    /// The seat has then seen every item so far, and the receipt says so.
+    pub(crate) fn news(&mut self, seat: &mut Seat<J>) -> Result<Receipt<J>, NoEntry>
+        ensures same { self.new ≡ self.old }
+        ensures goes { Goes seat.old seat.new }
+        ensures own { seat.new.own ≡ seat.old.own }
+        ensures seen { MatchResult result (λ r. (r ≡ seat.new.seen) × (r ≡ self.old)) (λ _. seat.new.seen ≡ seat.old.seen) }
+    {
+        let Some(writer) = &self.writer else {
+            unreachable!()
+        };
+        if !seat.fits(writer.published()) {
+            return Err(NoEntry);
+        }
+        seat.see(self.last.again());
+        Ok(seat.receipt())
+    }
+
+    /// How many items are kept.
+    pub(crate) fn kept(&self) -> u64 {
+        self.head.kept()
+    }
+
+    /// Ends the writer.
+    pub(crate) fn close<R: Wait>(self, rt: &R) {
+        let Core {
+            alloc: _,
+            head: _,
+            writer,
+            seats: _,
+            start: _,
+            last: _,
+        } = self;
+        match writer {
+            Some(writer) => {
+                let _last = writer.take(rt);
+            }
+            None => {}
+        }
+    }
+}

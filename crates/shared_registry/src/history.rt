@@ -1,0 +1,230 @@
+//! Which history do all threads share, and which beginning of it was seen?
+
+ghost use Rattle.std.specs.Prelude.{◌≡◌, ◌+◌, ◌==◌, ◌<◌, ◌≤◌, ◌^◌, ◌++◌, ◌∷◌, ◌⊎◌, [], length, MatchBool, IsTrue};
+ghost use mathlib.Core.List.{IsPrefix};
+ghost use Rattle.commit_head.specs.Journals.{IsLawfulJournal};
+ghost use Rattle.shared_registry.specs.Rules.{word_of};
+
+use commit_head::Item;
+use logbook::{Gain, Offer, Plain, Play, Rule, Seen, Start, Word};
+use std::marker::{Brand, Model, PhantomData};
+
+/// The rule of the history: its word is its length.
+pub struct Law;
+
+impl Rule<Item, u64> for Law {
+    ghost use Rattle.std.specs.Prelude.{[]};
+    ghost use base.Fml.{ftrue};
+    ghost use Rattle.shared_registry.specs.Rules.{IsKept};
+
+    ghost holds = { λ cells log. IsKept cells log };
+
+    ghost first = { [] };
+
+    ghost hinted = { λ n log. Unit {0} };
+
+    ghost shows = { λ log. [] };
+
+    ghost keeps = { λ names log. ftrue };
+
+    ghost moves = { λ ask before after answer. Unit {0} };
+}
+
+/// Callers trade nothing.
+pub struct Nothing;
+
+impl Gain<Item, u64> for Nothing {
+    ghost use base.Fml.{ftrue};
+
+    ghost after = { λ names about answer. ftrue };
+}
+
+/// A step that adds an item.
+pub struct Add;
+
+impl Play<Item, u64> for Add {
+    ghost use Rattle.shared_registry.specs.Rules.{Adds};
+
+    ghost then = { Adds };
+}
+
+/// What a step asks for: the item.
+impl Plain<Item, Item, u64> for Add {
+    ghost use Rattle.std.specs.Prelude.{None};
+
+    ghost ask = { λ item. item };
+
+    ghost state = { λ item. None };
+}
+
+/// Which registry it is: its history, and the trust domain of its book. Each call of a program picks them; seats, receipts and
+/// registries that have one naming belong together.
+pub trait Naming {
+    ghost use Rattle.logbook.specs.Pages.{Book};
+    ghost use Rattle.entry_book.specs.Rows.{Bytes};
+
+    ghost history: { Book };
+
+    ghost domain: { Bytes };
+}
+
+impl Naming for Brand {
+    ghost use Rattle.std.specs.Prelude.{[]};
+
+    ghost history = { record { number = 0; log_name = 0; cells_name = 0 } };
+
+    ghost domain = { [] };
+}
+
+/// An empty history, which has no name yet.
+pub struct Opened {
+    word: Word<Item, u64, Law>,
+    seen: Seen<Item, u64, Law>,
+    pub ghost empty: { seen.log ≡ [] },
+    pub ghost word_is: { word ≡ word_of seen.book },
+}
+
+impl Opened {
+    /// A history of its own. Takes no memory.
+    pub fn new() -> Opened {
+        let (seen, mut first, _second) = Seen::open(Start::alone(), 0, 0);
+        Opened {
+            word: Word::tracked(0, &mut first),
+            seen,
+        }
+    }
+
+    /// The history's word under a name, and the front that has seen nothing.
+    pub(crate) fn named<J: Naming>(self) -> (History<J>, Front<J>)
+        requires { self.seen.book ≡ J.history }
+        ensures { result.1 ≡ [] }
+    {
+        let Opened { word, seen } = self;
+        (
+            History {
+                word,
+                of: PhantomData,
+            },
+            Front {
+                items: 0,
+                seen,
+                of: PhantomData,
+            },
+        )
+    }
+}
+
+/// The word that all threads share: the length of the history.
+#[derive(Drop)]
+pub struct History<J: Naming> {
+    word: Word<Item, u64, Law>,
+    of: PhantomData<J>,
+    ghost word_is: { word ≡ word_of J.history },
+}
+
+/// A beginning of the history that was seen: a lawful journal. Contracts see it as its items. It has its length alone, and no
+/// copy of an item.
+#[derive(Drop)]
+pub struct Front<J: Naming> {
+    items: u64,
+    seen: Seen<Item, u64, Law>,
+    of: PhantomData<J>,
+}
+
+impl<J: Naming> Model for Front<J> {
+    ghost use Rattle.std.specs.Prelude.{◌≡◌, List, length};
+    ghost use Rattle.commit_head.specs.declared.item.Item.{Item};
+    ghost use Rattle.commit_head.specs.Journals.{IsLawfulJournal};
+
+    ghost Value = { List Item };
+
+    ghost view = { λ f. f.seen.log };
+
+    ghost invariant = { λ f. (f.items ≡ length f.seen.log) × (f.seen.book ≡ J.history) × IsLawfulJournal J.domain f.seen.log };
+}
+
+impl<J: Naming> Front<J> {
+    /// How many items it has.
+    pub(crate) fn len(&self) -> u64
+        ensures length { result ≡ length self.now }
+        ensures lawful { IsLawfulJournal J.domain self.now }
+    {
+        self.items
+    }
+
+    /// A copy.
+    pub(crate) fn again(&self) -> Front<J>
+        ensures { result ≡ self.now }
+    {
+        Front {
+            items: self.items,
+            seen: self.seen.again(),
+            of: PhantomData,
+        }
+    }
+
+    /// The longer of two fronts, which the other begins.
+    pub(crate) fn longer(&self, other: &Front<J>) -> Front<J>
+        ensures one { (result ≡ self.now) ⊎ (result ≡ other.now) }
+        ensures this { IsPrefix self.now result }
+        ensures that { IsPrefix other.now result }
+    {
+        let mut both = self.seen.again();
+        both.learn(&other.seen);
+        if self.items < other.items {
+            other.again()
+        } else {
+            self.again()
+        }
+    }
+
+    /// The token of what was seen.
+    pub(crate) fn token(&self) -> Seen<Item, u64, Law>
+        ensures { (result.book ≡ J.history) × (result.log ≡ self.now) }
+    {
+        self.seen.again()
+    }
+
+    /// The front of a token, which has so many items.
+    pub(crate) fn of(items: u64, seen: Seen<Item, u64, Law>) -> Front<J>
+        requires { (seen.book ≡ J.history) × (items ≡ length seen.log) × IsLawfulJournal J.domain seen.log }
+        ensures { result ≡ seen.log }
+    {
+        Front {
+            items,
+            seen,
+            of: PhantomData,
+        }
+    }
+
+    /// Is it no longer than the other, which it then begins?
+    pub(crate) fn begins(&self, other: &Front<J>) -> bool
+        ensures { IsTrue result → IsPrefix self.now other.now }
+    {
+        let mut both = self.seen.again();
+        both.learn(&other.seen);
+        self.items <= other.items
+    }
+
+    /// Adds an item to all that was seen, and says whether it did. It did not where the history is longer; then nothing has
+    /// changed.
+    pub(crate) fn add(&mut self, history: &History<J>, item: &Item) -> bool
+        requires room { length self.old < 2 ^ 62 }
+        requires lawful { IsLawfulJournal J.domain (self.old ++ item.now ∷ []) }
+        ensures { MatchBool result (self.new ≡ self.old ++ item.now ∷ []) (self.new ≡ self.old) }
+    {
+        let mut seen = self.seen.again();
+        let mut offer: Offer<Item, u64, Law, Nothing> = seen.plain::<Nothing, Item, Add>(item);
+        let mut pen = seen.no_pen();
+        let items = self.items;
+        let found = history
+            .word
+            .compare_exchange::<Add, Nothing>(items, items + 1, &mut seen, &mut offer, &mut pen);
+        if found != items {
+            return false;
+        }
+        self.seen = seen;
+        self.items = items + 1;
+        true
+    }
+}

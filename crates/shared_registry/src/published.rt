@@ -1,0 +1,159 @@
+//! What is published to all readers?
+
+ghost use Rattle.std.specs.Prelude.{◌≡◌, ◌+◌, ◌≤◌, ◌<◌, ◌^◌, ◌++◌, ◌∷◌, [], length, IfOk, IfSome};
+ghost use Rattle.batch_work.specs.Windows.{Window};
+ghost use Rattle.commit_head.specs.Heads.{IsJournal};
+ghost use Rattle.commit_head.specs.Journals.{IsLawfulJournal};
+ghost use Rattle.shared_registry.specs.Seats.{calls_of, IsCounted};
+ghost use Rattle.shared_registry.specs.Shown.{IsOf, Shows};
+
+use crate::history::{Front, Law, Naming};
+use batch_work::Window;
+use commit_head::{Head, Item};
+use entry_book::Shared;
+use left_right::Absorb;
+use logbook::Seen;
+use std::alloc::{AllocError, Global};
+use std::marker::Model;
+
+/// The window on which works begin, and how many calls each seat has committed.
+#[derive(Drop)]
+pub(crate) struct Board {
+    pub(crate) window: Window,
+    pub(crate) counts: [u64; 32],
+}
+
+/// What the writer publishes and each reader sees: a window, the journal for whose last books it stands, and how many of its
+/// items each seat has. Contracts see it as its history, its journal and its window. A copy counts one more owner, and is all
+/// that a reader makes while it is inside.
+#[derive(Drop)]
+pub struct Published {
+    items: u64,
+    seen: Seen<Item, u64, Law>,
+    board: Shared<Board>,
+}
+
+impl Model for Published {
+    ghost use Rattle.std.specs.Prelude.{◌≡◌, length};
+    ghost use Rattle.shared_registry.specs.Shown.{Shown, Shows};
+
+    ghost Value = { Shown };
+
+    ghost view = { λ p. record { history = p.seen.book; journal = p.seen.log; window = p.board.window } };
+
+    ghost invariant = { λ p. (p.items ≡ length p.seen.log) × Shows p.seen.log p.board.window p.board.counts };
+}
+
+impl Published {
+    ghost use Rattle.std.specs.Prelude.{◌≡◌, ◌≤◌, ◌^◌, length, IfOk, IfSome};
+    ghost use Rattle.shared_registry.specs.Shown.{IsOf, Shows, whole_head};
+
+    /// The front's journal, which the board shows.
+    pub(crate) fn of<J: Naming>(front: &Front<J>, board: Shared<Board>) -> Published
+        requires shows { Shows front.now board.window board.counts }
+        ensures history { result.history ≡ J.history }
+        ensures journal { result.journal ≡ front.now }
+        ensures window { result.window ≡ board.window }
+    {
+        Published {
+            items: front.len(),
+            seen: front.token(),
+            board,
+        }
+    }
+
+    /// The journal, as a front.
+    pub(crate) fn front<J: Naming>(&self) -> Front<J>
+        requires { IsOf J.history J.domain self.now }
+        ensures { result ≡ self.now.journal }
+    {
+        Front::of(self.items, self.seen.again())
+    }
+
+    /// The window on which a work begins.
+    pub(crate) fn window(&self) -> &Window
+        ensures window { result.now ≡ self.now.window }
+        ensures low { self.now.window.newest.number ≤ 2 ^ 48 }
+        ensures journal { IsJournal self.now.journal (whole_head self.now.window self.now.journal) }
+    {
+        &self.board.get().window
+    }
+
+    /// How many items of the journal are of this seat.
+    pub(crate) fn count(&self, seat: usize) -> u64
+        requires { seat < 32 }
+        ensures { result ≡ length (calls_of seat self.now.journal) }
+    {
+        self.board.get().counts[seat]
+    }
+
+    /// The counts after one item more of this seat.
+    pub(crate) fn counts_with(&self, seat: usize, item: &Item) -> [u64; 32]
+        requires seat { (seat < 32) × (item.now.seat ≡ seat) }
+        ensures { IsCounted result (self.now.journal ++ item.now ∷ []) }
+    {
+        let _call = item.call;
+        let mut counts = self.board.get().counts;
+        counts[seat] += 1;
+        counts
+    }
+
+    /// A copy. The error is that no more owners can be counted.
+    pub(crate) fn again(&self) -> Result<Published, AllocError>
+        ensures { IfOk result (λ p. p ≡ self.now) }
+    {
+        Ok(Published {
+            items: self.items,
+            seen: self.seen.again(),
+            board: self.board.clone()?,
+        })
+    }
+
+    /// A copy, where it has another number of items than the older one.
+    pub(crate) fn newer(&self, older: &Published) -> Result<Option<Published>, AllocError>
+        ensures { IfOk result (λ o. IfSome o (λ p. p ≡ self.now)) }
+    {
+        if self.items == older.items {
+            return Ok(None);
+        }
+        Ok(Some(self.again()?))
+    }
+}
+
+/// What is published at the beginning: the head's window, and no item. The error is want of memory.
+pub(crate) fn opening<J: Naming>(
+    alloc: Global,
+    front: &Front<J>,
+    head: &Head,
+) -> Result<Published, AllocError>
+    requires front { front.now ≡ [] }
+    requires head { IsJournal [] head.now }
+    ensures { IfOk result (λ p. (p.history ≡ J.history) × (p.journal ≡ []) × (p.window ≡ head.now.window)) }
+{
+    let board = Board {
+        window: head.window().clone()?,
+        counts: [0; 32],
+    };
+    Ok(Published::of(front, Shared::of(alloc, board)?))
+}
+
+/// An operation of the writer is the whole next value.
+impl Absorb<Published> for Published {
+    ghost use Rattle.shared_registry.specs.Shown.{Shown};
+
+    type State = Published;
+
+    ghost state = { λ p. p };
+
+    ghost applied = { λ x p. p };
+
+    fn absorb_first(&mut self, next: &Published, _other: &Published) -> Result<(), AllocError> {
+        *self = next.again()?;
+        Ok(())
+    }
+
+    fn absorb_second(&mut self, next: Published, _other: &Published) -> Result<(), Published> {
+        *self = next;
+        Ok(())
+    }
+}

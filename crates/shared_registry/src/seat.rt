@@ -1,0 +1,288 @@
+//! What has one caller seen, and what is it answered?
+
+ghost use Rattle.std.specs.Prelude.{◌≡◌, ◌≤◌, ◌<◌, ◌+◌, ◌++◌, ◌∷◌, ◌^◌, [], length, IfOk, IfSome, IsTrue, MatchResult, true};
+ghost use mathlib.Core.List.{IsPrefix};
+ghost use Rattle.entry_book.specs.Batches.{is_query};
+ghost use Rattle.entry_book.specs.History.{books_of, reply_to};
+ghost use Rattle.commit_head.specs.Heads.{IsJournal};
+ghost use Rattle.commit_head.specs.Journals.{IsLawfulJournal, batches_of};
+ghost use Rattle.shared_registry.specs.Seats.{calls_of, AllBelow};
+ghost use Rattle.shared_registry.specs.Seated.{Along, Entered, Goes, Stays};
+ghost use Rattle.shared_registry.specs.Shown.{IsOf, whole_head};
+
+use crate::history::{Front, Naming};
+use crate::published::Published;
+use crate::rule::{Rule, Sees, View};
+use crate::run::{begun, run_to_end};
+use commit_head::Item;
+use entry_book::{Batch, Reply, Shared};
+use left_right::reader::Reader;
+use std::alloc::{AllocError, Global};
+use std::marker::Model;
+
+/// A reader of what is published.
+pub(crate) type SeatReader<J> = Reader<Published, View, Rule<J>>;
+
+/// Why a query has no answer.
+#[derive(Clone, Copy, Debug, PartialEq, Eq, Drop)]
+pub enum NoAnswer {
+    /// Memory was wanting.
+    NoMemory,
+    /// The seat wasn't let in, or what is published doesn't fit what the seat has seen.
+    NoEntry,
+}
+
+/// The seat wasn't let in, or what is published doesn't fit what it has seen.
+#[derive(Clone, Copy, Debug, PartialEq, Eq, Drop)]
+pub struct NoEntry;
+
+/// What a seat had seen when it asked for news. Contracts see it as the list of items.
+#[derive(Drop)]
+pub struct Receipt<J: Naming> {
+    seen: Front<J>,
+}
+
+impl<J: Naming> Model for Receipt<J> {
+    ghost use Rattle.std.specs.Prelude.{List};
+    ghost use Rattle.commit_head.specs.declared.item.Item.{Item};
+
+    ghost Value = { List Item };
+
+    ghost view = { λ r. r.seen };
+}
+
+/// One caller of a registry: its number, how many calls it has made, and what it has seen. Contracts see the lists; a program
+/// asks for their lengths.
+///
+/// A seat keeps what it last found published, and takes what is published anew only where its number of items is another one.
+#[derive(Drop)]
+pub struct Seat<J: Naming> {
+    alloc: Global,
+    reader: Option<SeatReader<J>>,
+    number: usize,
+    calls: u64,
+    count: u64,
+    seen: Front<J>,
+    told: Front<J>,
+    page: Published,
+}
+
+impl<J: Naming> Model for Seat<J> {
+    ghost use Rattle.std.specs.Prelude.{◌≡◌, ◌<◌, ◌+◌, length, IsSome};
+    ghost use Rattle.shared_registry.specs.Seats.{calls_of, AllBelow};
+    ghost use Rattle.shared_registry.specs.Seated.{Seated};
+    ghost use Rattle.shared_registry.specs.Shown.{IsOf};
+
+    ghost Value = { Seated };
+
+    ghost view = { λ s. record { number = s.number; calls = s.calls; seen = s.seen; told = s.told; own = calls_of s.number s.seen } };
+
+    ghost invariant = { λ s. (s.number < 32) × (s.count ≡ length (calls_of s.number s.seen)) × AllBelow (s.calls + 1) (calls_of s.number s.seen) × IsSome s.reader × IsOf J.history J.domain s.page };
+}
+
+impl<J: Naming> Seat<J> {
+    ghost use Rattle.std.specs.Prelude.{◌≡◌, ◌<◌, ◌^◌, ◌+◌, length, nat_lt, IfOk, MatchResult, true};
+
+    /// How many items it has seen.
+    pub fn place(&self) -> u64
+        ensures place { result ≡ length self.now.seen }
+        ensures lawful { IsLawfulJournal J.domain self.now.seen }
+        ensures own { calls_of self.now.number self.now.seen ≡ self.now.own }
+    {
+        let _number = self.number;
+        self.seen.len()
+    }
+
+    /// Its number, below 32.
+    pub fn number(&self) -> usize
+        ensures { (result ≡ self.now.number) × (result < 32) }
+    {
+        self.number
+    }
+
+    /// How many calls it has made: the number of the last one.
+    pub fn calls(&self) -> u64
+        ensures { result ≡ self.now.calls }
+    {
+        self.calls
+    }
+
+    /// May it make a call more? A seat makes 2^48 of them.
+    pub fn has_calls(&self) -> bool
+        ensures { result ≡ nat_lt self.now.calls (2 ^ 48) }
+    {
+        self.calls < 1 << 48
+    }
+
+    /// A seat that has seen nothing.
+    pub(crate) fn new(
+        alloc: Global,
+        reader: SeatReader<J>,
+        number: usize,
+        start: &Front<J>,
+        page: Published,
+    ) -> Seat<J>
+        requires number { number < 32 }
+        requires start { start.now ≡ [] }
+        requires page { IsOf J.history J.domain page }
+        ensures { (result.seen ≡ []) × (result.told ≡ []) × (result.own ≡ []) × (result.calls ≡ 0) }
+    {
+        Seat {
+            alloc,
+            reader: Some(reader),
+            number,
+            calls: 0,
+            count: 0,
+            seen: start.again(),
+            told: start.again(),
+            page,
+        }
+    }
+
+    /// What it has seen.
+    pub(crate) fn receipt(&self) -> Receipt<J>
+        ensures { result ≡ self.now.seen }
+    {
+        Receipt {
+            seen: self.seen.again(),
+        }
+    }
+
+    /// Does what is published fit what it has seen: its place, and the count of its commits?
+    pub(crate) fn fits(&self, published: &Published) -> bool
+        requires { IsOf J.history J.domain published.now }
+        ensures seen { IsTrue result → IsPrefix self.now.seen published.now.journal }
+        ensures own { IsTrue result → calls_of self.now.number published.now.journal ≡ self.now.own }
+    {
+        let front: Front<J> = published.front();
+        if published.count(self.number) != self.count || !self.seen.begins(&front) {
+            return false;
+        }
+        true
+    }
+
+    /// Has seen this front from now on, which has the same calls of the seat.
+    pub(crate) fn see(&mut self, front: Front<J>)
+        requires seen { IsPrefix self.old.seen front }
+        requires own { calls_of self.old.number front ≡ self.old.own }
+        ensures goes { Goes self.old self.new }
+        ensures own { self.new.own ≡ self.old.own }
+        ensures seen { self.new.seen ≡ front }
+    {
+        self.seen = front;
+    }
+
+    /// The answer to a query, on the books of what is then seen. It waits for nobody.
+    pub fn query(&mut self, batch: &Batch) -> Result<Shared<Reply>, NoAnswer>
+        requires has_calls { self.old.calls < 2 ^ 48 }
+        requires query { is_query batch.now.ops ≡ true }
+        requires domain { batch.now.domain ≡ J.domain }
+        ensures answer { IfOk result (λ reply. reply ≡ reply_to batch.now (books_of (batches_of self.new.seen))) }
+        ensures entered { MatchResult result (λ _. Entered J.domain self.old self.new) (λ _. Stays J.domain self.old self.new) }
+        ensures own { self.new.own ≡ self.old.own }
+    {
+        let _seen = self.seen.len();
+        self.calls += 1;
+        let Some(reader) = self.reader.take() else {
+            unreachable!()
+        };
+        let (reader, found) = find(
+            reader,
+            &mut self.page,
+            &self.seen,
+            &self.told,
+            self.number,
+            self.count,
+        );
+        self.reader = Some(reader);
+        let front = match found {
+            Ok(front) => front,
+            Err(why) => return Err(why),
+        };
+        let _place = front.len();
+        match answered(self.alloc, &self.page, batch) {
+            Ok(reply) => {
+                self.seen = front;
+                Ok(reply)
+            }
+            Err(AllocError) => Err(NoAnswer::NoMemory),
+        }
+    }
+
+    /// Later queries and submits begin with what the receipt's seat had seen. It waits for nobody and takes no memory.
+    pub fn learn(&mut self, receipt: &Receipt<J>)
+        ensures told { IsPrefix receipt.now self.new.told × IsPrefix self.old.told self.new.told }
+        ensures seen { (self.new.seen ≡ self.old.seen) × (self.new.own ≡ self.old.own) × (self.new.number ≡ self.old.number) × (self.new.calls ≡ self.old.calls) }
+    {
+        self.told = self.told.longer(&receipt.seen);
+    }
+}
+
+/// Looks once at what is published, and keeps it where it is another one.
+fn look<J: Naming>(
+    reader: SeatReader<J>,
+    page: &mut Published,
+) -> (SeatReader<J>, Result<(), NoAnswer>)
+    requires { IsOf J.history J.domain page.old }
+    ensures { IsOf J.history J.domain page.new }
+{
+    let reading = match reader.enter_as::<Sees<J>>() {
+        Ok(reading) => reading,
+        Err(reader) => return (reader, Err(NoAnswer::NoEntry)),
+    };
+    let newer = reading.get().newer(page);
+    let reader = reading.leave();
+    match newer {
+        Ok(None) => (reader, Ok(())),
+        Ok(Some(newer)) => {
+            *page = newer;
+            (reader, Ok(()))
+        }
+        Err(AllocError) => (reader, Err(NoAnswer::NoMemory)),
+    }
+}
+
+/// Looks, and answers the journal that is published, where it fits what was seen and told, and the count of the seat's commits.
+fn find<J: Naming>(
+    reader: SeatReader<J>,
+    page: &mut Published,
+    seen: &Front<J>,
+    told: &Front<J>,
+    number: usize,
+    count: u64,
+) -> (SeatReader<J>, Result<Front<J>, NoAnswer>)
+    requires number { number < 32 }
+    requires page { IsOf J.history J.domain page.old }
+    ensures page { IsOf J.history J.domain page.new }
+    ensures found { IfOk result.1 (λ front. front ≡ page.new.journal) }
+    ensures seen { IfOk result.1 (λ front. IsPrefix seen.now front) }
+    ensures told { IfOk result.1 (λ front. IsPrefix told.now front) }
+    ensures count { IfOk result.1 (λ front. length (calls_of number front) ≡ count) }
+{
+    let (reader, looked) = look(reader, page);
+    if let Err(why) = looked {
+        return (reader, Err(why));
+    }
+    let front: Front<J> = page.front();
+    if page.count(number) == count && seen.begins(&front) && told.begins(&front) {
+        (reader, Ok(front))
+    } else {
+        (reader, Err(NoAnswer::NoEntry))
+    }
+}
+
+/// What a query is answered on what is published. The error is want of memory.
+fn answered(alloc: Global, page: &Published, batch: &Batch) -> Result<Shared<Reply>, AllocError>
+    requires query { is_query batch.now.ops ≡ true }
+    requires domain { batch.now.domain ≡ page.now.window.newest.domain }
+    ensures { IfOk result (λ reply. reply ≡ reply_to batch.now (books_of (batches_of page.now.journal))) }
+{
+    let mut work = begun(alloc, page, batch)?;
+    run_to_end(page, batch, &mut work)?;
+    let _ = page.window();
+    let _ = batch.ops();
+    let Some(reply) = work.into_reply() else {
+        unreachable!()
+    };
+    Ok(reply)
+}
