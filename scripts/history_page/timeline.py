@@ -1,0 +1,184 @@
+"""How is a call drawn? As a bar from its invoke to its reply, with the line of the earliest moments that goes down the rows."""
+from .axis import Axis
+from .markup import tag
+
+LOW_ROW, HIGH_ROW = 26, 42
+HEAD = 26
+THICK = 12
+KEY_WIDTH, KEY_HEIGHT = 34, 18
+OVERVIEW_HEIGHT = 260
+
+
+def percent(position):
+    return f"{position:g}%"
+
+
+def line(x1, y1, x2, y2, class_):
+    return tag("line", x1=percent(x1), y1=f"{y1:g}", x2=percent(x2), y2=f"{y2:g}", class_=class_)
+
+
+def cross(at, middle, class_):
+    return tag("svg", tag("use", href="#cross"), x=percent(at), y=f"{middle:g}", class_=class_)
+
+
+def svg(*parts, **attributes):
+    return tag("svg", *parts, width="100%", **attributes)
+
+
+def definitions():
+    """What all drawings of the page share."""
+    hatch = tag(
+        "pattern",
+        tag("rect", width=6, height=6, class_="hatch-ground"),
+        tag("line", x1=0, y1=0, x2=0, y2=6, class_="hatch-line"),
+        id="hatch", width=6, height=6, patternUnits="userSpaceOnUse", patternTransform="rotate(45)",
+    )
+    return svg(tag("defs", hatch, tag("path", d="M-4,-4L4,4M-4,4L4,-4", id="cross")), class_="hidden", height=0, aria_hidden="true")
+
+
+def key(*parts):
+    """A small drawing for the explanations, which shows one thing."""
+    return tag("svg", *parts, width=KEY_WIDTH, height=KEY_HEIGHT, class_="key", aria_hidden="true")
+
+
+def axis_of(rows):
+    """The axis of some rows. Where one has no reply, there is room for saying so behind the last event."""
+    return Axis([stamp for row in rows for stamp in row.stamps()], has_open=any(row.replied is None for row in rows))
+
+
+def numbers(axis):
+    """The numbers of an axis."""
+    ticks = axis.ticks()
+    texts = [tag("text", str(number), x=percent(at), y=15, class_=f"tick {side(number, at)}") for number, at in ticks]
+    texts += [tag("text", "⋯", x=percent(at), y=15, class_="tick") for at in axis.gaps()]
+    return [texts, [line(at, 20, at, HEAD, "grid") for _, at in ticks]]
+
+
+def side(number, at):
+    """On which side of its tick a number stands: a long one at an edge would be cut."""
+    if len(str(number)) < 6:
+        return "middle"
+    return "before" if at > 80 else "behind" if at < 5 else "middle"
+
+
+class Drawing:
+    """The drawings of the rows of one part of the page, all on one axis."""
+
+    def __init__(self, rows, part, height):
+        self.axis, self.part, self.height = axis_of(rows), part, height
+        self.middle, self.top, self.bottom = height / 2, height / 2 - THICK / 2, height / 2 + THICK / 2
+
+    def head(self):
+        """The axis above the rows, with the grid that each of them uses."""
+        grid = [line(at, 0, at, self.height, "grid") for _, at in self.axis.ticks()]
+        grid += [line(at, 0, at, self.height, "gap") for at in self.axis.gaps()]
+        defs = tag("defs", tag("g", grid, id=f"grid-{self.part}"))
+        return svg(defs, numbers(self.axis), class_="axis", height=HEAD, aria_hidden="true")
+
+    def row(self, row, above):
+        """The drawing of a row; `above` is the moment of the row above."""
+        parts = [tag("use", href=f"#grid-{self.part}"), self.bar(row), self.events(row), self.path(row, above)]
+        return svg(tag("title", spoken(row)), parts, class_=f"drawing {row.kind}", height=self.height, role="img")
+
+    def bar(self, row):
+        """From the invoke to the reply. A bar without a reply has an open end; one whose reply comes first is an empty frame."""
+        start = self.axis.at(row.invoked)
+        if row.replied is None:
+            return [
+                tag("rect", x=percent(start), y=self.top, width=percent(100 - start), height=THICK, class_="bar open"),
+                line(start, self.top - 2, start, self.bottom + 2, "edge"),
+                tag("text", "no reply", x="100%", y=self.middle + 3.5, dx=-4, class_="open-end"),
+            ]
+        end = self.axis.at(row.replied)
+        left, right = min(start, end), max(start, end)
+        class_ = "bar turned" if row.replied <= row.invoked else "bar"
+        return [
+            tag("rect", x=percent(left), y=self.top, width=percent(right - left), height=THICK, class_=class_),
+            line(start, self.top - 2, start, self.bottom + 2, "edge"),
+            line(end, self.top, end, self.bottom, "edge"),
+        ]
+
+    def events(self, row):
+        """The begin, and the event at which the call was decided, if it was."""
+        if row.told is None or row.told.begun is None:
+            return None
+        begun, decided = self.axis.at(row.told.begun), self.axis.at(row.told.decided())
+        begin = line(begun, self.top + 2, begun, self.bottom - 2, "begin")
+        if row.kind == "waiting":
+            return begin
+        if row.told.is_conflict():
+            return [begin, cross(decided, self.middle, "cross")]
+        dot = tag("circle", cx=percent(decided), cy=f"{self.middle:g}", r=4, class_="decided")
+        return dot if begun == decided else [begin, dot]
+
+    def path(self, row, above):
+        """The line's way through the row: from the moment above to that of this row, and down; and how far it misses the bar."""
+        if row.moment is None:
+            return None
+        now = self.axis.at(row.moment)
+        class_ = "path" if row.record else "path passing"
+        step = line(self.axis.at(above), 0, now, 0, class_) if above not in (None, row.moment) else None
+        parts = [step, line(now, 0, now, self.height, class_)]
+        if row.record and row.replied is not None and row.replied < row.moment:
+            parts.append(line(self.axis.at(row.replied), self.middle, now, self.middle, "missed"))
+            parts.append(cross(now, self.middle, "cross missed-mark"))
+        return parts
+
+
+def spoken(row):
+    """The drawing in words."""
+    words = [f"call {row.call}: invoked {row.invoked}"]
+    if row.told and row.told.begun is not None:
+        words.append(f"begun {row.told.begun}")
+    if row.told and row.told.committed_at is not None:
+        words.append(f"commit {row.told.committed_at}")
+    words.append("no reply" if row.replied is None else f"replied {row.replied}")
+    return ", ".join(words)
+
+
+def overview(rows, parts):
+    """All calls of the run, a thin bar each, with a field for each part that leads to it."""
+    axis, high = axis_of(rows), min(6, OVERVIEW_HEIGHT / len(rows))
+    bars = [overview_bar(row, axis, index * high, high) for index, row in enumerate(rows)]
+    fields, top = [], 0
+    for number, part in enumerate(parts, 1):
+        name = {"x": 4, "class_": "field-name"} if number > len(parts) / 2 else {"x": "100%", "dx": -14, "class_": "field-name right"}
+        fields.append(overview_field(number, len(part), top * high, len(part) * high, name))
+        top += len(part)
+    head = svg(numbers(axis), class_="axis", height=HEAD, aria_hidden="true")
+    height = f"{len(rows) * high:.1f}"
+    drawn = [bars, overview_path(rows, axis, high), fields]
+    return [head, svg(drawn, class_="overview", height=height, role="img", aria_label="all calls of the run")]
+
+
+def overview_bar(row, axis, top, high):
+    start = axis.at(row.invoked)
+    end = 100 if row.replied is None else axis.at(row.replied)
+    bar = small(min(start, end), max(abs(end - start), 0.15), top, max(high * 0.8, 0.8), row.kind)
+    return [bar, small(99.2, 0.8, top, max(high, 2), "noted") if row.notes else None]
+
+
+def small(left, width, top, height, kind):
+    x, y, width, height = percent(left), f"{top:.2f}", percent(round(width, 3)), f"{height:.2f}"
+    return tag("rect", x=x, y=y, width=width, height=height, class_=f"small {kind}")
+
+
+def overview_field(number, calls, top, height, name):
+    """A part's field. Its name stands where the calls leave room: they go from the upper left to the lower right."""
+    title = tag("title", f"part {number}: {calls} calls")
+    field = tag("rect", title, x=0, y=f"{top:.2f}", width="100%", height=f"{height:.2f}", class_="field")
+    named = tag("text", f"part {number}", y=f"{top + 12:.2f}", **name) if height >= 14 else None
+    return tag("a", named, field, href=f"#part-{number}")
+
+
+def overview_path(rows, axis, high):
+    parts, before = [], None
+    for index, row in enumerate(rows):
+        if row.moment is None:
+            continue
+        now, y = axis.at(row.moment), index * high
+        if before is not None and before != now:
+            parts.append(line(before, y, now, y, "path"))
+        parts.append(line(now, y, now, y + high, "path"))
+        before = now
+    return parts
