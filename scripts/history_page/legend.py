@@ -9,8 +9,10 @@ def items(rows, parts, answers):
     """The pairs of a drawing and its words."""
     yield rows_told()
     yield line_told()
-    if any(is_missed(row) for row in rows):
+    if any(row.is_missed() for row in rows):
         yield missed_told()
+    if any(row.is_turned() for row in rows):
+        yield turned_told()
     if any(row.record and row.replied is None for row in rows):
         yield open_told()
     if answers:
@@ -19,11 +21,6 @@ def items(rows, parts, answers):
         yield conflict_told()
     if any(axis_of(part).gaps() for part in parts):
         yield "⋯", "Events are left out here: nothing of the calls below happened at them."
-
-
-def is_missed(row):
-    """Does the line miss the bar of this row?"""
-    return row.record is not None and row.replied is not None and row.replied < row.moment
 
 
 def bar(left, right, class_="bar"):
@@ -47,7 +44,7 @@ def rows_told():
     return drawn, [
         "A call, from its invoke to its reply, by the numbers of the accepted events. The calls stand in the order of the records, ",
         "in which they are said to count. ", tag("b", "Place"), " is the number of the book that a call read, with an arrow that of the ",
-        "book that it made; rows of one shade stand on one book. Choose a row to see all that was asked and answered.",
+        "book that it made; rows of one shade stand on one book. Choose a row to see what was asked and answered, long texts cut.",
     ]
 
 
@@ -61,12 +58,18 @@ def line_told():
 
 
 def missed_told():
-    line = [stroke(12, MIDDLE, 26, MIDDLE, "missed"), stroke(26, 0, 26, 18, "path"), cross(26, "cross missed-mark")]
+    line = [stroke(12, MIDDLE, 26, MIDDLE, "missed"), stroke(26, 0, 26, 18, "path"), cross(26, "cross fault-mark")]
     return sample("committed", bar(0, 12), line), "The line misses this bar: the call replied before one that stands above it was invoked."
 
 
+def turned_told():
+    drawn = sample("committed", bar(6, 28, "bar turned"), stroke(28, 2, 28, 16, "edge"), cross(6, "cross fault-mark"))
+    return drawn, "The reply of this call, where the cross is, doesn't come after its invoke."
+
+
 def open_told():
-    return sample("committed", bar(4, 34, "bar open"), stroke(4, 2, 4, 16, "edge")), "A call that was committed and hasn't replied."
+    drawn = sample("committed", bar(4, 34, "bar open"), stroke(4, 2, 4, 16, "edge"))
+    return drawn, "A call without a reply. Only one that was committed stands in the order so."
 
 
 def decided_told():

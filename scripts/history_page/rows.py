@@ -37,6 +37,14 @@ class Row:
     def decided(self):
         return self.told.decided() if self.told else None
 
+    def is_turned(self):
+        """Does its reply come at its invoke or before?"""
+        return self.replied is not None and self.replied <= self.invoked
+
+    def is_missed(self):
+        """Did it reply before a call above it in the order was invoked? Then the line of the moments misses its bar."""
+        return self.record is not None and self.replied is not None and max(self.replied, self.invoked) < self.moment
+
     def stamps(self):
         """The numbers of its events that are drawn, and of its moment."""
         told = (self.told.begun, self.told.decided()) if self.told else ()
@@ -133,7 +141,7 @@ def note_stamps(listed):
             row.notes.append("the result of its reply is none that a record can have")
         if row.replied is None and row.kind != "committed":
             row.notes.append("it hasn't replied, and isn't committed")
-        elif row.replied is not None and row.replied <= row.invoked:
+        elif row.is_turned():
             row.notes.append(f"its reply ({row.replied}) doesn't come after its invoke ({row.invoked})")
 
 

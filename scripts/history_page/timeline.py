@@ -50,7 +50,7 @@ def numbers(axis):
     """The numbers of an axis."""
     ticks = axis.ticks()
     texts = [tag("text", str(number), x=percent(at), y=15, class_=f"tick {side(number, at)}") for number, at in ticks]
-    texts += [tag("text", "⋯", x=percent(at), y=15, class_="tick") for at in axis.gaps()]
+    texts += [tag("text", "⋯", x=percent(at), y=24, class_="tick") for at in axis.gaps()]
     return [texts, [line(at, 20, at, HEAD, "grid") for _, at in ticks]]
 
 
@@ -81,7 +81,7 @@ class Drawing:
         return svg(tag("title", spoken(row)), parts, class_=f"drawing {row.kind}", height=self.height, role="img")
 
     def bar(self, row):
-        """From the invoke to the reply. A bar without a reply has an open end; one whose reply comes first is an empty frame."""
+        """From the invoke to the reply. A bar without a reply has an open end; one whose reply comes first is a frame with a cross."""
         start = self.axis.at(row.invoked)
         if row.replied is None:
             return [
@@ -91,11 +91,12 @@ class Drawing:
             ]
         end = self.axis.at(row.replied)
         left, right = min(start, end), max(start, end)
-        class_ = "bar turned" if row.replied <= row.invoked else "bar"
+        class_ = "bar turned" if row.is_turned() else "bar"
         return [
             tag("rect", x=percent(left), y=self.top, width=percent(right - left), height=THICK, class_=class_),
             line(start, self.top - 2, start, self.bottom + 2, "edge"),
             line(end, self.top, end, self.bottom, "edge"),
+            cross(end, self.middle, "cross fault-mark") if row.is_turned() else None,
         ]
 
     def events(self, row):
@@ -119,9 +120,9 @@ class Drawing:
         class_ = "path" if row.record else "path passing"
         step = line(self.axis.at(above), 0, now, 0, class_) if above not in (None, row.moment) else None
         parts = [step, line(now, 0, now, self.height, class_)]
-        if row.record and row.replied is not None and row.replied < row.moment:
-            parts.append(line(self.axis.at(row.replied), self.middle, now, self.middle, "missed"))
-            parts.append(cross(now, self.middle, "cross missed-mark"))
+        if row.is_missed():
+            parts.append(line(self.axis.at(max(row.replied, row.invoked)), self.middle, now, self.middle, "missed"))
+            parts.append(cross(now, self.middle, "cross fault-mark"))
         return parts
 
 

@@ -134,10 +134,10 @@ def asked(op, names):
 
 
 def key_said(op, key, names):
-    """A key's value; an event's create may have no id yet, and other keys may have their defaults."""
+    """A key's value; an event's create may have no id yet, and its mode may be left out."""
     if key in op:
         return said(op[key], names)
-    return {"id": "(id drawn)", "mode": "restrict"}.get(key, f"(no {key})")
+    return {("create", "id"): "(id drawn)", ("drop_bundle", "mode"): "restrict"}.get((op["op"], key), f"(no {key})")
 
 
 def counted(value, one, many):
