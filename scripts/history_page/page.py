@@ -46,16 +46,21 @@ class Page:
             tag("span", swatch(kind), f"{count} {wording.KINDS[kind]}", class_="count")
             for kind, count in counts_of(self.rows).items()
         ]
-        facts = [plural(sum(row.kind == "committed" for row in self.rows), "book was made", "books were made")]
+        return tag("section", tag("p", counts), tag("p", "; ".join(self.about()) + "."), self.verdict_told(), self.seen())
+
+    def about(self):
+        """What is told of the run as a whole, and of what isn't known here."""
+        yield plural(sum(row.kind == "committed" for row in self.rows), "book was made", "books were made")
         if self.names.domain:
-            facts.append(f"names without a domain are of {wording.cut(self.names.domain, 120)}")
-        if self.answers and self.answers.refused:
-            facts.append(refused_lines(self.answers.refused))
-        return tag("section", tag("p", counts), tag("p", "; ".join(facts) + "."), self.verdict_told(), self.seen())
+            yield f"names without a domain are of {wording.cut(self.names.domain, 120)}"
+        if self.answers is None:
+            yield "conflicts are recorded nowhere, and aren't shown without the schedule's answers"
+        elif self.answers.refused:
+            yield refused_lines(self.answers.refused)
 
     def verdict_told(self):
         if self.verdict is None:
-            return None
+            return tag("p", "No verdict of ", tag("code", "regd audit"), " was given.", class_="verdict")
         if self.verdict.line is None:
             said = [tag("b", "yes"), ": the records are a history that the plain book confirms."]
             return tag("p", "The audit says ", said, class_="verdict yes")

@@ -50,7 +50,7 @@ def numbers(axis):
     """The numbers of an axis."""
     ticks = axis.ticks()
     texts = [tag("text", str(number), x=percent(at), y=15, class_=f"tick {side(number, at)}") for number, at in ticks]
-    texts += [tag("text", "⋯", x=percent(at), y=24, class_="tick") for at in axis.gaps()]
+    texts += [tag("text", "⋯", x=percent(at), y=22, class_="tick") for at in axis.gaps()]
     return [texts, [line(at, 20, at, HEAD, "grid") for _, at in ticks]]
 
 
