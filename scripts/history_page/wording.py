@@ -1,4 +1,5 @@
 """How is what a call asked, and what it was answered, told in a few words?"""
+import collections
 import json
 import re
 
@@ -61,26 +62,33 @@ ASKED = {
 
 
 class Names:
-    """Short forms of the ids and names of a run: of a UUID as many last digits as tell it from all others, of an ID its path where
-    all are of one trust domain."""
+    """Short forms of the ids and names of a run: of an entry's id as many last digits as tell it from all others, of an ID its path
+    where all are of one trust domain. Tokens have no short form: they may have the digits of an id."""
 
     def __init__(self, rows):
-        texts = {text for row in rows for text in texts_of([row.batch() or {}, row.reply, row.told.reads if row.told else []])}
-        words = {word for text in texts for word in text.split(" ")}
+        words = {word for row in rows for text in texts_of(named_in(row)) for word in text.split(" ")}
         domains = {found.group(1) for word in words if (found := ID.match(word))}
         self.domain = next(iter(domains)) if len(domains) == 1 else None
-        self.digits = digits_needed({word for word in words if UUID.match(word)})
+        self.tails = tails_of({word for word in words if UUID.match(word)})
 
     def short(self, text):
-        if UUID.match(text):
-            return "…" + text.replace("-", "")[-self.digits :]
+        if text in self.tails:
+            return f"…{self.tails[text]}"
         if (found := ID.match(text)) and found.group(1) == self.domain:
             return found.group(2)
         return text
 
     def mark(self, text):
         """A mark with its ids and names short."""
+        if text.startswith("token "):
+            return text
         return " ".join(self.short(word) for word in text.split(" "))
+
+
+def named_in(row):
+    """The parts of a call that have names of entries."""
+    reads = row.told.reads if row.told else []
+    return [(row.batch() or {}).get("ops"), row.reply, [mark for mark in reads if not mark.startswith("token ")]]
 
 
 def texts_of(value):
@@ -96,10 +104,15 @@ def texts_of(value):
             left.extend(it.values())
 
 
-def digits_needed(uuids):
-    """How many last digits tell all of them apart, at least four."""
-    digits = [uuid.replace("-", "") for uuid in uuids]
-    return next((n for n in range(4, 32) if len({it[-n:] for it in digits}) == len(digits)), 32)
+def tails_of(uuids):
+    """Of each the least of 4, 8, 12 and 32 last digits that no other one has."""
+    digits, tails = {uuid: uuid.replace("-", "") for uuid in uuids}, {}
+    for length in (4, 8, 12, 32):
+        counts = collections.Counter(it[-length:] for it in digits.values())
+        for uuid, it in digits.items():
+            if counts[it[-length:]] == 1:
+                tails.setdefault(uuid, it[-length:])
+    return tails
 
 
 def compact(value):
