@@ -20,8 +20,11 @@
 //!   rule each step over it keeps; `desk`: what lies under the lock; `run`: how a batch is run on what is published.
 #![tactic(auto)]
 
+mod commit;
 mod desk;
+mod gate;
 mod history;
+mod outcome;
 mod published;
 mod registry;
 mod rule;
@@ -29,7 +32,9 @@ mod run;
 mod seat;
 
 pub use desk::NoSeat;
+pub use gate::{Gate, OpenGate, Point};
 pub use history::{Front, History, Naming, Opened};
+pub use outcome::Outcome;
 pub use published::Published;
 pub use registry::Registry;
 pub use seat::{NoAnswer, NoEntry, Receipt, Seat};
