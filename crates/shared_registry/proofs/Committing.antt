@@ -20,9 +20,9 @@ use Rattle.batch_work.proofs.Windows.{window_stands}
 use Rattle.commit_head.specs.declared.commit.Commit.{Commit}
 use Rattle.commit_head.specs.declared.commit.Commit.TheVariants.{Committed, Conflict, Full as DidPass, NoMemory}
 use Rattle.commit_head.specs.declared.item.Item.{Item}
-use Rattle.commit_head.specs.Heads.{Goes, Head, IsAppended, IsJournal, IsRefused, Prepared, last_items, newest_of, place_of as place_at}
+use Rattle.commit_head.specs.Heads.{Goes, Head, IsAppended, IsJournal, IsRefused, Prepared, Stays, last_items, newest_of, place_of as place_at}
 use Rattle.commit_head.specs.Journals.{EachCallOnce, IsLawfulJournal, Joins, Leads, batches_of, first_state}
-use Rattle.commit_head.proofs.Begun.{journal_stays}
+use Rattle.commit_head.proofs.Begun.{journal_kept, journal_stays}
 use Rattle.commit_head.proofs.Journals.{journal_goes_on, journal_is_lawful, journal_last, leads_count, leads_more, leads_to_one, low}
 use Rattle.shared_registry.specs.Desk.{IsTied}
 use Rattle.shared_registry.specs.Outcomes.{HasLooked, IsCommitThere, IsOvertaken}
@@ -41,6 +41,12 @@ tidied domain log old new t w k = record {
   domain_is = ap (λ v. v.newest.domain) w ∙ t.domain_is;
 }
 
+pub tied_stays : (domain : Bytes) (log : List Item) (old new : Head) → IsTied domain log old → Stays old new → IsTied domain log new
+tied_stays domain log old new t s = record {
+  journal_is = journal_kept log old new t.journal_is s;
+  domain_is = ap (λ v. v.newest.domain) s.window ∙ t.domain_is;
+}
+
 -- ---- how long a journal is
 
 pub place_is : (domain : Bytes) (log : List Item) (h : Head) → IsTied domain log h → place_at h ≡ length log
@@ -56,12 +62,21 @@ lawful_more domain log item h s c t l j seat call below =
     let leads : Leads (first_state domain) log (newest_of h) = subst (λ d. Leads (first_state d) log (newest_of h)) t.domain_is t.journal_is.leads in
     journal_is_lawful domain (log ++ item ∷ []) (state_with item.batch (newest_of h)) (leads_more log item (first_state domain) (newest_of h) leads j) (once_more log item l.once (others c s log item seat call below))
 
+pub tied_more : (domain : Bytes) (log : List Item) (item : Item) (old new : Head) → IsTied domain log old → Joins item (newest_of old) → IsAppended old item new → IsTied domain (log ++ item ∷ []) new
+tied_more domain log item old new t j a = record {
+  journal_is = journal_goes_on log item old new t.journal_is j a;
+  domain_is = ap (λ v. v.newest.domain) a.window ∙ t.domain_is;
+}
+
 -- what is published has the head's newest version
 pub same_newest : (domain : Bytes) (log : List Item) (h : Head) (window : Window) → IsTied domain log h → IsJournal log (whole_head window log) → window.newest.domain ≡ domain → newest_of h ≡ window.newest
 same_newest domain log h window t j e =
     leads_to_one log (first_state domain) (newest_of h) window.newest
     (subst (λ d. Leads (first_state d) log (newest_of h)) t.domain_is t.journal_is.leads)
     (subst (λ d. Leads (first_state d) log window.newest) e j.leads)
+
+pub next_fits : (domain : Bytes) (log : List Item) (h : Head) (window : Window) (p : Prepared) → IsTied domain log h → IsJournal log (whole_head window log) → window.newest.domain ≡ domain → Goes (newest_of h) p → Goes window.newest p
+next_fits domain log h window p t j e g = subst (λ s. Goes s p) (same_newest domain log h window t j e) g
 
 pub shows_more : (domain : Bytes) (log : List Item) (p : Prepared) (window next : Window) (counts : List ℕ) → IsJournal log (whole_head window log) → Goes window.newest p → next ≡ pushed p.version window → IsLawfulJournal domain (log ++ p.item ∷ []) → IsCounted counts (log ++ p.item ∷ []) → Shows (log ++ p.item ∷ []) next counts
 shows_more domain log p window next counts j g e l c = record {

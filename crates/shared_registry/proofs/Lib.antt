@@ -11,4 +11,5 @@ pub mod Results
 pub mod Settled
 pub mod Showing
 pub mod Steps
+pub mod Submitting
 pub mod Tries

@@ -7,7 +7,7 @@ use Rattle.entry_book.specs.declared.reply.OpReply.{OpReply}
 use Rattle.entry_book.specs.declared.reply.Outcome.{Outcome}
 use Rattle.entry_book.specs.declared.reply.Outcome.TheVariants.{Answered, Committed, Refused, Repeated}
 use Rattle.entry_book.specs.declared.reply.Refusal.{Refusal}
-use Rattle.entry_book.specs.declared.reply.Refusal.TheVariants.{NotYet}
+use Rattle.entry_book.specs.declared.reply.Refusal.TheVariants.{NotYet, TokenReused}
 use Rattle.entry_book.specs.declared.reply.Reply.{Reply}
 use Rattle.entry_book.specs.Rows.{Bytes}
 use Rattle.entry_book.specs.Order.{Within}
@@ -85,7 +85,7 @@ not_answered batch books rs q =
 -- ---- a refusal is at the place of the books
 
 refused_place : (place : ℕ) (v : Verdict) (why : Refusal) → (reply_with place v).outcome ≡ Refused why → reply_with place v ≡ record { place = place; outcome = Refused why }
-refused_place place (refuses r) why e = cc
+refused_place place (refuses r) why e = ap (λ (o : Outcome). record { place = place; outcome = o }) e
 refused_place place (answers replies) why e = cc
 refused_place place (adds replies b) why e = cc
 refused_place place (repeats n replies) why e = cc
@@ -129,16 +129,22 @@ no_run false batch place b (Ok t) n rs e = no_limit t.replies _ _ e
     no_limit replies c (Some limit) e = cc
     no_limit replies c None e = cc
 
+not_repeated : (r : Refusal) (rs : List OpReply) → Refused r ≡ Repeated rs → ⊥
+not_repeated r rs e = cc
+
+one_again : (xs ys : List OpReply) → Repeated xs ≡ Repeated ys → xs ≡ ys
+one_again xs ys e = cc
+
 kept_again : (same : Bool) (batch : Batch) (b : Book) (k : KeptBatch) (place n : ℕ) (rs : List OpReply) → kept_under batch.token b ≡ Some k → ops_eq k.ops batch.ops ≡ same → reply_with place (verdict_again same k) ≡ record { place = n; outcome = Repeated rs } → IsKept batch b n rs
-kept_again true batch b k place n rs u s e = record { kept = k; there = u; same = s; place = ap (λ (x : Reply). x.place) e; replies_are = cc }
-kept_again false batch b k place n rs u s e = cc
+kept_again true batch b k place n rs u s e = record { kept = k; there = u; same = s; place = ap (λ (x : Reply). x.place) e; replies_are = one_again k.replies rs (ap (λ (x : Reply). x.outcome) e) }
+kept_again false batch b k place n rs u s e = absurd (not_repeated TokenReused rs (ap (λ (x : Reply). x.outcome) e))
 
 kept_over : (o : Option KeptBatch) (batch : Batch) (place : ℕ) (b : Book) (n : ℕ) (rs : List OpReply) → kept_under batch.token b ≡ o → reply_with place (verdict_over o batch place b) ≡ record { place = n; outcome = Repeated rs } → IsKept batch b n rs
 kept_over (Some k) batch place b n rs u e = kept_again (ops_eq k.ops batch.ops) batch b k place n rs u refl e
 kept_over None batch place b n rs u e = absurd (no_run (is_query batch.ops) batch place b (run batch.domain batch.ops b) n rs (ap (λ (x : Reply). x.outcome) e))
 
 kept_time : (early : Bool) (batch : Batch) (place : ℕ) (b : Book) (n : ℕ) (rs : List OpReply) → reply_with place (cond early (refuses NotYet) (verdict_on batch place (Some b))) ≡ record { place = n; outcome = Repeated rs } → IsKept batch b n rs
-kept_time true batch place b n rs e = cc
+kept_time true batch place b n rs e = absurd (not_repeated NotYet rs (ap (λ (x : Reply). x.outcome) e))
 kept_time false batch place b n rs e = kept_over (kept_under batch.token b) batch place b n rs refl e
 
 -- a row that is kept under a token has it
@@ -186,17 +192,21 @@ replied : (domain : Bytes) (items first later : List Item) (item : Item) → IsL
 replied domain items first later item l e =
     let all : replies_from first_books (batches_of (first ++ item ∷ later)) ≡ committed_after 0 (first ++ item ∷ later) = subst (λ x. replies_from first_books (batches_of x) ≡ committed_after 0 x) e l.replies in
     let both = sym (reply_at first_books first item later) ∙ (ap (λ rs. slice_get rs (length first)) all ∙ committed_at 0 first item later) in
-    some_is _ _ both
+    let place : 0 + length first + 1 ≡ length first + 1 = omega arith in
+    some_is _ _ both ∙ ap (λ m. record { place = m; outcome = Committed item.replies }) place
   where
     some_is : (x y : Reply) → Some x ≡ Some y → x ≡ y
     some_is x y e = cc
 
 same_replies : (r : Reply) (m n : ℕ) (xs ys : List OpReply) → r ≡ record { place = m; outcome = Committed xs } → r ≡ record { place = n; outcome = Committed ys } → xs ≡ ys
-same_replies r m n xs ys e f = cc
+same_replies r m n xs ys e f = one_list xs ys (sym (ap (λ (x : Reply). x.outcome) e) ∙ ap (λ (x : Reply). x.outcome) f)
+  where
+    one_list : (xs ys : List OpReply) → Committed xs ≡ Committed ys → xs ≡ ys
+    one_list xs ys e = cc
 
 is_some : (o : Option Bytes) (x : Bytes) → o ≡ Some x → IsSome o
 is_some None x e = cc
-is_some (Some y) x e = tt
+is_some (Some y) x e = refl
 
 pub repeated_is : (domain : Bytes) (t : Seated) (batch : Batch) (w : Work) (reply : Reply) (rs : List OpReply) → IsRead domain t.seen batch w → IsLawfulJournal domain t.seen → is_query batch.ops ≡ false → IsAnswer w reply → reply.outcome ≡ Repeated rs → WasCommitted t batch rs reply.place
 repeated_is domain t batch w reply rs r l q a o =

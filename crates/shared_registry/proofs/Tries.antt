@@ -41,6 +41,16 @@ are_on : (journal more : List Batch) (batch : Batch) (least place end : ℕ) (ba
 are_on journal more batch least place end [] le o = tt
 are_on journal more batch least place end (base ∷ bases) le o = (o.0, overtaken_on journal more batch base place end le o.1, are_on journal more batch least base base bases (omega arith) o.2)
 
+-- ---- a seat goes on
+
+pub goes_on : (s t u : Seated) → Goes s t → Goes t u → Goes s u
+goes_on s t u a b = record {
+  number = b.number ∙ a.number;
+  calls = b.calls ∙ a.calls;
+  told = b.told ∙ a.told;
+  seen = prefix_trans s.seen t.seen u.seen a.seen b.seen;
+}
+
 -- ---- one try more
 
 pub none_yet : (s : Seated) (batch : Batch) (place : ℕ) → WasOvertaken s s batch 0 place

@@ -1,9 +1,10 @@
 -- What a batch of changes is answered, in the words of its seat's lists and of the plain book.
-use Rattle.std.specs.Prelude.{◌≡◌, ◌⊎◌, ⊤, ℕ, ◌+◌, ◌-◌, ◌<◌, ◌≤◌, true, List, [], ◌∷◌, ◌++◌, length, take, slice_get, Option, Some, IsSome, Result, Ok, Err}
+use Rattle.std.specs.Prelude.{◌≡◌, ◌⊎◌, ⊤, ℕ, ◌+◌, ◌-◌, ◌<◌, ◌≤◌, true, List, [], ◌∷◌, ◌++◌, length, take, slice_get, Option, Some, None, IsSome, Result, Ok, Err}
 use mathlib.Core.List.{IsPrefix}
 use Rattle.entry_book.specs.declared.limit.Limit.{Limit}
 use Rattle.entry_book.specs.declared.reply.OpReply.{OpReply}
-use Rattle.entry_book.specs.declared.reply.Outcome.TheVariants.{Refused as WasRefused}
+use Rattle.entry_book.specs.declared.reply.Outcome.{Outcome as Became}
+use Rattle.entry_book.specs.declared.reply.Outcome.TheVariants.{Refused as WasRefused, Repeated as WasRepeated}
 use Rattle.entry_book.specs.declared.reply.Refusal.{Refusal}
 use Rattle.entry_book.specs.declared.reply.Refusal.TheVariants.{Full as TooMuch}
 use Rattle.entry_book.specs.declared.reply.Reply.{Reply}
@@ -115,6 +116,11 @@ IsOver o = (n : ℕ) → o ≡ Conflict n → ⊥
 -- the answer of one that this limit refuses
 abbrev pub IsFull : Limit → ℕ → Outcome → Type 0
 IsFull limit n o = (o ≡ NoMemory) ⊎ (o ≡ Refused (record { place = n; outcome = WasRefused (TooMuch limit) }))
+
+-- what a reply has that was given before
+abbrev pub IsRepeated : Became → Option (List OpReply) → Type 0
+IsRepeated o None = (replies : List OpReply) → o ≡ WasRepeated replies → ⊥
+IsRepeated o (Some replies) = o ≡ WasRepeated replies
 
 -- The try began at or behind what the seat had seen and was told of, and was overtaken.
 pub record IsOvertakenOnce (s t : Seated) (batch : Batch) (n : ℕ) : Type 0 where

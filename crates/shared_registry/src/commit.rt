@@ -1,6 +1,6 @@
 //! What is done under the lock to a work that is ready?
 
-ghost use Rattle.std.specs.Prelude.{◌≡◌, ◌⊎◌, ◌+◌, ◌++◌, ◌∷◌, [], drop, length, IfOk};
+ghost use Rattle.std.specs.Prelude.{◌≡◌, ◌⊎◌, ◌<◌, ◌+◌, ◌++◌, ◌∷◌, [], drop, length, IfOk};
 ghost use mathlib.Core.List.{IsPrefix};
 ghost use Rattle.batch_work.specs.Windows.{pushed};
 ghost use Rattle.batch_work.specs.Working.{status_of};
@@ -55,11 +55,7 @@ fn append<J: Naming, R: Wait>(
 }
 
 /// Publishes this value, as often as it takes until there is memory.
-fn publish<J: Naming, R: Wait>(
-    rt: &R,
-    writer: WindowWriter<J>,
-    next: Published,
-) -> WindowWriter<J>
+fn publish<J: Naming, R: Wait>(rt: &R, writer: WindowWriter<J>, next: Published) -> WindowWriter<J>
     requires clear { drop writer.behind writer.log.items ≡ [] }
     requires of_it { IsOf J.history J.domain next }
     requires more { IsPrefix writer.desk.shown.value.journal next.journal }
@@ -121,6 +117,8 @@ pub(crate) fn decide<J: Naming, R: Wait>(
     ensures decided { IsDecided last.old last.new seat.old seat.new work.now result.1 }
 {
     let published = writer.published();
+    let _window = published.window();
+    let _place = last.len();
     if !seat.fits(published) {
         return (writer, Err(NoEntry));
     }

@@ -6,7 +6,7 @@ ghost use Rattle.entry_book.specs.Batches.{is_query};
 ghost use Rattle.entry_book.specs.History.{books_of, reply_to};
 ghost use Rattle.commit_head.specs.Journals.{batches_of};
 ghost use Rattle.batch_work.specs.Working.{HasReplies, status_of};
-ghost use Rattle.shared_registry.specs.Outcomes.{HasHeard, IsFull, IsOver, IsSubmitted, IsTry};
+ghost use Rattle.shared_registry.specs.Outcomes.{HasHeard, IsFull, IsOver, IsRepeated, IsSubmitted, IsTry};
 ghost use Rattle.shared_registry.specs.Seated.{Along, Entered, Goes, Stays};
 ghost use Rattle.shared_registry.specs.Seats.{AllBelow};
 ghost use Rattle.shared_registry.specs.Works.{IsRead};
@@ -15,6 +15,7 @@ use crate::desk::{Core, NoSeat};
 use crate::gate::{Gate, Point};
 use crate::history::{History, Naming, Opened};
 use crate::outcome::Outcome;
+use crate::run::let_go;
 use crate::seat::{NoAnswer, NoEntry, Receipt, Seat};
 use batch_work::{Status, Work};
 use commit_head::Commit;
@@ -31,6 +32,16 @@ enum Try {
     Overtaken(u64, Batch),
 }
 
+/// The answers that are repeated, where a batch was committed before. The error is want of memory.
+fn repeated(reply: &Reply) -> Result<Option<Shared<Sequence<OpReply>>>, AllocError>
+    ensures { IfOk result (IsRepeated reply.now.outcome) }
+{
+    match &reply.outcome {
+        entry_book::Outcome::Repeated(replies) => Ok(Some(replies.clone()?)),
+        _ => Ok(None),
+    }
+}
+
 /// What a batch of changes is answered that awaits no commit: it is refused, or was committed before.
 fn settled<J: Naming>(seat: &Seat<J>, work: Work) -> Outcome
     requires read { IsRead J.domain seat.now.seen work.batch work }
@@ -44,13 +55,12 @@ fn settled<J: Naming>(seat: &Seat<J>, work: Work) -> Outcome
     let Some(reply) = work.into_reply() else {
         unreachable!()
     };
-    let repeated = match &reply.get().outcome {
-        entry_book::Outcome::Repeated(replies) => Some((reply.get().place, replies.clone())),
-        _ => None,
+    let repeated = match repeated(reply.get()) {
+        Ok(repeated) => repeated,
+        Err(AllocError) => return Outcome::NoMemory,
     };
     match repeated {
-        Some((place, Ok(replies))) => Outcome::Repeated(place, replies),
-        Some((_, Err(AllocError))) => Outcome::NoMemory,
+        Some(replies) => Outcome::Repeated(reply.get().place, replies),
         None => Outcome::Refused(reply),
     }
 }
@@ -163,13 +173,7 @@ impl<J: Naming> Registry<J> {
     }
 
     /// One try of a batch of changes.
-    fn attempt<R: Wait, G: Gate>(
-        &self,
-        rt: &R,
-        seat: &mut Seat<J>,
-        gate: &G,
-        batch: Batch,
-    ) -> Try
+    fn attempt<R: Wait, G: Gate>(&self, rt: &R, seat: &mut Seat<J>, gate: &G, batch: Batch) -> Try
         requires below { AllBelow seat.old.calls seat.old.own }
         requires changes { is_query batch.ops ≡ false }
         requires domain { batch.domain ≡ J.domain }
@@ -181,14 +185,14 @@ impl<J: Naming> Registry<J> {
             Err(NoAnswer::NoMemory) => return Try::Over(Outcome::NoMemory),
             Err(NoAnswer::NoEntry) => return Try::Over(Outcome::NoEntry),
         };
-        let replies = match work.replies() {
-            Some(replies) => replies.clone(),
-            None => return Try::Over(settled(seat, work)),
+        let Some(replies) = work.replies() else {
+            return Try::Over(settled(seat, work));
         };
-        match replies {
-            Ok(replies) => self.commit(rt, seat, gate, work, replies),
-            Err(AllocError) => Try::Over(Outcome::NoMemory),
-        }
+        let Ok(replies) = replies.clone() else {
+            let_go(work);
+            return Try::Over(Outcome::NoMemory);
+        };
+        self.commit(rt, seat, gate, work, replies)
     }
 
     /// The commit of one try, under the lock.
@@ -214,9 +218,10 @@ impl<J: Naming> Registry<J> {
         let decided = core.commit(rt, &self.history, seat, &work);
         MutexGuard::unlock(core);
         gate.pass(Point::AfterCommit, number, call);
+        let batch = work.into_batch();
         match decided {
             Ok(Commit::Committed(place)) => Try::Over(Outcome::Committed(place, replies)),
-            Ok(Commit::Conflict(place)) => Try::Overtaken(place, work.into_batch()),
+            Ok(Commit::Conflict(place)) => Try::Overtaken(place, batch),
             Ok(Commit::Full(limit, place)) => Try::Over(full(self.alloc, limit, place)),
             Ok(Commit::NoMemory) => Try::Over(Outcome::NoMemory),
             Err(NoEntry) => Try::Over(Outcome::NoEntry),

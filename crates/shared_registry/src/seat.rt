@@ -14,7 +14,7 @@ use crate::gate::{Gate, Point};
 use crate::history::{Front, Naming};
 use crate::published::Published;
 use crate::rule::{Rule, Sees, View};
-use crate::run::{begun, run_to_end};
+use crate::run::{begun, let_go, run_to_end};
 use batch_work::Work;
 use commit_head::Item;
 use entry_book::{Batch, Reply, Shared};
@@ -218,6 +218,7 @@ impl<J: Naming> Seat<J> {
         )?;
         let _made = batch.ops();
         let _place = front.len();
+        let _window = self.page.window();
         let Ok(mut work) = begun(self.alloc, &self.page, batch) else {
             return Err(NoAnswer::NoMemory);
         };
@@ -225,7 +226,10 @@ impl<J: Naming> Seat<J> {
         gate.pass(Point::AfterBegin, self.number as u32, self.calls);
         match run_to_end(&self.page, &mut work) {
             Ok(()) => Ok(work),
-            Err(AllocError) => Err(NoAnswer::NoMemory),
+            Err(AllocError) => {
+                let_go(work);
+                Err(NoAnswer::NoMemory)
+            }
         }
     }
 
@@ -240,14 +244,18 @@ impl<J: Naming> Seat<J> {
     {
         let _seen = self.seen.len();
         self.calls += 1;
-        let front = find(
+        let found = find(
             &mut self.reader,
             &mut self.page,
             &self.seen,
             &self.told,
             self.number,
             self.count,
-        )?;
+        );
+        let front = match found {
+            Ok(front) => front,
+            Err(why) => return Err(why),
+        };
         let _place = front.len();
         match answered(self.alloc, &self.page, batch) {
             Ok(reply) => {
