@@ -1,5 +1,5 @@
 -- The calls of a seat in a journal and in a beginning of it.
-use Rattle.std.proofs.Common.{◌≡◌, ℕ, ◌≤◌, ◌+◌, ◌==◌, Bool, true, false, cond, List, [], ◌∷◌, ◌++◌, length, refl, sym, ap, ◌∙◌, arith, length-append}
+use Rattle.std.proofs.Common.{◌≡◌, ℕ, ◌≤◌, ◌+◌, ◌==◌, Bool, true, false, cond, List, [], ◌∷◌, ◌++◌, length, refl, sym, ap, subst, ◌∙◌, arith, length-append}
 use Rattle.std.proofs.lemmas.List.{append-nil}
 use Rattle.std.proofs.lemmas.Bool.Decides.{nat_tests}
 use mathlib.Core.List.{IsPrefix}
@@ -48,3 +48,14 @@ calls_length s (i ∷ log) = let h = calls_short s i (i.seat == s) (calls_of s l
 pub below_snoc : (c : ℕ) (xs : List ℕ) → AllBelow (c + 1) xs → AllBelow (c + 1) (xs ++ c ∷ [])
 below_snoc c [] b = (omega arith, tt)
 below_snoc c (x ∷ xs) b = (b.0, below_snoc c xs b.1)
+
+-- ---- a front whose last item is the seat's own
+
+pub own_more : (s : ℕ) (front log : List Item) (e : Item) → front ≡ log ++ e ∷ [] → e.seat ≡ s → calls_of s front ≡ calls_of s log ++ e.call ∷ []
+own_more s front log e f is = ap (calls_of s) f ∙ calls_snoc s log e is
+
+pub count_more : (s : ℕ) (front log : List Item) (e : Item) → front ≡ log ++ e ∷ [] → e.seat ≡ s → length (calls_of s front) ≡ length (calls_of s log) + 1
+count_more s front log e f is = ap length (own_more s front log e f is) ∙ length-append (calls_of s log) (e.call ∷ [])
+
+pub below_own : (c s : ℕ) (front log : List Item) (e : Item) → front ≡ log ++ e ∷ [] → e.seat ≡ s → e.call ≡ c → AllBelow (c + 1) (calls_of s log) → AllBelow (c + 1) (calls_of s front)
+below_own c s front log e f is call b = subst (AllBelow (c + 1)) (ap (λ k. calls_of s log ++ k ∷ []) (sym call) ∙ sym (own_more s front log e f is)) (below_snoc c (calls_of s log) b)

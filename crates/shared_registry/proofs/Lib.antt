@@ -1,9 +1,15 @@
 pub mod Adding
 pub mod Answered
 pub mod Calls
+pub mod Committing
 pub mod Counts
+pub mod Once
 pub mod Opening
+pub mod Overtaken
 pub mod Prefixes
 pub mod Results
+pub mod Settled
 pub mod Showing
 pub mod Steps
+pub mod Submitting
+pub mod Tries

@@ -1,4 +1,5 @@
 pub mod Desk
+pub mod Outcomes
 pub mod Rules
 pub mod Seated
 pub mod Seats

@@ -1,17 +1,24 @@
 //! What lies under the lock?
 
 ghost use Rattle.std.specs.Prelude.{◌≡◌, [], IfOk, MatchResult};
+ghost use Rattle.batch_work.specs.Working.{status_of};
+ghost use Rattle.shared_registry.specs.Outcomes.{IsDecided};
 ghost use Rattle.shared_registry.specs.Seated.{Goes};
+ghost use Rattle.shared_registry.specs.Seats.{AllBelow};
+ghost use Rattle.shared_registry.specs.Works.{IsRead};
 
-use crate::history::{Front, Naming};
+use crate::commit::decide;
+use crate::history::{Front, History, Naming};
 use crate::published::{Published, opening};
 use crate::rule::{Rule, View};
 use crate::seat::{NoEntry, Receipt, Seat};
-use commit_head::Head;
+use batch_work::{Status, Work};
+use commit_head::{Commit, Head};
 use left_right::writer::Writer;
 use spiffe_name::TrustDomain;
 use std::alloc::{AllocError, Global};
 use std::marker::Model;
+use std::mem::replace;
 use std::sync::Wait;
 
 /// The writer of what is published.
@@ -108,6 +115,40 @@ impl<J: Naming> Core<J> {
         }
         seat.see(self.last.again());
         Ok(seat.receipt())
+    }
+
+    /// Sees all items so far, and commits a work that is ready as the seat's call, or tells why not.
+    pub(crate) fn commit<R: Wait>(
+        &mut self,
+        rt: &R,
+        history: &History<J>,
+        seat: &mut Seat<J>,
+        work: &Work,
+    ) -> Result<Commit, NoEntry>
+        requires call { AllBelow seat.old.calls seat.old.own }
+        requires ready { status_of work.now ≡ Status.Ready }
+        requires read { IsRead J.domain seat.old.seen work.now.batch work.now }
+        ensures goes { Goes seat.old seat.new }
+        ensures decided { IsDecided self.old self.new seat.old seat.new work.now result }
+    {
+        let Some(writer) = self.writer.take() else {
+            unreachable!()
+        };
+        let (writer, decided) = decide(
+            rt,
+            self.alloc,
+            history,
+            &mut self.head,
+            &mut self.last,
+            writer,
+            seat,
+            work,
+        );
+        match replace(&mut self.writer, Some(writer)) {
+            None => {}
+            Some(_other) => unreachable!(),
+        }
+        decided
     }
 
     /// How many items are kept.

@@ -1,27 +1,33 @@
 //! What may many threads rely on that share one registration book?
 //!
 //! Each caller has a seat. A query takes no lock and waits for nobody: the seat looks once at what is published, and runs the
-//! batch on that. What a seat has seen only grows, is always a lawful journal, and begins with all that it was told of by the
-//! receipts of others; so the answers of callers that meet stand in one list of committed batches.
+//! batch on that. A batch of changes is run the same way; the lock is held for its commit alone, and where a batch that was
+//! committed since wrote what it had read, it begins again while tries are left. What a seat has seen only grows, is always a
+//! lawful journal, and begins with all that it was told of by the receipts of others; so the answers of callers that meet stand
+//! in one list of committed batches.
 //!
 //! - [`Registry`]: what the threads share. [`Seat`]: one caller, with what it has seen; [`NoSeat`]: there are 32 already.
+//! - [`Outcome`]: what became of a batch of changes. [`Gate`]: where a test may hold it on its way, at each [`Point`];
+//!   [`OpenGate`] holds nothing.
 //! - [`NoAnswer`] and [`NoEntry`]: why a query, or a question for news, has no answer.
 //! - [`Receipt`]: what a seat had seen, to be learnt by another one.
 //! - [`Naming`] and [`Opened`]: which registry it is, and its empty history; seats, receipts and registries of one naming belong
 //!   together, which the types say.
 //!
-//! No call commits yet: the head, the writer and the shared history lie under the lock, and what a commit will need of them is
-//! proved ([`History`], [`Front`] and [`Published`] have it), but the commit itself is to come. So the book of a registry is the empty one today.
-//!
-//! The definitions stand in `specs/`: what is published in `Shown`, what a seat is in `Seated` and `Seats`, what lies under the
-//! lock in `Desk`, a work on its way in `Works`, the rule of the history's word in `Rules`.
+//! The definitions stand in `specs/`: what a batch of changes is answered in `Outcomes`, what is published in `Shown`, what a seat
+//! is in `Seated` and `Seats`, what lies under the lock in `Desk`, a work on its way in `Works`, the rule of the history's word in
+//! `Rules`.
 //!
 //! - `history`: the one history, and the beginnings of it that were seen; `published` and `rule`: what readers look at, and which
-//!   rule each step over it keeps; `desk`: what lies under the lock; `run`: how a batch is run on what is published.
+//!   rule each step over it keeps; `run`: how a batch is run on what is published; `desk` and `commit`: what lies under the lock,
+//!   and what is done there; `outcome` and `gate`.
 #![tactic(auto)]
 
+mod commit;
 mod desk;
+mod gate;
 mod history;
+mod outcome;
 mod published;
 mod registry;
 mod rule;
@@ -29,7 +35,9 @@ mod run;
 mod seat;
 
 pub use desk::NoSeat;
+pub use gate::{Gate, OpenGate, Point};
 pub use history::{Front, History, Naming, Opened};
+pub use outcome::Outcome;
 pub use published::Published;
 pub use registry::Registry;
 pub use seat::{NoAnswer, NoEntry, Receipt, Seat};

@@ -1,18 +1,83 @@
 //! What do callers' threads share?
 
-ghost use Rattle.std.specs.Prelude.{◌≡◌, ◌<◌, ◌^◌, [], IfOk, MatchResult, true};
+ghost use Rattle.std.specs.Prelude.{◌≡◌, ◌<◌, ◌^◌, [], IfOk, MatchResult, true, false};
+ghost use mathlib.Core.List.{IsPrefix};
 ghost use Rattle.entry_book.specs.Batches.{is_query};
 ghost use Rattle.entry_book.specs.History.{books_of, reply_to};
 ghost use Rattle.commit_head.specs.Journals.{batches_of};
-ghost use Rattle.shared_registry.specs.Seated.{Entered, Goes, Stays};
+ghost use Rattle.batch_work.specs.Working.{HasReplies, status_of};
+ghost use Rattle.shared_registry.specs.Outcomes.{HasHeard, IsFull, IsOver, IsRepeated, IsSubmitted, IsTry};
+ghost use Rattle.shared_registry.specs.Seated.{Along, Entered, Goes, Stays};
+ghost use Rattle.shared_registry.specs.Seats.{AllBelow};
+ghost use Rattle.shared_registry.specs.Works.{IsRead};
 
 use crate::desk::{Core, NoSeat};
+use crate::gate::{Gate, Point};
 use crate::history::{History, Naming, Opened};
+use crate::outcome::Outcome;
+use crate::run::let_go;
 use crate::seat::{NoAnswer, NoEntry, Receipt, Seat};
-use entry_book::{Batch, Reply, Shared};
+use batch_work::{Status, Work};
+use commit_head::Commit;
+use entry_book::{Batch, Limit, OpReply, Refusal, Reply, Sequence, Shared};
 use spiffe_name::TrustDomain;
 use std::alloc::{AllocError, Global};
 use std::sync::{Mutex, MutexGuard, Wait};
+
+/// What one try of a batch of changes comes to.
+enum Try {
+    /// The batch has its answer.
+    Over(Outcome),
+    /// It was overtaken, by this place; the batch, to be tried again.
+    Overtaken(u64, Batch),
+}
+
+/// The answers that are repeated, where a batch was committed before. The error is want of memory.
+fn repeated(reply: &Reply) -> Result<Option<Shared<Sequence<OpReply>>>, AllocError>
+    ensures { IfOk result (IsRepeated reply.now.outcome) }
+{
+    match &reply.outcome {
+        entry_book::Outcome::Repeated(replies) => Ok(Some(replies.clone()?)),
+        _ => Ok(None),
+    }
+}
+
+/// What a batch of changes is answered that awaits no commit: it is refused, or was committed before.
+fn settled<J: Naming>(seat: &Seat<J>, work: Work) -> Outcome
+    requires read { IsRead J.domain seat.now.seen work.batch work }
+    requires changes { is_query work.batch.ops ≡ false }
+    requires unready { status_of work ≡ Status.Ready → ⊥ }
+    ensures over { IsOver result }
+    ensures answer { IsSubmitted seat.now seat.now work.batch 0 result }
+{
+    let _place = seat.place();
+    let _made = work.batch().ops();
+    let Some(reply) = work.into_reply() else {
+        unreachable!()
+    };
+    let repeated = match repeated(reply.get()) {
+        Ok(repeated) => repeated,
+        Err(AllocError) => return Outcome::NoMemory,
+    };
+    match repeated {
+        Some(replies) => Outcome::Repeated(reply.get().place, replies),
+        None => Outcome::Refused(reply),
+    }
+}
+
+/// What a batch of changes is answered that this limit doesn't let in. The error is want of memory.
+fn full(alloc: Global, limit: Limit, place: u64) -> Outcome
+    ensures { IsFull limit place result }
+{
+    let reply = Reply {
+        place,
+        outcome: entry_book::Outcome::Refused(Refusal::Full(limit)),
+    };
+    match Shared::of(alloc, reply) {
+        Ok(reply) => Outcome::Refused(reply),
+        Err(AllocError) => Outcome::NoMemory,
+    }
+}
 
 /// One registration book for many threads, shared by `&self`. A caller has a seat, and all that the seats are answered stands in
 /// one list of committed batches.
@@ -20,12 +85,13 @@ use std::sync::{Mutex, MutexGuard, Wait};
 /// A reader takes no lock: it looks once at what is published, and runs its batch on that. A writer takes the lock for its commit
 /// alone. Who calls a function with `rt` may wait, and nothing is promised of its end.
 pub struct Registry<J: Naming> {
+    alloc: Global,
     history: History<J>,
     core: Mutex<Core<J>>,
 }
 
 impl<J: Naming> Registry<J> {
-    ghost use Rattle.std.specs.Prelude.{◌≡◌, ◌<◌, ◌^◌, [], IfOk, MatchResult, true};
+    ghost use Rattle.std.specs.Prelude.{◌≡◌, ◌<◌, ◌^◌, [], IfOk, MatchResult, true, false};
 
     /// The registry of a history that was just opened, with the empty book of a trust domain. The error is want of memory.
     pub fn new(
@@ -39,6 +105,7 @@ impl<J: Naming> Registry<J> {
         let (history, front) = opened.named::<J>();
         let core = Core::new(alloc, domain, front)?;
         Ok(Registry {
+            alloc,
             history,
             core: Mutex::new(core),
         })
@@ -67,6 +134,100 @@ impl<J: Naming> Registry<J> {
         seat.query(batch)
     }
 
+    /// Commits a batch of changes, or says what became of it otherwise. After a conflict it begins again, on what is then
+    /// published, while tries are left. Each try passes the gate. The lock is held for the commit alone; nothing is promised of
+    /// when it is had.
+    pub fn submit<R: Wait, G: Gate>(
+        &self,
+        rt: &R,
+        seat: &mut Seat<J>,
+        gate: &G,
+        batch: Batch,
+        tries: u32,
+    ) -> Outcome
+        requires has_calls { seat.old.calls < 2 ^ 48 }
+        requires changes { is_query batch.ops ≡ false }
+        requires domain { batch.domain ≡ J.domain }
+        requires tries { 0 < tries }
+        ensures along { Along J.domain seat.old seat.new }
+        ensures heard { HasHeard seat.old seat.new result }
+        ensures answer { IsSubmitted seat.old seat.new batch tries result }
+    {
+        seat.take_call();
+        let mut place = seat.place();
+        let mut batch = batch;
+        for _ in 0..tries {
+            match self.attempt(rt, seat, gate, batch) {
+                Try::Over(outcome) => {
+                    let _place = seat.place();
+                    return outcome;
+                }
+                Try::Overtaken(end, back) => {
+                    place = end;
+                    batch = back;
+                }
+            }
+        }
+        let _place = seat.place();
+        Outcome::Conflict(place)
+    }
+
+    /// One try of a batch of changes.
+    fn attempt<R: Wait, G: Gate>(&self, rt: &R, seat: &mut Seat<J>, gate: &G, batch: Batch) -> Try
+        requires below { AllBelow seat.old.calls seat.old.own }
+        requires changes { is_query batch.ops ≡ false }
+        requires domain { batch.domain ≡ J.domain }
+        ensures goes { Goes seat.old seat.new }
+        ensures tried { IsTry seat.old seat.new batch result }
+    {
+        let work = match seat.read(gate, batch) {
+            Ok(work) => work,
+            Err(NoAnswer::NoMemory) => return Try::Over(Outcome::NoMemory),
+            Err(NoAnswer::NoEntry) => return Try::Over(Outcome::NoEntry),
+        };
+        let Some(replies) = work.replies() else {
+            return Try::Over(settled(seat, work));
+        };
+        let Ok(replies) = replies.clone() else {
+            let_go(work);
+            return Try::Over(Outcome::NoMemory);
+        };
+        self.commit(rt, seat, gate, work, replies)
+    }
+
+    /// The commit of one try, under the lock.
+    fn commit<R: Wait, G: Gate>(
+        &self,
+        rt: &R,
+        seat: &mut Seat<J>,
+        gate: &G,
+        work: Work,
+        replies: Shared<Sequence<OpReply>>,
+    ) -> Try
+        requires below { AllBelow seat.old.calls seat.old.own }
+        requires ready { status_of work ≡ Status.Ready }
+        requires read { IsRead J.domain seat.old.seen work.batch work }
+        requires replies { HasReplies work replies }
+        requires heard { IsPrefix seat.old.told seat.old.seen }
+        ensures goes { Goes seat.old seat.new }
+        ensures tried { IsTry seat.old seat.new work.batch result }
+    {
+        let (number, call) = (seat.number() as u32, seat.calls());
+        let mut core = self.core.lock(rt);
+        gate.pass(Point::BeforeCommit, number, call);
+        let decided = core.commit(rt, &self.history, seat, &work);
+        MutexGuard::unlock(core);
+        gate.pass(Point::AfterCommit, number, call);
+        let batch = work.into_batch();
+        match decided {
+            Ok(Commit::Committed(place)) => Try::Over(Outcome::Committed(place, replies)),
+            Ok(Commit::Conflict(place)) => Try::Overtaken(place, batch),
+            Ok(Commit::Full(limit, place)) => Try::Over(full(self.alloc, limit, place)),
+            Ok(Commit::NoMemory) => Try::Over(Outcome::NoMemory),
+            Err(NoEntry) => Try::Over(Outcome::NoEntry),
+        }
+    }
+
     /// The seat has then seen every item so far, and the receipt says so.
     pub fn news<R: Wait>(&self, rt: &R, seat: &mut Seat<J>) -> Result<Receipt<J>, NoEntry>
         ensures goes { Goes seat.old seat.new }
@@ -89,7 +250,11 @@ impl<J: Naming> Registry<J> {
 
     /// Ends the registry, whose writer can't be let go otherwise.
     pub fn close<R: Wait>(self, rt: &R) {
-        let Registry { history: _, core } = self;
+        let Registry {
+            alloc: _,
+            history: _,
+            core,
+        } = self;
         core.into_inner().close(rt);
     }
 }

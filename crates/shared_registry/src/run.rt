@@ -13,23 +13,23 @@ use std::alloc::{AllocError, Global};
 const READS: u64 = (1 << 21) + 1;
 
 /// A work of the batch, which begins on what is published. The error is want of memory.
-pub(crate) fn begun(alloc: Global, page: &Published, batch: &Batch) -> Result<Work, AllocError>
-    requires domain { batch.now.domain ≡ page.now.window.newest.domain }
-    ensures { IfOk result (λ work. BeganAt batch.now page.now work) }
+pub(crate) fn begun(alloc: Global, page: &Published, batch: Batch) -> Result<Work, AllocError>
+    requires domain { batch.domain ≡ page.now.window.newest.domain }
+    ensures { IfOk result (λ work. BeganAt batch page.now work) }
 {
-    let mut work = Work::new(alloc, batch.clone()?);
+    let mut work = Work::new(alloc, batch);
     work.begin(page.window())?;
     Ok(work)
 }
 
 /// Makes all reads of a work that has begun on what is published. The error is want of memory.
-pub(crate) fn run_to_end(page: &Published, batch: &Batch, work: &mut Work) -> Result<(), AllocError>
-    requires domain { batch.now.domain ≡ page.now.window.newest.domain }
-    requires began { BeganAt batch.now page.now work.old }
-    ensures { OnOk result (IsAtEnd batch.now page.now work.new) }
+pub(crate) fn run_to_end(page: &Published, work: &mut Work) -> Result<(), AllocError>
+    requires domain { work.old.batch.domain ≡ page.now.window.newest.domain }
+    requires began { BeganAt work.old.batch page.now work.old }
+    ensures { OnOk result (IsAtEnd work.old.batch page.now work.new) }
 {
     let _ = page.window();
-    let _ = batch.ops();
+    let _ = work.batch().ops();
     for _ in 0..READS {
         if work.status() != Status::Running {
             return Ok(());
@@ -37,4 +37,9 @@ pub(crate) fn run_to_end(page: &Published, batch: &Batch, work: &mut Work) -> Re
         drop(work.step()?);
     }
     unreachable!()
+}
+
+/// Lets a work go that is over.
+pub(crate) fn let_go(work: Work) {
+    drop(work);
 }

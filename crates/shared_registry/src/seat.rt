@@ -1,6 +1,6 @@
 //! What has one caller seen, and what is it answered?
 
-ghost use Rattle.std.specs.Prelude.{◌≡◌, ◌≤◌, ◌<◌, ◌+◌, ◌++◌, ◌∷◌, ◌^◌, [], length, IfOk, IfSome, IsTrue, MatchResult, true};
+ghost use Rattle.std.specs.Prelude.{◌≡◌, ◌≤◌, ◌<◌, ◌+◌, ◌++◌, ◌∷◌, ◌^◌, [], length, IfOk, IfSome, IsSome, IsTrue, MatchResult, true};
 ghost use mathlib.Core.List.{IsPrefix};
 ghost use Rattle.entry_book.specs.Batches.{is_query};
 ghost use Rattle.entry_book.specs.History.{books_of, reply_to};
@@ -10,10 +10,12 @@ ghost use Rattle.shared_registry.specs.Seats.{calls_of, AllBelow};
 ghost use Rattle.shared_registry.specs.Seated.{Along, Entered, Goes, Stays};
 ghost use Rattle.shared_registry.specs.Shown.{IsOf, whole_head};
 
+use crate::gate::{Gate, Point};
 use crate::history::{Front, Naming};
 use crate::published::Published;
 use crate::rule::{Rule, Sees, View};
-use crate::run::{begun, run_to_end};
+use crate::run::{begun, let_go, run_to_end};
+use batch_work::Work;
 use commit_head::Item;
 use entry_book::{Batch, Reply, Shared};
 use left_right::reader::Reader;
@@ -81,7 +83,8 @@ impl<J: Naming> Model for Seat<J> {
 }
 
 impl<J: Naming> Seat<J> {
-    ghost use Rattle.std.specs.Prelude.{◌≡◌, ◌<◌, ◌^◌, ◌+◌, length, nat_lt, IfOk, MatchResult, true};
+    ghost use Rattle.std.specs.Prelude.{◌≡◌, ◌<◌, ◌^◌, ◌+◌, ◌++◌, ◌∷◌, [], length, nat_lt, IfOk, MatchResult, true};
+    ghost use Rattle.shared_registry.specs.Works.{IsRead};
 
     /// How many items it has seen.
     pub fn place(&self) -> u64
@@ -172,6 +175,64 @@ impl<J: Naming> Seat<J> {
         self.seen = front;
     }
 
+    /// Has seen this front from now on, whose last item is the seat's own.
+    pub(crate) fn see_own(&mut self, front: Front<J>, item: &Item)
+        requires seen { front ≡ self.old.seen ++ item.now ∷ [] }
+        requires seat { item.now.seat ≡ self.old.number }
+        requires call { item.now.call ≡ self.old.calls }
+        ensures goes { Goes self.old self.new }
+        ensures own { self.new.own ≡ self.old.own ++ self.old.calls ∷ [] }
+        ensures seen { self.new.seen ≡ front }
+    {
+        let _call = item.call;
+        let _items = front.len();
+        self.seen = front;
+        self.count += 1;
+    }
+
+    /// Takes the number of one call more.
+    pub(crate) fn take_call(&mut self)
+        requires has_calls { self.old.calls < 2 ^ 48 }
+        ensures taken { self.new ≡ record self.old { calls = self.old.calls + 1 } }
+        ensures below { AllBelow self.new.calls self.new.own }
+    {
+        self.calls += 1;
+    }
+
+    /// The work of a batch that has begun on what is published, which the seat has then seen, and that has made all its reads.
+    /// It passes the gate after its begin. It waits for nobody.
+    pub(crate) fn read<G: Gate>(&mut self, gate: &G, batch: Batch) -> Result<Work, NoAnswer>
+        requires domain { batch.domain ≡ J.domain }
+        ensures goes { Goes self.old self.new }
+        ensures own { self.new.own ≡ self.old.own }
+        ensures heard { IfOk result (λ _. IsPrefix self.old.told self.new.seen) }
+        ensures read { IfOk result (IsRead J.domain self.new.seen batch) }
+    {
+        let front = find(
+            &mut self.reader,
+            &mut self.page,
+            &self.seen,
+            &self.told,
+            self.number,
+            self.count,
+        )?;
+        let _made = batch.ops();
+        let _place = front.len();
+        let _window = self.page.window();
+        let Ok(mut work) = begun(self.alloc, &self.page, batch) else {
+            return Err(NoAnswer::NoMemory);
+        };
+        self.seen = front;
+        gate.pass(Point::AfterBegin, self.number as u32, self.calls);
+        match run_to_end(&self.page, &mut work) {
+            Ok(()) => Ok(work),
+            Err(AllocError) => {
+                let_go(work);
+                Err(NoAnswer::NoMemory)
+            }
+        }
+    }
+
     /// The answer to a query, on the books of what is then seen. It waits for nobody.
     pub fn query(&mut self, batch: &Batch) -> Result<Shared<Reply>, NoAnswer>
         requires has_calls { self.old.calls < 2 ^ 48 }
@@ -183,18 +244,14 @@ impl<J: Naming> Seat<J> {
     {
         let _seen = self.seen.len();
         self.calls += 1;
-        let Some(reader) = self.reader.take() else {
-            unreachable!()
-        };
-        let (reader, found) = find(
-            reader,
+        let found = find(
+            &mut self.reader,
             &mut self.page,
             &self.seen,
             &self.told,
             self.number,
             self.count,
         );
-        self.reader = Some(reader);
         let front = match found {
             Ok(front) => front,
             Err(why) => return Err(why),
@@ -244,30 +301,34 @@ fn look<J: Naming>(
 
 /// Looks, and answers the journal that is published, where it fits what was seen and told, and the count of the seat's commits.
 fn find<J: Naming>(
-    reader: SeatReader<J>,
+    reader: &mut Option<SeatReader<J>>,
     page: &mut Published,
     seen: &Front<J>,
     told: &Front<J>,
     number: usize,
     count: u64,
-) -> (SeatReader<J>, Result<Front<J>, NoAnswer>)
+) -> Result<Front<J>, NoAnswer>
+    requires reader { IsSome reader.old }
     requires number { number < 32 }
     requires page { IsOf J.history J.domain page.old }
+    ensures reader { IsSome reader.new }
     ensures page { IsOf J.history J.domain page.new }
-    ensures found { IfOk result.1 (λ front. front ≡ page.new.journal) }
-    ensures seen { IfOk result.1 (λ front. IsPrefix seen.now front) }
-    ensures told { IfOk result.1 (λ front. IsPrefix told.now front) }
-    ensures count { IfOk result.1 (λ front. length (calls_of number front) ≡ count) }
+    ensures found { IfOk result (λ front. front ≡ page.new.journal) }
+    ensures seen { IfOk result (λ front. IsPrefix seen.now front) }
+    ensures told { IfOk result (λ front. IsPrefix told.now front) }
+    ensures count { IfOk result (λ front. length (calls_of number front) ≡ count) }
 {
-    let (reader, looked) = look(reader, page);
-    if let Err(why) = looked {
-        return (reader, Err(why));
-    }
+    let Some(entering) = reader.take() else {
+        unreachable!()
+    };
+    let (left, looked) = look(entering, page);
+    *reader = Some(left);
+    looked?;
     let front: Front<J> = page.front();
     if page.count(number) == count && seen.begins(&front) && told.begins(&front) {
-        (reader, Ok(front))
+        Ok(front)
     } else {
-        (reader, Err(NoAnswer::NoEntry))
+        Err(NoAnswer::NoEntry)
     }
 }
 
@@ -277,8 +338,8 @@ fn answered(alloc: Global, page: &Published, batch: &Batch) -> Result<Shared<Rep
     requires domain { batch.now.domain ≡ page.now.window.newest.domain }
     ensures { IfOk result (λ reply. reply ≡ reply_to batch.now (books_of (batches_of page.now.journal))) }
 {
-    let mut work = begun(alloc, page, batch)?;
-    run_to_end(page, batch, &mut work)?;
+    let mut work = begun(alloc, page, batch.clone()?)?;
+    run_to_end(page, &mut work)?;
     let _ = page.window();
     let _ = batch.ops();
     let Some(reply) = work.into_reply() else {

@@ -8,20 +8,20 @@ use Rattle.shared_registry.proofs.seat.Seat.query.Goals as goal
 pub invariant_of-self : goal.invariant_of-self
 invariant_of-self g c =
     let i = c.self.invariant in
-    (i.0, i.1, below_more _ _ _ (omega arith) i.2, refl, c.find-reader.ensures.page)
+    (i.0, i.1, below_more _ _ _ (omega arith) i.2, c.find-found.ensures.reader, c.find-found.ensures.page)
 
 pub invariant_of-self-in-Err-answered : goal.invariant_of-self-in-Err-answered
 invariant_of-self-in-Err-answered g c =
     let i = c.self.invariant in
-    (i.0, i.1, below_more _ _ _ (omega arith) i.2, refl, c.find-reader.ensures.page)
+    (i.0, i.1, below_more _ _ _ (omega arith) i.2, c.find-found.ensures.reader, c.find-found.ensures.page)
 
 pub invariant_of-self-in-Ok-answered : goal.invariant_of-self-in-Ok-answered
 invariant_of-self-in-Ok-answered g c =
     let i = c.self.invariant in
-    let count = ok_of _ _ _ c.in-Ok.is c.find-reader.ensures.count in
-    let more : IsPrefix c.self.inside.seen c.in-Ok.front = ok_of _ _ _ c.in-Ok.is c.find-reader.ensures.seen in
+    let count = ok_of _ _ _ c.in-Ok.is c.find-found.ensures.count in
+    let more : IsPrefix c.self.inside.seen c.in-Ok.front = ok_of _ _ _ c.in-Ok.is c.find-found.ensures.seen in
     let same = calls_same c.self.inside.number _ _ more (sym (count ∙ i.1)) in
-    (i.0, sym count, rw same (below_more _ _ _ (omega arith) i.2), refl, c.find-reader.ensures.page)
+    (i.0, sym count, rw same (below_more _ _ _ (omega arith) i.2), c.find-found.ensures.reader, c.find-found.ensures.page)
 
 pub returns-in-Err-clause-entered : goal.returns-in-Err-clause-entered
 returns-in-Err-clause-entered g c =
@@ -41,8 +41,8 @@ returns-in-Err-clause-entered g c =
 pub returns-in-Ok-answered-clause-entered : goal.returns-in-Ok-answered-clause-entered
 returns-in-Ok-answered-clause-entered g c =
     let is = c.self.view_is in
-    let more : IsPrefix c.self.inside.seen c.in-Ok.front = ok_of _ _ _ c.in-Ok.is c.find-reader.ensures.seen in
-    let heard : IsPrefix c.self.inside.told c.in-Ok.front = ok_of _ _ _ c.in-Ok.is c.find-reader.ensures.told in
+    let more : IsPrefix c.self.inside.seen c.in-Ok.front = ok_of _ _ _ c.in-Ok.is c.find-found.ensures.seen in
+    let heard : IsPrefix c.self.inside.told c.in-Ok.front = ok_of _ _ _ c.in-Ok.is c.find-found.ensures.told in
     record {
       along = record {
         number = ap (λ s. s.number) is;
@@ -57,6 +57,6 @@ returns-in-Ok-answered-clause-entered g c =
 
 pub returns-in-Ok-answered-clause-own : goal.returns-in-Ok-answered-clause-own
 returns-in-Ok-answered-clause-own g c =
-    let count = ok_of _ _ _ c.in-Ok.is c.find-reader.ensures.count in
-    let more : IsPrefix c.self.inside.seen c.in-Ok.front = ok_of _ _ _ c.in-Ok.is c.find-reader.ensures.seen in
+    let count = ok_of _ _ _ c.in-Ok.is c.find-found.ensures.count in
+    let more : IsPrefix c.self.inside.seen c.in-Ok.front = ok_of _ _ _ c.in-Ok.is c.find-found.ensures.seen in
     calls_same c.self.inside.number _ _ more (sym (count ∙ c.self.invariant.1)) ∙ ap (λ s. s.own) c.self.view_is

@@ -1,0 +1,106 @@
+-- What the tries of a batch of changes come to.
+use Rattle.std.proofs.Common.{◌≡◌, ℕ, suc, ◌+◌, ◌<◌, ◌≤◌, List, [], ◌∷◌, ◌++◌, length, length-append, take, refl, sym, ap, subst, ◌∙◌, arith}
+use Rattle.std.proofs.lemmas.List.{append_assoc, map-append, take-append-le}
+use mathlib.Core.List.{IsPrefix}
+use Rattle.entry_book.specs.Order.{Within}
+use Rattle.entry_book.specs.Batches.{Batch}
+use Rattle.entry_book.specs.History.{books_of}
+use Rattle.batch_work.specs.Reads.{footprint_of}
+use Rattle.commit_head.specs.declared.item.Item.{Item}
+use Rattle.commit_head.specs.Journals.{batches_of}
+use Rattle.shared_registry.specs.declared.outcome.Outcome.{Outcome}
+use Rattle.shared_registry.specs.declared.outcome.Outcome.TheVariants.{Committed, Repeated, Refused, Conflict, NoMemory, NoEntry}
+use Rattle.shared_registry.specs.Outcomes.{AreOvertaken, HasHeard, IsOver, IsOvertaken, IsOvertakenOnce, IsSubmitted, WasOvertaken}
+use Rattle.shared_registry.specs.Seated.{Goes, Seated}
+use Rattle.shared_registry.proofs.Overtaken.{batches_more}
+use Rattle.shared_registry.proofs.Prefixes.{prefix_length, prefix_trans}
+
+-- ---- a journal goes on
+
+overtaken_on : (journal more : List Batch) (batch : Batch) (base place end : ℕ) → place ≤ end → IsOvertaken journal batch base place → IsOvertaken (journal ++ more) batch base end
+overtaken_on journal more batch base place end le o =
+    let l = ap length o.split in
+    let n = length-append o.before (o.other ∷ o.later) in
+    let within : base ≤ length journal = let s = o.since in omega arith in
+    let first : take base (journal ++ more) ≡ take base journal = take-append-le base journal more within in
+    record {
+      before = o.before;
+      other = o.other;
+      later = o.later ++ more;
+      split = ap (λ l. l ++ more) o.split ∙ append_assoc o.before (o.other ∷ o.later) more;
+      since = o.since;
+      until = let u = o.until in omega arith;
+      mark = o.mark;
+      read = subst (λ l. Within (footprint_of batch (books_of l)) o.mark) (sym first) o.read;
+      write = o.write;
+      is_made = o.is_made;
+      hit = o.hit;
+    }
+
+are_on : (journal more : List Batch) (batch : Batch) (least place end : ℕ) (bases : List ℕ) → place ≤ end → AreOvertaken journal batch least place bases → AreOvertaken (journal ++ more) batch least end bases
+are_on journal more batch least place end [] le o = tt
+are_on journal more batch least place end (base ∷ bases) le o = (o.0, overtaken_on journal more batch base place end le o.1, are_on journal more batch least base base bases (omega arith) o.2)
+
+-- ---- a seat goes on
+
+pub goes_on : (s t u : Seated) → Goes s t → Goes t u → Goes s u
+goes_on s t u a b = record {
+  number = b.number ∙ a.number;
+  calls = b.calls ∙ a.calls;
+  told = b.told ∙ a.told;
+  seen = prefix_trans s.seen t.seen u.seen a.seen b.seen;
+}
+
+-- ---- one try more
+
+pub none_yet : (s : Seated) (batch : Batch) (place : ℕ) → WasOvertaken s s batch 0 place
+none_yet s batch place = record { bases = []; count = refl; since_seen = tt; since_told = tt }
+
+pub once_again : (s u t : Seated) (batch : Batch) (tries place n : ℕ) → WasOvertaken s u batch tries place → place ≡ length u.seen → IsPrefix s.seen u.seen → u.told ≡ s.told → IsPrefix u.seen t.seen → IsOvertakenOnce u t batch n → WasOvertaken s t batch (tries + 1) n
+once_again s u t batch tries place n o e p told q once =
+    let journal : batches_of t.seen ≡ batches_of u.seen ++ batches_of q.0 = ap batches_of (sym q.1) ∙ batches_more u.seen q.0 in
+    let long = prefix_length s.seen u.seen p in
+    let le : place ≤ once.base = let b = once.since_seen in omega arith in
+    let same = ap length told in
+    record {
+      bases = once.base ∷ o.bases;
+      count = let c = o.count in omega arith;
+      since_seen = (
+        let b = once.since_seen in omega arith,
+        once.overtaken,
+        subst (λ j. AreOvertaken j batch (length s.seen) once.base o.bases) (sym journal) (are_on (batches_of u.seen) (batches_of q.0) batch (length s.seen) place once.base o.bases le o.since_seen),
+      );
+      since_told = (
+        let b = once.since_told in omega arith,
+        once.overtaken,
+        subst (λ j. AreOvertaken j batch (length s.told) once.base o.bases) (sym journal) (are_on (batches_of u.seen) (batches_of q.0) batch (length s.told) place once.base o.bases le o.since_told),
+      );
+    }
+
+-- ---- the end
+
+pub ended : (s u t : Seated) (batch : Batch) (tries : ℕ) (o : Outcome) → u.own ≡ s.own → IsOver o → IsSubmitted u t batch 0 o → IsSubmitted s t batch tries o
+ended s u t batch tries (Committed n replies) own over a = record {
+  log = a.log;
+  item = a.item;
+  seen = a.seen;
+  place = a.place;
+  seat = a.seat;
+  call = a.call;
+  batch_is = a.batch_is;
+  replies_are = a.replies_are;
+  own = a.own ∙ ap (λ l. l ++ t.calls ∷ []) own;
+}
+ended s u t batch tries (Repeated n replies) own over a = (a.0, a.1 ∙ own)
+ended s u t batch tries (Refused reply) own over a = (a.0, a.1 ∙ own)
+ended s u t batch tries (Conflict n) own over a = absurd (over n refl)
+ended s u t batch tries NoMemory own over a = a ∙ own
+ended s u t batch tries NoEntry own over a = a ∙ own
+
+pub heard_from : (s u t : Seated) (o : Outcome) → u.told ≡ s.told → HasHeard u t o → HasHeard s t o
+heard_from s u t (Committed n replies) e h = subst (λ l. IsPrefix l t.seen) e h
+heard_from s u t (Repeated n replies) e h = subst (λ l. IsPrefix l t.seen) e h
+heard_from s u t (Refused reply) e h = subst (λ l. IsPrefix l t.seen) e h
+heard_from s u t (Conflict n) e h = subst (λ l. IsPrefix l t.seen) e h
+heard_from s u t NoMemory e h = tt
+heard_from s u t NoEntry e h = tt

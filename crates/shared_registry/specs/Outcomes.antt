@@ -1,0 +1,167 @@
+-- What a batch of changes is answered, in the words of its seat's lists and of the plain book.
+use Rattle.std.specs.Prelude.{◌≡◌, ◌⊎◌, ⊤, ℕ, ◌+◌, ◌-◌, ◌<◌, ◌≤◌, true, List, [], ◌∷◌, ◌++◌, length, take, slice_get, Option, Some, None, IsSome, Result, Ok, Err}
+use mathlib.Core.List.{IsPrefix}
+use Rattle.entry_book.specs.declared.limit.Limit.{Limit}
+use Rattle.entry_book.specs.declared.reply.OpReply.{OpReply}
+use Rattle.entry_book.specs.declared.reply.Outcome.{Outcome as Became}
+use Rattle.entry_book.specs.declared.reply.Outcome.TheVariants.{Refused as WasRefused, Repeated as WasRepeated}
+use Rattle.entry_book.specs.declared.reply.Refusal.{Refusal}
+use Rattle.entry_book.specs.declared.reply.Refusal.TheVariants.{Full as TooMuch}
+use Rattle.entry_book.specs.declared.reply.Reply.{Reply}
+use Rattle.entry_book.specs.Batches.{Batch}
+use Rattle.entry_book.specs.History.{books_of, last_book, reply_to}
+use Rattle.entry_book.specs.Order.{Within}
+use Rattle.entry_book.specs.Rows.{Bytes}
+use Rattle.entry_book.specs.Writes.{RowWrite}
+use Rattle.version_book.specs.declared.mark.MarkKind.{MarkKind}
+use Rattle.version_book.specs.History.{writes_of}
+use Rattle.version_book.specs.Marks.{hits}
+use Rattle.batch_work.specs.Reads.{footprint_of}
+use Rattle.batch_work.specs.Working.{Work, HasReplies}
+use Rattle.commit_head.specs.declared.commit.Commit.{Commit}
+use Rattle.commit_head.specs.declared.commit.Commit.TheVariants.{Committed as DidCommit, Conflict as DidConflict, Full as DidPass, NoMemory as WantsMemory}
+use Rattle.commit_head.specs.declared.item.Item.{Item}
+use Rattle.commit_head.specs.Journals.{batches_of}
+use Rattle.shared_registry.specs.declared.outcome.Outcome.{Outcome}
+use Rattle.shared_registry.specs.declared.outcome.Outcome.TheVariants.{Committed, Repeated, Refused, Conflict, NoMemory, NoEntry}
+use Rattle.shared_registry.specs.declared.seat.NoEntry.{NoEntry as WasNotLetIn}
+use Rattle.shared_registry.specs.declared.registry.Try.{Try}
+use Rattle.shared_registry.specs.declared.registry.Try.TheVariants.{Over, Overtaken}
+use Rattle.shared_registry.specs.Seated.{Seated}
+
+-- ---- tries that were overtaken
+
+-- Of these committed batches `other` is the one after those `before` it, and stands behind the first `base` ones and among the first `place`. One of its writes, on the book that it found, hits a mark of the footprint that `batch` has on book `base`.
+pub record IsOvertaken (journal : List Batch) (batch : Batch) (base place : ℕ) : Type 0 where
+  pub before : List Batch
+  pub other : Batch
+  pub later : List Batch
+  pub split : journal ≡ before ++ other ∷ later
+  pub since : base ≤ length before
+  pub until : length before < place
+  pub mark : MarkKind
+  pub read : Within (footprint_of batch (books_of (take base journal))) mark
+  pub write : RowWrite
+  pub is_made : Within (writes_of other (length before + 1) (last_book (books_of before))) write
+  pub hit : hits write mark ≡ true
+
+-- The tries began at these places, the last one first, none before the least one; each was overtaken no later than the next one began, and the last one no later than this place.
+abbrev pub AreOvertaken : List Batch → Batch → ℕ → ℕ → List ℕ → Type 0
+AreOvertaken journal batch least place [] = ⊤
+AreOvertaken journal batch least place (base ∷ bases) = (least ≤ base) × IsOvertaken journal batch base place × AreOvertaken journal batch least base bases
+
+-- So many tries were overtaken, none of which began before what the seat had seen and was told of.
+pub record WasOvertaken (s t : Seated) (batch : Batch) (tries place : ℕ) : Type 0 where
+  pub bases : List ℕ
+  pub count : length bases ≡ tries
+  pub since_seen : AreOvertaken (batches_of t.seen) batch (length s.seen) place bases
+  pub since_told : AreOvertaken (batches_of t.seen) batch (length s.told) place bases
+
+-- ---- the answers to a batch of changes
+
+-- The item of the call is the last one seen, and the seat has one call more of its own.
+pub record IsAdded (s t : Seated) (batch : Batch) (replies : List OpReply) (n : ℕ) : Type 0 where
+  pub log : List Item
+  pub item : Item
+  pub seen : t.seen ≡ log ++ item ∷ []
+  pub place : n ≡ length t.seen
+  pub seat : item.seat ≡ t.number
+  pub call : item.call ≡ t.calls
+  pub batch_is : item.batch ≡ batch
+  pub replies_are : item.replies ≡ replies
+  pub own : t.own ≡ s.own ++ t.calls ∷ []
+
+-- The item of this number, which was seen, has the batch's token and its operations, and these replies.
+pub record WasCommitted (t : Seated) (batch : Batch) (replies : List OpReply) (n : ℕ) : Type 0 where
+  pub before : List Item
+  pub item : Item
+  pub later : List Item
+  pub split : t.seen ≡ before ++ item ∷ later
+  pub place : n ≡ length before + 1
+  pub with_token : IsSome batch.token
+  pub token : item.batch.token ≡ batch.token
+  pub ops : item.batch.ops ≡ batch.ops
+  pub replies_are : item.replies ≡ replies
+
+-- The reply is that of the plain book on the books of what was seen, and a refusal at their place.
+pub record IsRefusedThere (t : Seated) (batch : Batch) (reply : Reply) : Type 0 where
+  pub reply_is : reply ≡ reply_to batch (books_of (batches_of t.seen))
+  pub why : Refusal
+  pub refused : reply ≡ record { place = length t.seen; outcome = WasRefused why }
+
+-- what a batch of changes is answered, with so many tries
+abbrev pub IsSubmitted : Seated → Seated → Batch → ℕ → Outcome → Type 0
+IsSubmitted s t batch tries (Committed n replies) = IsAdded s t batch replies n
+IsSubmitted s t batch tries (Repeated n replies) = WasCommitted t batch replies n × (t.own ≡ s.own)
+IsSubmitted s t batch tries (Refused reply) = IsRefusedThere t batch reply × (t.own ≡ s.own)
+IsSubmitted s t batch tries (Conflict n) = WasOvertaken s t batch tries n × (n ≡ length t.seen) × (t.own ≡ s.own)
+IsSubmitted s t batch tries NoMemory = t.own ≡ s.own
+IsSubmitted s t batch tries NoEntry = t.own ≡ s.own
+
+-- where it is answered otherwise than for want of memory or of an entry, the seat has then seen all that it was told of
+abbrev pub HasHeard : Seated → Seated → Outcome → Type 0
+HasHeard s t (Committed n replies) = IsPrefix s.told t.seen
+HasHeard s t (Repeated n replies) = IsPrefix s.told t.seen
+HasHeard s t (Refused reply) = IsPrefix s.told t.seen
+HasHeard s t (Conflict n) = IsPrefix s.told t.seen
+HasHeard s t NoMemory = ⊤
+HasHeard s t NoEntry = ⊤
+
+-- ---- one try; for this crate's own contracts
+
+-- it isn't the answer that each try was overtaken
+abbrev pub IsOver : Outcome → Type 0
+IsOver o = (n : ℕ) → o ≡ Conflict n → ⊥
+
+-- the answer of one that this limit refuses
+abbrev pub IsFull : Limit → ℕ → Outcome → Type 0
+IsFull limit n o = (o ≡ NoMemory) ⊎ (o ≡ Refused (record { place = n; outcome = WasRefused (TooMuch limit) }))
+
+-- what a reply has that was given before
+abbrev pub IsRepeated : Became → Option (List OpReply) → Type 0
+IsRepeated o None = (replies : List OpReply) → o ≡ WasRepeated replies → ⊥
+IsRepeated o (Some replies) = o ≡ WasRepeated replies
+
+-- The try began at or behind what the seat had seen and was told of, and was overtaken.
+pub record IsOvertakenOnce (s t : Seated) (batch : Batch) (n : ℕ) : Type 0 where
+  pub base : ℕ
+  pub since_seen : length s.seen ≤ base
+  pub since_told : length s.told ≤ base
+  pub overtaken : IsOvertaken (batches_of t.seen) batch base n
+  pub place : n ≡ length t.seen
+  pub heard : IsPrefix s.told t.seen
+  pub own : t.own ≡ s.own
+
+abbrev pub IsTry : Seated → Seated → Batch → Try → Type 0
+IsTry s t batch (Over o) = IsOver o × HasHeard s t o × IsSubmitted s t batch 0 o
+IsTry s t batch (Overtaken n back) = (back ≡ batch) × IsOvertakenOnce s t batch n
+
+-- ---- what a commit comes to under the lock; for this crate's own contracts
+
+-- Nothing is added, and all items so far were seen.
+pub record HasLooked (log next : List Item) (s t : Seated) : Type 0 where
+  pub same : next ≡ log
+  pub seen : t.seen ≡ log
+  pub own : t.own ≡ s.own
+
+-- The item is added.
+pub record HasAdded (log next : List Item) (s t : Seated) (w : Work) (n : ℕ) : Type 0 where
+  pub item : Item
+  pub whole : next ≡ log ++ item ∷ []
+  pub seat : item.seat ≡ s.number
+  pub call : item.call ≡ s.calls
+  pub batch_is : item.batch ≡ w.batch
+  pub replies : HasReplies w item.replies
+  pub place : n ≡ length next
+  pub seen : t.seen ≡ next
+  pub own : t.own ≡ s.own ++ s.calls ∷ []
+
+abbrev pub IsCommitThere : List Item → List Item → Seated → Seated → Work → Commit → Type 0
+IsCommitThere log next s t w (DidCommit n) = HasAdded log next s t w n
+IsCommitThere log next s t w (DidConflict n) = HasLooked log next s t × (n ≡ length log) × IsOvertaken (batches_of log) w.batch (length s.seen) n
+IsCommitThere log next s t w (DidPass limit n) = HasLooked log next s t × (n ≡ length log) × (reply_to w.batch (books_of (batches_of log)) ≡ record { place = n; outcome = WasRefused (TooMuch limit) })
+IsCommitThere log next s t w WantsMemory = HasLooked log next s t
+
+abbrev pub IsDecided : List Item → List Item → Seated → Seated → Work → Result Commit WasNotLetIn → Type 0
+IsDecided log next s t w (Ok commit) = IsCommitThere log next s t w commit
+IsDecided log next s t w (Err e) = (next ≡ log) × (t.own ≡ s.own)

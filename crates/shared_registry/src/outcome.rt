@@ -1,0 +1,20 @@
+//! What became of a batch of changes?
+
+use entry_book::{OpReply, Reply, Sequence, Shared};
+
+/// What became of a batch of changes. After all but the first, nothing of the batch is in the book that wasn't there before.
+#[derive(Drop)]
+pub enum Outcome {
+    /// The changes are made, at this place; the answers to the operations, in order.
+    Committed(u64, Shared<Sequence<OpReply>>),
+    /// The batch was committed before, with its token, at this place; the answers that it was given then.
+    Repeated(u64, Shared<Sequence<OpReply>>),
+    /// It is refused; the reply says why, and at which place.
+    Refused(Shared<Reply>),
+    /// Each try was overtaken by a batch that wrote what it had read; the place at the end of the last try.
+    Conflict(u64),
+    /// Memory was wanting.
+    NoMemory,
+    /// The seat wasn't let in, or what is published doesn't fit what the seat has seen.
+    NoEntry,
+}
