@@ -21,6 +21,7 @@ pub mod RecordDomain
 pub mod Kept
 pub mod Compact
 pub mod CompactEvents
+pub mod CompactSeats
 pub mod Others
 pub mod CompactRecords
 pub mod ReadBack

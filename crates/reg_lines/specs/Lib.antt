@@ -18,6 +18,8 @@ pub mod Replies
 pub mod Values
 pub mod EventAnswers
 pub mod EventValues
+pub mod SeatLines
+pub mod SeatValues
 pub mod RecordLines
 pub mod RecordValues
 pub mod CallRecords

@@ -19,6 +19,8 @@
 //! - [`Ids`] gives ids to entries that come without one; [`ids_law`] says which words of its stream they are made of.
 //! - A [`LineRefusal`], and a book's reply with its call number, a [`CallReply`], are printed as lines, and so is a
 //!   [`CallConflict`]; [`printed_law`] says which JSON values these lines are.
+//! - A [`SeatRefused`] is printed as a line, too: that a seat of a shared registry has no answer to a request, for one
+//!   [`SeatRefusal`] or the other; [`printed_seats_law`] says which values these lines are.
 //! - The answer to an event, an [`EventRefused`] and a [`CallOrder`] are printed as the lines of a schedule;
 //!   [`printed_events_law`] says which values they are.
 //! - A [`CallRecord`] is printed as the line of a record, with the call's batch; [`printed_records_law`] says which values they
@@ -44,8 +46,8 @@ pub use devices::{
 pub use fault::{Code, Fault, Field, Key};
 pub use printing::{
     CallConflict, CallOrder, CallRecord, CallReply, EventRefused, LineRefusal, PrintJson,
-    print_line, print_list, print_number, print_text, printed_events_law, printed_law,
-    printed_records_law,
+    SeatRefusal, SeatRefused, print_line, print_list, print_number, print_text, printed_events_law,
+    printed_law, printed_records_law, printed_seats_law,
 };
 pub use reading::{
     Ids, Record, Request, Tries, ids_law, read_back_law, read_event, read_record, read_request,

@@ -2,7 +2,7 @@
 //!
 //! - `json`: a value that has one JSON text, which it puts piece by piece; `text`: a text as a JSON string.
 //! - `names`, `book_rows`: what a book holds; `marks`: what a call read.
-//! - `replies`, `events`, `refusal`: the lines that go out.
+//! - `replies`, `events`, `refusal`, `seats`: the lines that go out.
 //! - `batches`, `records`: what was asked, as a record of a call has it.
 //! - `values`: which JSON values these lines are.
 
@@ -15,6 +15,7 @@ pub(crate) mod names;
 pub(crate) mod records;
 pub(crate) mod refusal;
 pub(crate) mod replies;
+pub(crate) mod seats;
 pub(crate) mod text;
 pub(crate) mod values;
 
@@ -23,5 +24,6 @@ pub use json::{PrintJson, print_line, print_list, print_number};
 pub use records::CallRecord;
 pub use refusal::LineRefusal;
 pub use replies::{CallConflict, CallReply};
+pub use seats::{SeatRefusal, SeatRefused};
 pub use text::print_text;
-pub use values::{printed_events_law, printed_law, printed_records_law};
+pub use values::{printed_events_law, printed_law, printed_records_law, printed_seats_law};

@@ -6,6 +6,7 @@
 //! - `frames`, `requests`, `operations`, `pages`, `tokens` and `ids`: what lines spell, told in the words of `spelled`.
 //! - `events`: what the lines of events spell.
 //! - `schedules`: the lines of a schedule: what is printed for each answer to an event.
+//! - `seats`: what is printed where a seat has no answer.
 //! - `texts` and `replies`: what is printed, by `answers`, which runs a plain book on lines.
 //! - `bytes`: lines of memory, of devices that are interrupted, and of one that is full, by the engine of `engine`. What it
 //!   answers stands in `specs/Numbered.antt`.
@@ -33,6 +34,8 @@ mod replies;
 mod requests;
 #[cfg(test)]
 mod schedules;
+#[cfg(test)]
+mod seats;
 #[cfg(test)]
 mod spelled;
 #[cfg(test)]

@@ -2,6 +2,7 @@
 
 ghost use Rattle.reg_lines.specs.EventValues.{EventRefusalsAreCompact, EventRefusalsHaveNoFloat, EventsAreCompact, EventsHaveNoFloat, OrdersAreCompact, OrdersHaveNoFloat};
 ghost use Rattle.reg_lines.specs.RecordValues.{BatchesAreCompact, BatchesHaveNoFloat, RecordsAreCompact, RecordsHaveNoFloat};
+ghost use Rattle.reg_lines.specs.SeatValues.{SeatRefusalsAreCompact, SeatRefusalsHaveNoFloat};
 ghost use Rattle.reg_lines.specs.Values.{ConflictsAreCompact, ConflictsHaveNoFloat, RefusalsAreCompact, RefusalsHaveNoFloat, RepliesAreCompact, RepliesHaveNoFloat};
 
 /// Each printed line is the compact text of a JSON value, whose objects have their keys in ascending order of their
@@ -33,4 +34,10 @@ pub fn printed_records_law()
     ensures records { RecordsAreCompact }
     ensures no_float_in_batches { BatchesHaveNoFloat }
     ensures no_float_in_records { RecordsHaveNoFloat }
+{}
+
+/// The same of the lines that tell that a seat has no answer. This function has no code: it is a fact to cite.
+pub fn printed_seats_law()
+    ensures refusals { SeatRefusalsAreCompact }
+    ensures no_float { SeatRefusalsHaveNoFloat }
 {}
