@@ -1,8 +1,10 @@
-pub mod Lines
-pub mod Words
+pub mod Auditing
+pub mod Calling
 pub mod Driving
+pub mod Growing
+pub mod Lines
 pub mod Recording
 pub mod Running
 pub mod Scheduling
 pub mod Seeds
-pub mod Auditing
+pub mod Words

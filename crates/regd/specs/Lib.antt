@@ -9,3 +9,4 @@ pub mod Laws
 pub mod Programs
 pub mod Recorded
 pub mod Schedules
+pub mod Sessions

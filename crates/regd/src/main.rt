@@ -5,7 +5,8 @@
 //! - [`plain`]: the program `regd plain`, from the bytes of request lines to the bytes of reply lines; [`schedule`]: the
 //!   program `regd schedule`, from event lines to their answers and the order of the calls; [`record_schedule`]: the same with
 //!   `--record`, to the records of the calls alone; [`audit`]: the program `regd audit`, from records of calls to the verdict on
-//!   them. [`Program`] and [`run_settings`]: the program that the settings ask for, and an [`Outcome`] where it got to its end.
+//!   them. [`session`]: the lines of one connection, answered through a seat of a shared registry, for the server to come;
+//!   [`sessions_law`]: what the seat has seen only grows. [`Program`] and [`run_settings`]: the program that the settings ask for, and an [`Outcome`] where it got to its end.
 //! - [`RunFault`] and [`CommandLineFault`]: why a run stopped, and why a command line is none.
 //! - [`a_line_gives_its_domain`]: which words give which domain.
 //! - [`Ended`]: what the caller gets to know of that, the exit status and what standard error gets, a [`Told`].
@@ -21,6 +22,7 @@ mod programs;
 mod record_engine;
 mod schedule_engine;
 mod seed;
+mod session_engine;
 mod settings;
 mod told;
 
@@ -34,6 +36,7 @@ pub use programs::{Outcome, Program, run_settings};
 pub use record_engine::record_schedule;
 use reg_lines::{CountedDevice, Input, Output};
 pub use schedule_engine::schedule;
+pub use session_engine::{session, sessions_law};
 pub use settings::Settings;
 use std::process::ExitCode;
 use std::rt::Env;
