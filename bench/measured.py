@@ -1,33 +1,34 @@
 """A program over the proved crates, made in a folder outside the repository, as a crate of a repository of its own.
 
 What such a program asks of the calls that it measures is right by construction, but isn't proved: it takes leave for it from
-a C function (c/granted.c) whose contract is false. So the executable is what the compiler makes of the proved crates, and says
+a C function (granted.c) whose contract is false. So the executable is what the compiler makes of the proved crates, and says
 nothing else.
 """
 
 import os
 import pathlib
 import shutil
+import statistics
 import subprocess
 import sys
 
 ROOT = pathlib.Path(__file__).resolve().parent.parent
 
 
-def lay_out(folder, name, crates, uses):
-    """The crates of the checkout, built, and the program bench/NAME.rattle, which uses some of them and these libraries."""
+def lay_out(folder, name, crates, uses, root=ROOT):
+    """The crates of a checkout, built, and this one's program bench/NAME.rattle, which uses some of them and these libraries."""
     for crate in crates:
-        subprocess.run(["rt", "lib"], cwd=ROOT / "crates" / crate, stdout=sys.stderr, check=True)
-    lines = (ROOT / "crates.txt").read_text().splitlines()
+        subprocess.run(["rt", "lib"], cwd=root / "crates" / crate, stdout=sys.stderr, check=True)
+    lines = (root / "crates.txt").read_text().splitlines()
     lines = [line for line in lines if line.partition(":")[0] in crates]
     (folder / "crates.txt").write_text("\n".join([*lines, f"{name}: {uses}"]) + "\n")
     for crate in crates:
         for part in ["src", "specs", "proofs", "out/rlib"]:
-            shutil.copytree(ROOT / "crates" / crate / part, folder / "crates" / crate / part)
+            shutil.copytree(root / "crates" / crate / part, folder / "crates" / crate / part)
     for part in ["src", "c"]:
         (folder / "crates" / name / part).mkdir(parents=True)
     shutil.copy(ROOT / "bench" / f"{name}.rattle", folder / "crates" / name / "src/main.rt")
-    (folder / "crates" / name / "c/granted.c").write_text("void granted(void) {}\n")
+    shutil.copy(ROOT / "bench/granted.c", folder / "crates" / name / "c/granted.c")
 
 
 def built(folder, name, words):
@@ -46,3 +47,48 @@ def run(program, words):
     if status != 0:
         sys.exit(f"{program}: status {status}")
     return text.splitlines(), usage
+
+
+def measures(lines):
+    """What a program measured, each with its heading and its count: the microseconds of one time, by the clock on the wall and
+    by the processor's."""
+    heading, found = "", {}
+    for line in lines:
+        if line.startswith("=="):
+            heading = line
+            continue
+        name, count, times, *both = line.split()
+        found[heading, name, count] = [int(time) / int(times) for time in both]
+    return found
+
+
+def in_turn(runs, jobs):
+    """What each job measured, by its name, in each of the runs. The jobs take turns, so that what else the machine does falls
+    on each."""
+    found = {name: [] for name in jobs}
+    for _ in range(runs):
+        for name, (program, words) in jobs.items():
+            found[name].append(measures(run(program, [str(word) for word in words])[0]))
+    return found
+
+
+def show_beside(found):
+    """A table of what was measured: for each job the smallest and the median of its runs, in microseconds of processor, and for
+    each but the first what part of them the first one's are."""
+    first, *others = found
+    print(f"{'':20}{'':>7}" + "".join(f"{name:>26}" for name in found) + "".join(f"{f'{first} / {name}':>26}" for name in others))
+    heading = ""
+    for key in found[first][0]:
+        if key[0] != heading:
+            heading = key[0]
+            print(heading)
+        both = {}
+        for name, runs in found.items():
+            times = [run[key][1] for run in runs if key in run]
+            both[name] = (min(times), statistics.median(times)) if times else None
+        line = f"{key[1]:20}{key[2]:>7}"
+        line += "".join(f"{both[name][0]:13.2f}{both[name][1]:13.2f}" if both[name] else f"{'':26}" for name in found)
+        for name in others:
+            if both[name] and all(both[name]):
+                line += "".join(f"{one / other:13.2f}" for one, other in zip(both[first], both[name]))
+        print(line.rstrip())

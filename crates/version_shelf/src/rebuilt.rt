@@ -1,6 +1,6 @@
 //! How are pages made anew where one of them has other parts than before?
 
-ghost use Rattle.std.specs.Prelude.{◌≡◌, ◌++◌, ◌+◌, ◌<◌, ◌≤◌, ◌^◌, OnOk, IfOk, length};
+ghost use Rattle.std.specs.Prelude.{◌≡◌, ◌++◌, ◌+◌, ◌-◌, ◌/◌, ◌<◌, ◌≤◌, ◌^◌, OnOk, IfOk, length, take, drop};
 ghost use Rattle.version_shelf.specs.Shelf.{ClonesEqual};
 ghost use Rattle.version_shelf.specs.Pages.{AreFull, ArePages, flatten, in_pages};
 
@@ -100,14 +100,26 @@ fn put_pages<T: Drop>(
     ensures pages { OnOk result (pages.new.items ≡ pages.old.items ++ in_pages parts.items) }
     ensures counted { (count.old ≤ count.new) × (count.new ≤ count.old + 128) }
 {
-    let mut parts = parts;
     if parts.len() > MOST_PARTS {
-        let half = parts.len() / 2;
-        count.raise(parts.len() - half);
-        let others = parts.split_off(half)?;
+        let (parts, others) = in_halves(parts, count)?;
         put(pages, Page::of(alloc, parts)?, count)?;
         put(pages, Page::of(alloc, others)?, count)
     } else {
         put(pages, Page::of(alloc, parts)?, count)
     }
+}
+
+/// Cuts parts into two halves, of which the second one is put into a list of its own: its parts are counted. The error is
+/// want of memory.
+fn in_halves<T: Drop>(parts: Vec<T>, count: &mut Count) -> Result<(Vec<T>, Vec<T>), AllocError>
+    requires { count.old + (length parts.items - length parts.items / 2) < 2 ^ 64 }
+    ensures first { IfOk result (λ halves. halves.0.items ≡ take (length parts.items / 2) parts.items) }
+    ensures second { IfOk result (λ halves. halves.1.items ≡ drop (length parts.items / 2) parts.items) }
+    ensures counted { count.new ≡ count.old + (length parts.items - length parts.items / 2) }
+{
+    let mut parts = parts;
+    let half = parts.len() / 2;
+    count.raise(parts.len() - half);
+    let others = parts.split_off(half)?;
+    Ok((parts, others))
 }
