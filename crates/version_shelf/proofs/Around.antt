@@ -10,7 +10,7 @@ use Rattle.std.specs.Map.{keys_of}
 use Rattle.std.proofs.lemmas.List.Elements.{filter-append}
 use Rattle.std.proofs.lemmas.Map.Keys.{sorted_head, sorted_tail}
 use Rattle.version_shelf.specs.Shelf.{IsInOrder, get, rows_below, rows_above}
-use Rattle.version_shelf.specs.Pages.{AreFull, ArePages, Cuts, CutsAt, flatten, ends, rows_from}
+use Rattle.version_shelf.specs.Pages.{AreFull, ArePages, Cuts, CutsAt, flatten, ends, least_leaves, least_rows, rows_from}
 use Rattle.version_shelf.proofs.Above.{by_order, AllAbove, below_of_above, above_of_above, get_of_above, all_above_equal, all_above_greater}
 use Rattle.version_shelf.proofs.First.{from_of_above}
 use Rattle.version_shelf.proofs.Flat.{flatten-append, full_front, full_back, full_from_pages, pages_front, pages_back, full_least}
@@ -38,7 +38,7 @@ module _ {X : Type 0} (p : X → Bool) where
   not_empty_ends xs (y ∷ ys) some = ends_append xs y ys
 
   -- and where it doesn't, of pages that have parts
-  pub ends_flatten_not : (pages : List (List X)) → AreFull pages → ends (ends p) pages ≡ false → ends p (flatten pages) ≡ false
+  pub ends_flatten_not : (pages : List (List X)) → AreFull least_rows pages → ends (ends p) pages ≡ false → ends p (flatten pages) ≡ false
   ends_flatten_not [] full passes = refl
   ends_flatten_not (x ∷ []) full passes = ap (ends p) (append-nil x) ∙ passes
   ends_flatten_not (x ∷ y ∷ pages) full passes = not_empty_ends x (flatten (y ∷ pages)) (omega (arith, length-append y (flatten pages), full.1.0.0)) ∙ ends_flatten_not (y ∷ pages) full.1 passes
@@ -130,7 +130,7 @@ module _ {K V : Type 0} {cmp : K → K → Ordering} (o : IsTotalOrder cmp) (key
 
   -- ---- leaves, cut at the key
 
-  module _ (leaves below : List (List (K × V))) (rows : List (K × V)) (above : List (List (K × V))) (cuts : Cuts leaves below rows above) (at : CutsAt (λ row. is_lt (cmp row.0 key)) below rows above) (sorted : IsInOrder cmp (flatten leaves)) where
+  module _ (leaves below : List (List (K × V))) (rows : List (K × V)) (above : List (List (K × V))) (cuts : Cuts least_rows leaves below rows above) (at : CutsAt (λ row. is_lt (cmp row.0 key)) below rows above) (sorted : IsInOrder cmp (flatten leaves)) where
     order : IsInOrder cmp (flatten below ++ (rows ++ flatten above))
     order = rw cuts.joined at sorted
 
@@ -141,7 +141,7 @@ module _ {K V : Type 0} {cmp : K → K → Ordering} (o : IsTotalOrder cmp) (key
     leaves_before [] first ordered = tt
     leaves_before (p ∷ b) first ordered = all_below (flatten (p ∷ b)) ordered (ends_flatten _ (p ∷ b) (first (omega arith)))
 
-    leaves_behind : (a : List (List (K × V))) → (0 < length a → 64 ≤ length rows) → (0 < length a → ends (λ row. is_lt (cmp row.0 key)) rows ≡ false) → IsInOrder cmp (rows ++ flatten a) → AllAbove cmp key (flatten a)
+    leaves_behind : (a : List (List (K × V))) → (0 < length a → least_rows ≤ length rows) → (0 < length a → ends (λ row. is_lt (cmp row.0 key)) rows ≡ false) → IsInOrder cmp (rows ++ flatten a) → AllAbove cmp key (flatten a)
     leaves_behind [] least more ordered = tt
     leaves_behind (p ∷ a) least more ordered = all_above rows (flatten (p ∷ a)) ordered (omega (arith, least (omega arith))) (more (omega arith))
 
@@ -153,38 +153,38 @@ module _ {K V : Type 0} {cmp : K → K → Ordering} (o : IsTotalOrder cmp) (key
 
   -- ---- middles, cut at the key
 
-  module _ (middles below : List (List (List (K × V)))) (leaves : List (List (K × V))) (above : List (List (List (K × V)))) (cuts : Cuts middles below leaves above) (at : CutsAt (ends (λ row. is_lt (cmp row.0 key))) below leaves above) (sorted : IsInOrder cmp (flatten (flatten middles))) (pages : ArePages (flatten middles)) where
+  module _ (middles below : List (List (List (K × V)))) (leaves : List (List (K × V))) (above : List (List (List (K × V)))) (cuts : Cuts least_leaves middles below leaves above) (at : CutsAt (ends (λ row. is_lt (cmp row.0 key))) below leaves above) (sorted : IsInOrder cmp (flatten (flatten middles))) (pages : ArePages least_rows (flatten middles)) where
     pub middles_joined : flatten (flatten middles) ≡ flatten (flatten below) ++ (flatten leaves ++ flatten (flatten above))
     middles_joined = ap flatten cuts.joined ∙ flatten-append (flatten below) (leaves ++ flatten above) ∙ ap (λ l. flatten (flatten below) ++ l) (flatten-append leaves (flatten above))
 
     middles_order : IsInOrder cmp (flatten (flatten below) ++ (flatten leaves ++ flatten (flatten above)))
     middles_order = rw middles_joined at sorted
 
-    some_pages : ArePages (flatten below ++ (leaves ++ flatten above))
+    some_pages : ArePages least_rows (flatten below ++ (leaves ++ flatten above))
     some_pages = rw cuts.joined at pages
 
-    pub are_leaves_at : ArePages leaves
-    are_leaves_at = pages_front leaves (flatten above) (pages_back (flatten below) (leaves ++ flatten above) some_pages)
+    pub are_leaves_at : ArePages least_rows leaves
+    are_leaves_at = pages_front least_rows leaves (flatten above) (pages_back least_rows (flatten below) (leaves ++ flatten above) some_pages)
 
     pub leaves_order : IsInOrder cmp (flatten leaves)
     leaves_order = in_order_front cmp (flatten leaves) (flatten (flatten above)) (in_order_back cmp (flatten (flatten below)) (flatten leaves ++ flatten (flatten above)) middles_order)
 
     -- where there are other middles, every leaf is full
-    pub leaves_full : 0 < length below + length above → AreFull (flatten below ++ (leaves ++ flatten above))
-    leaves_full more = full_from_pages (flatten below ++ (leaves ++ flatten above)) some_pages (omega (arith, cuts.fewest more, length-append (flatten below) (leaves ++ flatten above), length-append leaves (flatten above)))
+    pub leaves_full : 0 < length below + length above → AreFull least_rows (flatten below ++ (leaves ++ flatten above))
+    leaves_full more = full_from_pages least_rows (flatten below ++ (leaves ++ flatten above)) some_pages (omega (arith, cuts.fewest more, length-append (flatten below) (leaves ++ flatten above), length-append leaves (flatten above)))
 
     middles_before : (b : List (List (List (K × V)))) → (0 < length b → ends (ends (ends (λ row. is_lt (cmp row.0 key)))) b ≡ true) → IsInOrder cmp (flatten (flatten b)) → AllBelow cmp key (flatten (flatten b))
     middles_before [] first ordered = tt
     middles_before (p ∷ b) first ordered = all_below (flatten (flatten (p ∷ b))) ordered (ends_flatten _ (flatten (p ∷ b)) (ends_flatten _ (p ∷ b) (first (omega arith))))
 
-    middles_behind : (a : List (List (List (K × V)))) → (0 < length a → 64 ≤ length leaves) → (0 < length a → AreFull leaves) → (0 < length a → ends (ends (λ row. is_lt (cmp row.0 key))) leaves ≡ false) → IsInOrder cmp (flatten leaves ++ flatten (flatten a)) → AllAbove cmp key (flatten (flatten a))
+    middles_behind : (a : List (List (List (K × V)))) → (0 < length a → least_leaves ≤ length leaves) → (0 < length a → AreFull least_rows leaves) → (0 < length a → ends (ends (λ row. is_lt (cmp row.0 key))) leaves ≡ false) → IsInOrder cmp (flatten leaves ++ flatten (flatten a)) → AllAbove cmp key (flatten (flatten a))
     middles_behind [] least full more ordered = tt
     middles_behind (p ∷ a) least full more ordered =
         let parts = full (omega arith) in
-        all_above (flatten leaves) (flatten (flatten (p ∷ a))) ordered (omega (arith, least (omega arith), full_least leaves parts)) (ends_flatten_not _ leaves parts (more (omega arith)))
+        all_above (flatten leaves) (flatten (flatten (p ∷ a))) ordered (omega (arith, least (omega arith), full_least least_rows leaves parts)) (ends_flatten_not _ leaves parts (more (omega arith)))
 
     pub middles_around : IsAround (flatten (flatten below)) (flatten (flatten above))
     middles_around = record {
       before = middles_before below at.before (in_order_front cmp (flatten (flatten below)) (flatten leaves ++ flatten (flatten above)) middles_order);
-      behind = middles_behind above (λ some. cuts.fewest (omega arith)) (λ some. full_front leaves (flatten above) (full_back (flatten below) (leaves ++ flatten above) (leaves_full (omega arith)))) at.behind (in_order_back cmp (flatten (flatten below)) (flatten leaves ++ flatten (flatten above)) middles_order);
+      behind = middles_behind above (λ some. cuts.fewest (omega arith)) (λ some. full_front least_rows leaves (flatten above) (full_back least_rows (flatten below) (leaves ++ flatten above) (leaves_full (omega arith)))) at.behind (in_order_back cmp (flatten (flatten below)) (flatten leaves ++ flatten (flatten above)) middles_order);
     }

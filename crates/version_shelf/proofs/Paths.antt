@@ -5,12 +5,12 @@ use Rattle.std.specs.Ordering.{is_lt}
 use Rattle.std.specs.Cmp.{IsTotalOrder}
 use Rattle.std.specs.Result.{IfOk}
 use Rattle.version_shelf.specs.Shelf.{IsInOrder, get, rows_below, rows_above}
-use Rattle.version_shelf.specs.Pages.{AreFull, ArePages, Cuts, CutsAt, flatten, ends}
+use Rattle.version_shelf.specs.Pages.{AreFull, ArePages, Cuts, CutsAt, flatten, ends, least_leaves, least_rows}
 use Rattle.version_shelf.proofs.Around.{middles_joined, leaves_order, leaf_order, leaves_around, middles_around, below_around, above_around, get_around}
 use Rattle.version_shelf.proofs.Flat.{flatten-append, full_append, full_front, full_back, full_from_pages, pages_from_full}
 
-module _ {K V : Type 0} {cmp : K → K → Ordering} (o : IsTotalOrder cmp) (key : K) (middles middles_below : List (List (List (K × V)))) (leaves : List (List (K × V))) (middles_above : List (List (List (K × V)))) (cuts : Cuts middles middles_below leaves middles_above) (at : CutsAt (ends (λ row. is_lt (cmp row.0 key))) middles_below leaves middles_above) (sorted : IsInOrder cmp (flatten (flatten middles))) (pages : ArePages (flatten middles)) where
-  module _ (below : List (List (K × V))) (rows : List (K × V)) (above : List (List (K × V))) (leaf_cuts : Cuts leaves below rows above) (leaf_at : CutsAt (λ row. is_lt (cmp row.0 key)) below rows above) where
+module _ {K V : Type 0} {cmp : K → K → Ordering} (o : IsTotalOrder cmp) (key : K) (middles middles_below : List (List (List (K × V)))) (leaves : List (List (K × V))) (middles_above : List (List (List (K × V)))) (cuts : Cuts least_leaves middles middles_below leaves middles_above) (at : CutsAt (ends (λ row. is_lt (cmp row.0 key))) middles_below leaves middles_above) (sorted : IsInOrder cmp (flatten (flatten middles))) (pages : ArePages least_rows (flatten middles)) where
+  module _ (below : List (List (K × V))) (rows : List (K × V)) (above : List (List (K × V))) (leaf_cuts : Cuts least_rows leaves below rows above) (leaf_at : CutsAt (λ row. is_lt (cmp row.0 key)) below rows above) where
     order : IsInOrder cmp (flatten leaves)
     order = leaves_order o key middles middles_below leaves middles_above cuts at sorted pages
 
@@ -47,21 +47,21 @@ module _ {K V : Type 0} {cmp : K → K → Ordering} (o : IsTotalOrder cmp) (key
 
 module _ {X : Type 0} (middles middles_below : List (List (List X))) (leaves : List (List X)) (middles_above : List (List (List X))) where
   -- where there are other middles, every leaf is full
-  pub others_full : Cuts middles middles_below leaves middles_above → ArePages (flatten middles) → 0 < length middles_below + length middles_above → AreFull (flatten middles_below ++ (leaves ++ flatten middles_above))
+  pub others_full : Cuts least_leaves middles middles_below leaves middles_above → ArePages least_rows (flatten middles) → 0 < length middles_below + length middles_above → AreFull least_rows (flatten middles_below ++ (leaves ++ flatten middles_above))
   others_full cuts pages more =
       let all = rw cuts.joined at pages in
-      full_from_pages (flatten middles_below ++ (leaves ++ flatten middles_above)) all (omega (arith, cuts.fewest more, length-append (flatten middles_below) (leaves ++ flatten middles_above), length-append leaves (flatten middles_above)))
+      full_from_pages least_rows (flatten middles_below ++ (leaves ++ flatten middles_above)) all (omega (arith, cuts.fewest more, length-append (flatten middles_below) (leaves ++ flatten middles_above), length-append leaves (flatten middles_above)))
 
-  around_full : (changed : List (List X)) → AreFull (flatten middles_below ++ (leaves ++ flatten middles_above)) → AreFull changed → ArePages (flatten middles_below ++ (changed ++ flatten middles_above))
+  around_full : (changed : List (List X)) → AreFull least_rows (flatten middles_below ++ (leaves ++ flatten middles_above)) → AreFull least_rows changed → ArePages least_rows (flatten middles_below ++ (changed ++ flatten middles_above))
   around_full changed all full =
-      let back = full_back (flatten middles_below) (leaves ++ flatten middles_above) all in
-      pages_from_full (flatten middles_below ++ (changed ++ flatten middles_above)) (full_append (flatten middles_below) (changed ++ flatten middles_above) (full_front (flatten middles_below) (leaves ++ flatten middles_above) all) (full_append changed (flatten middles_above) full (full_back leaves (flatten middles_above) back)))
+      let back = full_back least_rows (flatten middles_below) (leaves ++ flatten middles_above) all in
+      pages_from_full least_rows (flatten middles_below ++ (changed ++ flatten middles_above)) (full_append least_rows (flatten middles_below) (changed ++ flatten middles_above) (full_front least_rows (flatten middles_below) (leaves ++ flatten middles_above) all) (full_append least_rows changed (flatten middles_above) full (full_back least_rows leaves (flatten middles_above) back)))
 
 -- the other leaves stay as they are
-pub leaves_changed : {X : Type 0} (middles middles_below : List (List (List X))) (leaves : List (List X)) (middles_above : List (List (List X))) (changed : List (List X)) → Cuts middles middles_below leaves middles_above → ArePages (flatten middles) → ArePages changed → (0 < length middles_below + length middles_above → 1 < length changed) → ArePages (flatten middles_below ++ (changed ++ flatten middles_above))
+pub leaves_changed : {X : Type 0} (middles middles_below : List (List (List X))) (leaves : List (List X)) (middles_above : List (List (List X))) (changed : List (List X)) → Cuts least_leaves middles middles_below leaves middles_above → ArePages least_rows (flatten middles) → ArePages least_rows changed → (0 < length middles_below + length middles_above → 1 < length changed) → ArePages least_rows (flatten middles_below ++ (changed ++ flatten middles_above))
 leaves_changed middles [] leaves [] changed cuts pages are more = rw (append-nil changed) are
-leaves_changed middles [] leaves (p ∷ above) changed cuts pages are more = around_full middles [] leaves (p ∷ above) changed (others_full middles [] leaves (p ∷ above) cuts pages (omega arith)) (full_from_pages changed are (more (omega arith)))
-leaves_changed middles (p ∷ below) leaves above changed cuts pages are more = around_full middles (p ∷ below) leaves above changed (others_full middles (p ∷ below) leaves above cuts pages (omega arith)) (full_from_pages changed are (more (omega arith)))
+leaves_changed middles [] leaves (p ∷ above) changed cuts pages are more = around_full middles [] leaves (p ∷ above) changed (others_full middles [] leaves (p ∷ above) cuts pages (omega arith)) (full_from_pages least_rows changed are (more (omega arith)))
+leaves_changed middles (p ∷ below) leaves above changed cuts pages are more = around_full middles (p ∷ below) leaves above changed (others_full middles (p ∷ below) leaves above cuts pages (omega arith)) (full_from_pages least_rows changed are (more (omega arith)))
 
 pub rows_changed : {X : Type 0} (middles_below middles_above : List (List (List X))) (below above changed : List (List X)) (rows : List X) → flatten changed ≡ flatten below ++ (rows ++ flatten above) → flatten (flatten middles_below ++ (changed ++ flatten middles_above)) ≡ flatten (flatten middles_below) ++ (flatten below ++ (rows ++ (flatten above ++ flatten (flatten middles_above))))
 rows_changed middles_below middles_above below above changed rows is =
@@ -77,6 +77,6 @@ module _ {W E X : Type 0} (items : W → List (List (List X))) (between : List (
   if_rows all same (Ok v) is = ap flatten is ∙ same
   if_rows all same (Err e) is = tt
 
-  pub if_leaves : ArePages between → (r : Result W E) → IfOk r (λ v. flatten (items v) ≡ between) → IfOk r (λ v. ArePages (flatten (items v)))
+  pub if_leaves : ArePages least_rows between → (r : Result W E) → IfOk r (λ v. flatten (items v) ≡ between) → IfOk r (λ v. ArePages least_rows (flatten (items v)))
   if_leaves are (Ok v) is = rw is are
   if_leaves are (Err e) is = tt

@@ -5,21 +5,21 @@ use Rattle.std.specs.Result.{IfOk, MatchResult}
 use Rattle.std.proofs.lemmas.Bool.{cases_lt}
 use Rattle.std.specs.declared.cmp.Ordering.{Ordering}
 use Rattle.version_shelf.specs.Shelf.{IsInOrder, most_rows, rows_below, rows_above, with_key, without_key}
-use Rattle.version_shelf.specs.Pages.{ArePages, AreFull, IsShelf, flatten}
+use Rattle.version_shelf.specs.Pages.{ArePages, AreFull, IsShelf, flatten, least_leaves, least_rows, most_middles}
 use Rattle.version_shelf.proofs.Flat.{full_from_pages, full_least}
 
-few_middles : {X : Type 0} (middles : List (List (List X))) → ArePages (flatten middles) → ArePages middles → length (flatten (flatten middles)) ≤ most_rows → (n : ℕ) → length middles ≡ n → n ≤ 128
-few_middles middles leaves are room n is = elim (cases_lt n 129) [
+few_middles : {X : Type 0} (middles : List (List (List X))) → ArePages least_rows (flatten middles) → ArePages least_leaves middles → length (flatten (flatten middles)) ≤ most_rows → (n : ℕ) → length middles ≡ n → n ≤ most_middles
+few_middles middles leaves are room n is = elim (cases_lt n 513) [
   | inl few ↦ omega arith
   | inr many ↦
-      let full : AreFull middles = full_from_pages middles are (omega arith) in
-      let least : 64 * length middles ≤ length (flatten middles) = full_least middles full in
-      let full_leaves : AreFull (flatten middles) = full_from_pages (flatten middles) leaves (omega arith) in
-      let rows : 64 * length (flatten middles) ≤ length (flatten (flatten middles)) = full_least (flatten middles) full_leaves in
+      let full : AreFull least_leaves middles = full_from_pages least_leaves middles are (omega arith) in
+      let least : least_leaves * length middles ≤ length (flatten middles) = full_least least_leaves middles full in
+      let full_leaves : AreFull least_rows (flatten middles) = full_from_pages least_rows (flatten middles) leaves (omega arith) in
+      let rows : least_rows * length (flatten middles) ≤ length (flatten (flatten middles)) = full_least least_rows (flatten middles) full_leaves in
       absurd (omega arith)
 ]
 
-pub new_shelf : {K V : Type 0} (cmp : K → K → Ordering) (middles : List (List (List (K × V)))) (count : ℕ) → IsInOrder cmp (flatten (flatten middles)) → count ≡ length (flatten (flatten middles)) → count ≤ most_rows → ArePages (flatten middles) → ArePages middles → IsShelf cmp middles count
+pub new_shelf : {K V : Type 0} (cmp : K → K → Ordering) (middles : List (List (List (K × V)))) (count : ℕ) → IsInOrder cmp (flatten (flatten middles)) → count ≡ length (flatten (flatten middles)) → count ≤ most_rows → ArePages least_rows (flatten middles) → ArePages least_leaves middles → IsShelf cmp middles count
 new_shelf cmp middles count order counted room leaves are = record {
   order = order;
   counted = counted;

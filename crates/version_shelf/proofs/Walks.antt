@@ -1,5 +1,5 @@
 -- The rows between two bounds, by the pages where the bounds belong.
-use Rattle.std.proofs.Common.{◌≡◌, ◌<◌, ◌≤◌, ◌&&◌, List, [], ◌∷◌, ◌++◌, length, filter, drop, refl, sym, ap, ◌∙◌, append-nil, append_assoc, length-append, inl, inr, arith}
+use Rattle.std.proofs.Common.{◌≡◌, ℕ, ◌<◌, ◌≤◌, ◌&&◌, List, [], ◌∷◌, ◌++◌, length, filter, drop, refl, sym, ap, ◌∙◌, append-nil, append_assoc, length-append, inl, inr, arith}
 use Rattle.std.specs.declared.cmp.Ordering.{Ordering}
 use Rattle.std.specs.declared.cmp.Ordering.TheVariants.{Less}
 use Rattle.std.specs.Ordering.{is_lt, is_ge}
@@ -8,7 +8,7 @@ use Rattle.std.specs.List.{AllByRecursion}
 use Rattle.std.specs.Map.{keys_of}
 use Rattle.std.proofs.lemmas.List.Elements.{filter-append}
 use Rattle.version_shelf.specs.Shelf.{IsInOrder, rows_below, rows_between}
-use Rattle.version_shelf.specs.Pages.{AreFull, ArePages, AreWalkPages, Cuts, CutsAt, flatten, ends, rows_from, walk_rows}
+use Rattle.version_shelf.specs.Pages.{AreFull, ArePages, AreWalkPages, Cuts, CutsAt, flatten, ends, least_leaves, least_rows, rows_from, walk_rows}
 use Rattle.version_shelf.proofs.Above.{AllAbove, all_filter, below_of_above}
 use Rattle.version_shelf.proofs.Split.{between_is}
 use Rattle.version_shelf.proofs.Around.{AllBelow, IsAround, below_of_below, from_of_below, below_around, from_around, in_order_back, leaves_around, middles_around}
@@ -56,7 +56,7 @@ module _ {K V : Type 0} {cmp : K → K → Ordering} (o : IsTotalOrder cmp) (lo 
 
 -- ---- the pages from the one at a place on
 
-module _ {X : Type 0} (pages below : List (List X)) (page : List X) (above : List (List X)) (cuts : Cuts pages below page above) (from : List (List X)) (is : from ≡ drop (length below) pages) where
+module _ {X : Type 0} (least : ℕ) (pages below : List (List X)) (page : List X) (above : List (List X)) (cuts : Cuts least pages below page above) (from : List (List X)) (is : from ≡ drop (length below) pages) where
   pub front_and_rest : pages ≡ below ++ from
   front_and_rest = elim cuts.whole [
     | inl whole ↦ whole ∙ ap (λ l. below ++ l) (sym (is ∙ ap (drop (length below)) whole ∙ drop_at below (page ∷ above) (length below) refl))
@@ -69,14 +69,14 @@ module _ {X : Type 0} (pages below : List (List X)) (page : List X) (above : Lis
     | inr none ↦ absurd (omega (arith, some none.1 none.0))
   ]
 
-  pub rest_pages : ArePages pages → ArePages from
-  rest_pages are = pages_back below from (rw front_and_rest at are)
+  pub rest_pages : ArePages least pages → ArePages least from
+  rest_pages are = pages_back least below from (rw front_and_rest at are)
 
-  pub rest_size : length pages ≤ 128 → length from ≤ 128
-  rest_size few = omega (arith, ap length front_and_rest, length-append below from)
+  pub rest_size : (most : ℕ) → length pages ≤ most → length from ≤ most
+  rest_size most few = omega (arith, ap length front_and_rest, length-append below from)
 
   -- the other bound belongs to a later page
-  module _ (ends_below : List (List X)) (last : List X) (ends_above : List (List X)) (ends_cuts : Cuts from ends_below last ends_above) (first : List X) (between : List (List X)) (more : ends_below ≡ first ∷ between) where
+  module _ (ends_below : List (List X)) (last : List X) (ends_above : List (List X)) (ends_cuts : Cuts least from ends_below last ends_above) (first : List X) (between : List (List X)) (more : ends_below ≡ first ∷ between) where
     whole_rest : from ≡ ends_below ++ last ∷ ends_above
     whole_rest = elim ends_cuts.whole [
       | inl whole ↦ whole
@@ -97,9 +97,9 @@ module _ {X : Type 0} (pages below : List (List X)) (page : List X) (above : Lis
 
 -- ---- between two leaves
 
-module _ {K V : Type 0} {cmp : K → K → Ordering} (o : IsTotalOrder cmp) (lo hi : K) (leaves below : List (List (K × V))) (page : List (K × V)) (above : List (List (K × V))) (cuts : Cuts leaves below page above) (at : CutsAt (λ row. is_lt (cmp row.0 lo)) below page above) (sorted : IsInOrder cmp (flatten leaves)) (from : List (List (K × V))) (is : from ≡ drop (length below) leaves) where
+module _ {K V : Type 0} {cmp : K → K → Ordering} (o : IsTotalOrder cmp) (lo hi : K) (leaves below : List (List (K × V))) (page : List (K × V)) (above : List (List (K × V))) (cuts : Cuts least_rows leaves below page above) (at : CutsAt (λ row. is_lt (cmp row.0 lo)) below page above) (sorted : IsInOrder cmp (flatten leaves)) (from : List (List (K × V))) (is : from ≡ drop (length below) leaves) where
   leaves_parted : flatten leaves ≡ flatten below ++ flatten from
-  leaves_parted = ap flatten (front_and_rest leaves below page above cuts from is) ∙ flatten-append below from
+  leaves_parted = ap flatten (front_and_rest least_rows leaves below page above cuts from is) ∙ flatten-append below from
 
   pub rest_order : IsInOrder cmp (flatten from)
   rest_order = in_order_back cmp (flatten below) (flatten from) (rw leaves_parted at sorted)
@@ -107,7 +107,7 @@ module _ {K V : Type 0} {cmp : K → K → Ordering} (o : IsTotalOrder cmp) (lo 
   low : IsAround o lo (flatten below) (flatten above)
   low = leaves_around o lo leaves below page above cuts at sorted
 
-  module _ (ends_below : List (List (K × V))) (last : List (K × V)) (ends_above : List (List (K × V))) (ends_cuts : Cuts from ends_below last ends_above) (ends_at : CutsAt (λ row. is_lt (cmp row.0 hi)) ends_below last ends_above) where
+  module _ (ends_below : List (List (K × V))) (last : List (K × V)) (ends_above : List (List (K × V))) (ends_cuts : Cuts least_rows from ends_below last ends_above) (ends_at : CutsAt (λ row. is_lt (cmp row.0 hi)) ends_below last ends_above) where
     high : IsAround o hi (flatten ends_below) (flatten ends_above)
     high = leaves_around o hi from ends_below last ends_above ends_cuts ends_at rest_order
 
@@ -120,8 +120,8 @@ module _ {K V : Type 0} {cmp : K → K → Ordering} (o : IsTotalOrder cmp) (lo 
 
     pub in_two_leaves : (first : List (K × V)) (between : List (List (K × V))) → ends_below ≡ first ∷ between → (x y : List (K × V)) → x ≡ rows_from cmp page lo → y ≡ rows_below cmp last hi → x ++ (flatten between ++ y) ≡ rows_between cmp (flatten leaves) lo hi
     in_two_leaves first between more x y starts_are ends_are =
-        let same : first ≡ page = first_is leaves below page above cuts from is ends_below last ends_above ends_cuts first between more in
-        let parts : flatten above ≡ flatten between ++ (last ++ flatten ends_above) = ap flatten (above_is leaves below page above cuts from is ends_below last ends_above ends_cuts first between more) ∙ flatten_around between last ends_above in
+        let same : first ≡ page = first_is least_rows leaves below page above cuts from is ends_below last ends_above ends_cuts first between more in
+        let parts : flatten above ≡ flatten between ++ (last ++ flatten ends_above) = ap flatten (above_is least_rows leaves below page above cuts from is ends_below last ends_above ends_cuts first between more) ∙ flatten_around between last ends_above in
         let before : flatten ends_below ≡ page ++ flatten between = ap flatten more ∙ ap (λ l. l ++ flatten between) same in
         sym (ap (λ l. rows_between cmp l lo hi) cuts.joined
         ∙ between_two o lo hi (flatten below) page (flatten between) last (flatten ends_above) (flatten above) parts low (rw before at high)
@@ -130,9 +130,9 @@ module _ {K V : Type 0} {cmp : K → K → Ordering} (o : IsTotalOrder cmp) (lo 
 
 -- ---- between two middles
 
-module _ {K V : Type 0} {cmp : K → K → Ordering} (o : IsTotalOrder cmp) (lo hi : K) (middles below : List (List (List (K × V)))) (leaves : List (List (K × V))) (above : List (List (List (K × V)))) (cuts : Cuts middles below leaves above) (at : CutsAt (ends (λ row. is_lt (cmp row.0 lo))) below leaves above) (sorted : IsInOrder cmp (flatten (flatten middles))) (pages : ArePages (flatten middles)) (from : List (List (List (K × V)))) (is : from ≡ drop (length below) middles) where
+module _ {K V : Type 0} {cmp : K → K → Ordering} (o : IsTotalOrder cmp) (lo hi : K) (middles below : List (List (List (K × V)))) (leaves : List (List (K × V))) (above : List (List (List (K × V)))) (cuts : Cuts least_leaves middles below leaves above) (at : CutsAt (ends (λ row. is_lt (cmp row.0 lo))) below leaves above) (sorted : IsInOrder cmp (flatten (flatten middles))) (pages : ArePages least_rows (flatten middles)) (from : List (List (List (K × V)))) (is : from ≡ drop (length below) middles) where
   middles_parted : flatten middles ≡ flatten below ++ flatten from
-  middles_parted = ap flatten (front_and_rest middles below leaves above cuts from is) ∙ flatten-append below from
+  middles_parted = ap flatten (front_and_rest least_leaves middles below leaves above cuts from is) ∙ flatten-append below from
 
   rows_parted : flatten (flatten middles) ≡ flatten (flatten below) ++ flatten (flatten from)
   rows_parted = ap flatten middles_parted ∙ flatten-append (flatten below) (flatten from)
@@ -140,13 +140,13 @@ module _ {K V : Type 0} {cmp : K → K → Ordering} (o : IsTotalOrder cmp) (lo 
   pub rest_rows_order : IsInOrder cmp (flatten (flatten from))
   rest_rows_order = in_order_back cmp (flatten (flatten below)) (flatten (flatten from)) (rw rows_parted at sorted)
 
-  pub rest_leaves : ArePages (flatten from)
-  rest_leaves = pages_back (flatten below) (flatten from) (rw middles_parted at pages)
+  pub rest_leaves : ArePages least_rows (flatten from)
+  rest_leaves = pages_back least_rows (flatten below) (flatten from) (rw middles_parted at pages)
 
   low_middles : IsAround o lo (flatten (flatten below)) (flatten (flatten above))
   low_middles = middles_around o lo middles below leaves above cuts at sorted pages
 
-  module _ (ends_below : List (List (List (K × V)))) (last : List (List (K × V))) (ends_above : List (List (List (K × V)))) (ends_cuts : Cuts from ends_below last ends_above) (ends_at : CutsAt (ends (λ row. is_lt (cmp row.0 hi))) ends_below last ends_above) where
+  module _ (ends_below : List (List (List (K × V)))) (last : List (List (K × V))) (ends_above : List (List (List (K × V)))) (ends_cuts : Cuts least_leaves from ends_below last ends_above) (ends_at : CutsAt (ends (λ row. is_lt (cmp row.0 hi))) ends_below last ends_above) where
     high_middles : IsAround o hi (flatten (flatten ends_below)) (flatten (flatten ends_above))
     high_middles = middles_around o hi from ends_below last ends_above ends_cuts ends_at rest_rows_order rest_leaves
 
@@ -160,16 +160,16 @@ module _ {K V : Type 0} {cmp : K → K → Ordering} (o : IsTotalOrder cmp) (lo 
     in_one_middle none = sym (one_middle ends_below refl none)
 
     module _ (first : List (List (K × V))) (between : List (List (List (K × V)))) (more : ends_below ≡ first ∷ between) where
-      pub between_full : AreFull between × AreFull (flatten between)
+      pub between_full : AreFull least_leaves between × AreFull least_rows (flatten between)
       between_full =
           let all = rw more at ends_cuts.are_below in
-          let leaves_all = full_front (flatten ends_below) (last ++ flatten ends_above) (others_full from ends_below last ends_above ends_cuts rest_leaves (omega (arith, ap length more))) in
-          (all.1, full_back first (flatten between) (rw more at leaves_all))
+          let leaves_all = full_front least_rows (flatten ends_below) (last ++ flatten ends_above) (others_full from ends_below last ends_above ends_cuts rest_leaves (omega (arith, ap length more))) in
+          (all.1, full_back least_rows first (flatten between) (rw more at leaves_all))
 
       in_two : rows_between cmp (flatten (flatten middles)) lo hi ≡ rows_from cmp (flatten leaves) lo ++ (flatten (flatten between) ++ rows_below cmp (flatten last) hi)
       in_two =
-          let same : first ≡ leaves = first_is middles below leaves above cuts from is ends_below last ends_above ends_cuts first between more in
-          let parts : flatten (flatten above) ≡ flatten (flatten between) ++ (flatten last ++ flatten (flatten ends_above)) = ap flatten (ap flatten (above_is middles below leaves above cuts from is ends_below last ends_above ends_cuts first between more) ∙ flatten_around between last ends_above) ∙ flatten-append (flatten between) (last ++ flatten ends_above) ∙ ap (λ l. flatten (flatten between) ++ l) (flatten-append last (flatten ends_above)) in
+          let same : first ≡ leaves = first_is least_leaves middles below leaves above cuts from is ends_below last ends_above ends_cuts first between more in
+          let parts : flatten (flatten above) ≡ flatten (flatten between) ++ (flatten last ++ flatten (flatten ends_above)) = ap flatten (ap flatten (above_is least_leaves middles below leaves above cuts from is ends_below last ends_above ends_cuts first between more) ∙ flatten_around between last ends_above) ∙ flatten-append (flatten between) (last ++ flatten ends_above) ∙ ap (λ l. flatten (flatten between) ++ l) (flatten-append last (flatten ends_above)) in
           let before : flatten (flatten ends_below) ≡ flatten leaves ++ flatten (flatten between) = ap flatten (ap flatten more ∙ ap (λ l. l ++ flatten between) same) ∙ flatten-append leaves (flatten between) in
           ap (λ l. rows_between cmp l lo hi) (ap flatten cuts.joined ∙ flatten-append (flatten below) (leaves ++ flatten above) ∙ ap (λ l. flatten (flatten below) ++ l) (flatten-append leaves (flatten above)))
           ∙ between_two o lo hi (flatten (flatten below)) (flatten leaves) (flatten (flatten between)) (flatten last) (flatten (flatten ends_above)) (flatten (flatten above)) parts low_middles (rw before at high_middles)
@@ -184,7 +184,7 @@ module _ {K V : Type 0} {cmp : K → K → Ordering} (o : IsTotalOrder cmp) (lo 
 
 -- ---- the leaves of one middle, cut at a bound
 
-module _ {K V : Type 0} {cmp : K → K → Ordering} (o : IsTotalOrder cmp) (key : K) (leaves below : List (List (K × V))) (rows : List (K × V)) (above : List (List (K × V))) (cuts : Cuts leaves below rows above) (at : CutsAt (λ row. is_lt (cmp row.0 key)) below rows above) (sorted : IsInOrder cmp (flatten leaves)) where
+module _ {K V : Type 0} {cmp : K → K → Ordering} (o : IsTotalOrder cmp) (key : K) (leaves below : List (List (K × V))) (rows : List (K × V)) (above : List (List (K × V))) (cuts : Cuts least_rows leaves below rows above) (at : CutsAt (λ row. is_lt (cmp row.0 key)) below rows above) (sorted : IsInOrder cmp (flatten leaves)) where
   pub starts_at : (found : List (K × V)) → found ≡ rows_from cmp rows key → rows_from cmp (flatten leaves) key ≡ found ++ flatten above
   starts_at found are = ap (λ l. rows_from cmp l key) cuts.joined ∙ from_around o key (flatten below) rows (flatten above) (leaves_around o key leaves below rows above cuts at sorted) ∙ ap (λ l. l ++ flatten above) (sym are)
 
@@ -202,7 +202,7 @@ module _ {X : Type 0} (leaves : List (List X)) (middles : List (List (List X))) 
   full_middle last_leaves is same pages =
       let full = rw is at pages.1 in
       let inner = rw is at pages.2 in
-      rw same (full_front middle (flatten rest) inner, full.1, full_back middle (flatten rest) inner, pages.3)
+      rw same (full_front least_rows middle (flatten rest) inner, full.1, full_back least_rows middle (flatten rest) inner, pages.3)
 
   pub next_middle : (behind : List X) → middles ≡ middle ∷ rest → taken ≡ middle → length leaves ≡ 0 → flatten taken ++ (flatten (flatten rest) ++ behind) ≡ flatten leaves ++ (flatten (flatten middles) ++ behind)
   next_middle behind is same none =

@@ -1,5 +1,5 @@
 -- How the rows of a shelf stand in pages.
-use Rattle.std.specs.Prelude.{◌≡◌, ◌⊎◌, ℕ, ◌+◌, ◌/◌, ◌<◌, ◌≤◌, Bool, true, false, if◌then◌else◌, nat_lt, List, [], ◌∷◌, ◌++◌, length, filter, take, drop, Option, Some, None}
+use Rattle.std.specs.Prelude.{◌≡◌, ◌⊎◌, ℕ, ◌+◌, ◌-◌, ◌/◌, ◌<◌, ◌≤◌, Bool, true, false, if◌then◌else◌, nat_lt, List, [], ◌∷◌, ◌++◌, length, filter, take, drop, Option, Some, None}
 use Rattle.std.specs.declared.cmp.Ordering.{Ordering}
 use Rattle.std.specs.List.{AllByRecursion}
 use Rattle.std.specs.Ordering.{is_ge}
@@ -10,22 +10,33 @@ abbrev pub flatten : {X : Type 0} → List (List X) → List X
 flatten [] = []
 flatten (page ∷ pages) = page ++ flatten pages
 
--- a page that has neighbours has 64 to 128 parts
-abbrev pub IsFull : {X : Type 0} → List X → Type 0
-IsFull page = (64 ≤ length page) × (length page ≤ 128)
+-- how many rows a leaf has at least, and how many leaves a middle, where it has neighbours
+abbrev pub least_rows : ℕ
+least_rows = 16
 
-abbrev pub AreFull : {X : Type 0} → List (List X) → Type 0
-AreFull pages = AllByRecursion IsFull pages
+abbrev pub least_leaves : ℕ
+least_leaves = 32
 
--- a page that stands alone has at most 128 parts
-abbrev pub ArePages : {X : Type 0} → List (List X) → Type 0
-ArePages [] = Unit {0}
-ArePages (page ∷ []) = length page ≤ 128
-ArePages (page ∷ other ∷ pages) = AreFull (page ∷ other ∷ pages)
+-- how many middles a shelf has at most
+abbrev pub most_middles : ℕ
+most_middles = 512
+
+-- a page that has neighbours has so many parts at least, and twice as many at most
+abbrev pub IsFull : {X : Type 0} → ℕ → List X → Type 0
+IsFull least page = (least ≤ length page) × (length page ≤ least + least)
+
+abbrev pub AreFull : {X : Type 0} → ℕ → List (List X) → Type 0
+AreFull least pages = AllByRecursion (IsFull least) pages
+
+-- a page that stands alone has no least number of parts
+abbrev pub ArePages : {X : Type 0} → ℕ → List (List X) → Type 0
+ArePages least [] = Unit {0}
+ArePages least (page ∷ []) = length page ≤ least + least
+ArePages least (page ∷ other ∷ pages) = AreFull least (page ∷ other ∷ pages)
 
 -- these parts as one page, or as two halves where they are too many for one
-abbrev pub in_pages : {X : Type 0} → List X → List (List X)
-in_pages parts = if nat_lt 128 (length parts) then take (length parts / 2) parts ∷ drop (length parts / 2) parts ∷ [] else parts ∷ []
+abbrev pub in_pages : {X : Type 0} → ℕ → List X → List (List X)
+in_pages least parts = if nat_lt (least + least) (length parts) then take (length parts / 2) parts ∷ drop (length parts / 2) parts ∷ [] else parts ∷ []
 
 -- the middles of a shelf, which has none before its first row
 abbrev pub middles_of : {X : Type 0} → Option (List X) → List X
@@ -37,9 +48,9 @@ pub record IsShelf {K V : Type 0} (cmp : K → K → Ordering) (middles : List (
   pub order : IsInOrder cmp (flatten (flatten middles))
   pub counted : count ≡ length (flatten (flatten middles))
   pub room : length (flatten (flatten middles)) ≤ most_rows
-  pub are_leaves : ArePages (flatten middles)
-  pub are_middles : ArePages middles
-  pub size : length middles ≤ 128
+  pub are_leaves : ArePages least_rows (flatten middles)
+  pub are_middles : ArePages least_leaves middles
+  pub size : length middles ≤ most_middles
 
 -- ---- search
 
@@ -61,14 +72,14 @@ pub record IsPlace {X : Type 0} (passes : X → Bool) (parts : List X) (place : 
   pub behind : starts passes (drop place parts) ≡ false
 
 -- pages are those below, the page of some parts, and those above
-pub record Cuts {X : Type 0} (pages below : List (List X)) (parts : List X) (above : List (List X)) : Type 0 where
+pub record Cuts {X : Type 0} (least : ℕ) (pages below : List (List X)) (parts : List X) (above : List (List X)) : Type 0 where
   pub whole : (pages ≡ below ++ parts ∷ above) ⊎ ((pages ≡ []) × (below ≡ []))
   pub joined : flatten pages ≡ flatten below ++ (parts ++ flatten above)
-  pub are_below : AreFull below
-  pub are_above : AreFull above
-  pub most : length parts ≤ 128
-  pub fewest : 0 < length below + length above → 64 ≤ length parts
-  pub fits : length below + length above < 128
+  pub are_below : AreFull least below
+  pub are_above : AreFull least above
+  pub most : length parts ≤ least + least
+  pub fewest : 0 < length below + length above → least ≤ length parts
+  pub fits : length below + length above ≤ length pages - 1
   pub all : length pages ≤ length below + length above + 1
 
 -- they are cut where the parts pass no longer
@@ -78,9 +89,10 @@ pub record CutsAt {X : Type 0} (passes : X → Bool) (below : List (List X)) (pa
 
 -- the way down to a leaf: middles, cut at one, whose leaves are cut at one
 pub record Leads {X : Type 0} (middles middles_below : List (List (List X))) (leaves : List (List X)) (middles_above : List (List (List X))) (below : List (List X)) (rows : List X) (above : List (List X)) : Type 0 where
-  pub cut_middles : Cuts middles middles_below leaves middles_above
-  pub cut_leaves : Cuts leaves below rows above
-  pub are_leaves : ArePages (flatten middles)
+  pub cut_middles : Cuts least_leaves middles middles_below leaves middles_above
+  pub cut_leaves : Cuts least_rows leaves below rows above
+  pub are_leaves : ArePages least_rows (flatten middles)
+  pub size : length middles ≤ most_middles
 
 -- the rows whose keys are the key or above it
 abbrev pub rows_from : {K V : Type 0} → (K → K → Ordering) → List (K × V) → K → List (K × V)
@@ -94,4 +106,4 @@ walk_rows rest leaves middles last_leaves last = rest ++ (flatten leaves ++ (fla
 
 -- each page that is to come has a part
 abbrev pub AreWalkPages : {X : Type 0} → List (List X) → List (List (List X)) → List (List X) → Type 0
-AreWalkPages leaves middles last_leaves = AreFull leaves × AreFull middles × AreFull (flatten middles) × AreFull last_leaves
+AreWalkPages leaves middles last_leaves = AreFull least_rows leaves × AreFull least_leaves middles × AreFull least_rows (flatten middles) × AreFull least_rows last_leaves

@@ -26,11 +26,11 @@ pub(crate) fn split<'a, K: Ord, V>(
     count: &mut Count,
 ) -> (&'a [SharedRow<K, V>], &'a [SharedRow<K, V>])
     requires order { IsInOrder K.cmp rows.now }
-    requires size { length rows.now ≤ 128 }
-    requires room { count.old + 8 < 2 ^ 64 }
+    requires size { length rows.now ≤ 32 }
+    requires room { count.old + 9 < 2 ^ 64 }
     ensures below { result.0.now ≡ rows_below K.cmp rows.now key.now }
     ensures others { result.1.now ≡ rows_from K.cmp rows.now key.now }
-    ensures counted { (count.old ≤ count.new) × (count.new ≤ count.old + 8) }
+    ensures counted { (count.old ≤ count.new) × (count.new ≤ count.old + 9) }
 {
     rows.split_at(place(rows, key, count))
 }
@@ -42,12 +42,12 @@ pub(crate) fn part<'a, K: Ord, V>(
     count: &mut Count,
 ) -> Parts<'a, K, V>
     requires order { IsInOrder K.cmp rows.now }
-    requires size { length rows.now ≤ 128 }
-    requires room { count.old + 9 < 2 ^ 64 }
+    requires size { length rows.now ≤ 32 }
+    requires room { count.old + 10 < 2 ^ 64 }
     ensures below { result.below.now ≡ rows_below K.cmp rows.now key.now }
     ensures value { option_copied result.value ≡ get K.cmp rows.now key.now }
     ensures above { result.above.now ≡ rows_above K.cmp rows.now key.now }
-    ensures counted { (count.old ≤ count.new) × (count.new ≤ count.old + 9) }
+    ensures counted { (count.old ≤ count.new) × (count.new ≤ count.old + 10) }
 {
     let (below, others) = split(rows, key, count);
     match others.split_first() {
@@ -72,10 +72,10 @@ pub(crate) fn between<'a, K: Ord, V>(
     count: &mut Count,
 ) -> &'a [SharedRow<K, V>]
     requires order { IsInOrder K.cmp rows.now }
-    requires size { length rows.now ≤ 128 }
-    requires room { count.old + 16 < 2 ^ 64 }
+    requires size { length rows.now ≤ 32 }
+    requires room { count.old + 18 < 2 ^ 64 }
     ensures rows { result.now ≡ rows_between K.cmp rows.now lo.now hi.now }
-    ensures counted { (count.old ≤ count.new) × (count.new ≤ count.old + 16) }
+    ensures counted { (count.old ≤ count.new) × (count.new ≤ count.old + 18) }
 {
     let (_, from) = split(rows, lo, count);
     split(from, hi, count).0
@@ -89,10 +89,10 @@ pub(crate) fn rows_with<K: Drop, V: Drop>(
     above: &[SharedRow<K, V>],
     count: &mut Count,
 ) -> Result<Vec<SharedRow<K, V>>, AllocError>
-    requires size { length below.now + length above.now ≤ 128 }
-    requires room { count.old + 129 < 2 ^ 64 }
+    requires size { length below.now + length above.now ≤ 32 }
+    requires room { count.old + 33 < 2 ^ 64 }
     ensures rows { IfOk result (λ all. all.items ≡ below.now ++ row ∷ above.now) }
-    ensures counted { (count.old ≤ count.new) × (count.new ≤ count.old + 129) }
+    ensures counted { (count.old ≤ count.new) × (count.new ≤ count.old + 33) }
 {
     let mut all = Vec::with_capacity(alloc, below.len() + 1 + above.len())?;
     append(&mut all, below, count)?;
@@ -108,10 +108,10 @@ pub(crate) fn rows_without<K: Drop, V: Drop>(
     above: &[SharedRow<K, V>],
     count: &mut Count,
 ) -> Result<Vec<SharedRow<K, V>>, AllocError>
-    requires size { length below.now + length above.now ≤ 128 }
-    requires room { count.old + 129 < 2 ^ 64 }
+    requires size { length below.now + length above.now ≤ 32 }
+    requires room { count.old + 33 < 2 ^ 64 }
     ensures rows { IfOk result (λ all. all.items ≡ below.now ++ above.now) }
-    ensures counted { (count.old ≤ count.new) × (count.new ≤ count.old + 129) }
+    ensures counted { (count.old ≤ count.new) × (count.new ≤ count.old + 33) }
 {
     let mut all = Vec::with_capacity(alloc, below.len() + above.len())?;
     append(&mut all, below, count)?;

@@ -6,19 +6,20 @@
 //! `specs/Shelf.antt`. [`Range`]: the rows between two bounds, one after another. [`Count`]: what a call cost.
 //!
 //! A shelf has three fixed levels: its rows stand in leaves, the leaves in middles, and the middles in the shelf's root. A
-//! page has at most 128 parts, and at least 64 where it has a neighbour on its level; the root has at most 128 middles.
-//! A change makes the leaf, the middle and the root anew in which its key belongs. A page of 129 parts is cut into two
-//! halves; one of 63 is put together with a neighbour, and what comes out is cut into two halves where it is more than
-//! 128. So what the pages have to have, `IsShelf` of `specs/Pages.antt`, holds after any changes: keys that rise, fall or
-//! come in no order, and shelves that are filled and emptied again.
+//! leaf has at most 32 rows, and at least 16 where it has a neighbour; a middle has at most 64 leaves, and at least 32 where
+//! it has a neighbour; the root has at most 512 middles. A change makes the leaf, the middle and the root anew in which its
+//! key belongs. A page of one part too many is cut into two halves; one of a part too few is put together with a neighbour,
+//! and what comes out is cut into two halves where it is too many. So what the pages have to have, `IsShelf` of
+//! `specs/Pages.antt`, holds after any changes: keys that rise, fall or come in no order, and shelves that are filled and
+//! emptied again.
 //!
 //! What a call costs at most:
 //!
 //! | Call | Comparisons of keys | Copies of keys and values | Memory |
 //! |---|---|---|---|
 //! | `new`, `len`, `has_room` | none | none | none |
-//! | `get`, `find` | 25, and log2 n + 2 at up to 128 rows | none | none |
-//! | `range` | 48, and 2 log2 n + 2 at up to 128 rows; none for a row that comes | none | none |
+//! | `get`, `find` | 28, and log2 n + 2 at up to 32 rows | none | none |
+//! | `range` | 54, and 2 log2 n + 2 at up to 32 rows; none for a row that comes | none | none |
 //! | `clone` | none | none | none, but that one more owner of the root is counted |
 //! | `with`, `with_counted` | as `get` | none | for the row, and for 1,024 rows and pages put into new pages; each that stays counts one more owner |
 //! | `without`, `without_counted` | as `get` | none | for 1,024 rows and pages put into new pages; none where no row has the key |

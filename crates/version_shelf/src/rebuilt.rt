@@ -8,44 +8,44 @@ use crate::count::Count;
 use crate::page::{Page, append, put};
 use std::alloc::{AllocError, Global};
 
-const FEWEST_PARTS: usize = 64;
-
-const MOST_PARTS: usize = 128;
-
-/// The pages below, the pages of these parts, and the pages above. Where the parts are too few for a page that has
-/// neighbours, they are put together with those of one. The error is want of memory.
+/// The pages below, the pages of these parts, and the pages above. A page that has neighbours has so many parts at least,
+/// and no page more than twice as many. Where these parts are too few, they are put together with those of a neighbour. The
+/// error is want of memory.
 pub(crate) fn rebuilt<T: Clone>(
     alloc: Global,
+    least: usize,
     below: &[Page<T>],
     parts: Vec<T>,
     above: &[Page<T>],
     count: &mut Count,
 ) -> Result<Vec<Page<T>>, AllocError>
     requires clones { ClonesEqual T.is_clone }
-    requires below { AreFull below.now }
-    requires above { AreFull above.now }
-    requires fits { length below.now + length above.now < 128 }
-    requires most { length parts.items ≤ 129 }
-    requires fewest { 0 < length below.now + length above.now → 63 ≤ length parts.items }
-    requires room { count.old + 447 < 2 ^ 64 }
+    requires some { 0 < least }
+    requires least { least ≤ 32 }
+    requires below { AreFull least below.now }
+    requires above { AreFull least above.now }
+    requires fits { length below.now + length above.now < 512 }
+    requires most { length parts.items ≤ least + least + 1 }
+    requires fewest { 0 < length below.now + length above.now → least ≤ length parts.items + 1 }
+    requires room { count.old + length below.now + length above.now + 146 < 2 ^ 64 }
     ensures parts { IfOk result (λ pages. flatten pages.items ≡ flatten below.now ++ (parts.items ++ flatten above.now)) }
-    ensures pages { IfOk result (λ pages. ArePages pages.items) }
+    ensures pages { IfOk result (λ pages. ArePages least pages.items) }
     ensures fewest { IfOk result (λ pages. length below.now + length above.now ≤ length pages.items) }
     ensures most { IfOk result (λ pages. length pages.items ≤ length below.now + length above.now + 2) }
-    ensures counted { (count.old ≤ count.new) × (count.new ≤ count.old + 447) }
+    ensures counted { (count.old ≤ count.new) × (count.new ≤ count.old + length below.now + length above.now + 146) }
 {
-    if parts.len() >= FEWEST_PARTS {
-        return joined(alloc, below, parts, above, count);
+    if parts.len() >= least {
+        return joined(alloc, least, below, parts, above, count);
     }
     if let Some((neighbour, below)) = below.split_last() {
         let parts = put_together(alloc, neighbour.parts(), &parts, count)?;
-        return joined(alloc, below, parts, above, count);
+        return joined(alloc, least, below, parts, above, count);
     }
     if let Some((neighbour, above)) = above.split_first() {
         let parts = put_together(alloc, &parts, neighbour.parts(), count)?;
-        return joined(alloc, below, parts, above, count);
+        return joined(alloc, least, below, parts, above, count);
     }
-    joined(alloc, below, parts, above, count)
+    joined(alloc, least, below, parts, above, count)
 }
 
 /// These parts, and those after them.
@@ -56,10 +56,10 @@ fn put_together<T: Clone>(
     count: &mut Count,
 ) -> Result<Vec<T>, AllocError>
     requires clones { ClonesEqual T.is_clone }
-    requires size { length parts.now + length others.now ≤ 192 }
-    requires room { count.old + 192 < 2 ^ 64 }
+    requires size { length parts.now + length others.now ≤ 96 }
+    requires room { count.old + 96 < 2 ^ 64 }
     ensures parts { IfOk result (λ all. all.items ≡ parts.now ++ others.now) }
-    ensures counted { (count.old ≤ count.new) × (count.new ≤ count.old + 192) }
+    ensures counted { (count.old ≤ count.new) × (count.new ≤ count.old + 96) }
 {
     let mut all = Vec::with_capacity(alloc, parts.len() + others.len())?;
     append(&mut all, parts, count)?;
@@ -70,20 +70,22 @@ fn put_together<T: Clone>(
 /// The pages below, the pages of these parts, and the pages above.
 fn joined<T: Clone>(
     alloc: Global,
+    least: usize,
     below: &[Page<T>],
     parts: Vec<T>,
     above: &[Page<T>],
     count: &mut Count,
 ) -> Result<Vec<Page<T>>, AllocError>
-    requires size { length parts.items ≤ 192 }
-    requires fits { length below.now + length above.now < 128 }
-    requires room { count.old + 255 < 2 ^ 64 }
-    ensures pages { IfOk result (λ pages. pages.items ≡ below.now ++ (in_pages parts.items ++ above.now)) }
-    ensures counted { (count.old ≤ count.new) × (count.new ≤ count.old + 255) }
+    requires least { least ≤ 32 }
+    requires size { length parts.items ≤ 96 }
+    requires fits { length below.now + length above.now < 512 }
+    requires room { count.old + length below.now + length above.now + 50 < 2 ^ 64 }
+    ensures pages { IfOk result (λ pages. pages.items ≡ below.now ++ (in_pages least parts.items ++ above.now)) }
+    ensures counted { (count.old ≤ count.new) × (count.new ≤ count.old + length below.now + length above.now + 50) }
 {
     let mut pages = Vec::with_capacity(alloc, below.len() + 2 + above.len())?;
     append(&mut pages, below, count)?;
-    put_pages(alloc, &mut pages, parts, count)?;
+    put_pages(alloc, least, &mut pages, parts, count)?;
     append(&mut pages, above, count)?;
     Ok(pages)
 }
@@ -91,16 +93,18 @@ fn joined<T: Clone>(
 /// Adds these parts as one page, or as two halves where they are too many for one.
 fn put_pages<T: Drop>(
     alloc: Global,
+    least: usize,
     pages: &mut Vec<Page<T>>,
     parts: Vec<T>,
     count: &mut Count,
 ) -> Result<(), AllocError>
-    requires size { length parts.items ≤ 192 }
-    requires room { count.old + 128 < 2 ^ 64 }
-    ensures pages { OnOk result (pages.new.items ≡ pages.old.items ++ in_pages parts.items) }
-    ensures counted { (count.old ≤ count.new) × (count.new ≤ count.old + 128) }
+    requires least { least ≤ 32 }
+    requires size { length parts.items ≤ 96 }
+    requires room { count.old + 50 < 2 ^ 64 }
+    ensures pages { OnOk result (pages.new.items ≡ pages.old.items ++ in_pages least parts.items) }
+    ensures counted { (count.old ≤ count.new) × (count.new ≤ count.old + 50) }
 {
-    if parts.len() > MOST_PARTS {
+    if parts.len() > least + least {
         let (parts, others) = in_halves(parts, count)?;
         put(pages, Page::of(alloc, parts)?, count)?;
         put(pages, Page::of(alloc, others)?, count)

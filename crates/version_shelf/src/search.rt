@@ -1,6 +1,6 @@
 //! Where among parts in order does a key belong?
 
-ghost use Rattle.std.specs.Prelude.{◌≡◌, ◌+◌, ◌-◌, ◌<◌, ◌≤◌, ◌^◌, Bool, length, take};
+ghost use Rattle.std.specs.Prelude.{◌≡◌, ◌+◌, ◌-◌, ◌<◌, ◌≤◌, ◌^◌, Bool, ℕ, length, take};
 ghost use Rattle.version_shelf.specs.Pages.{ArePages, Cuts, CutsAt, IsPlace, ends};
 
 use crate::count::{Count, compared};
@@ -12,6 +12,9 @@ pub(crate) trait Sought<K> {
     // the last of the part's keys is below the key
     ghost below: { K → Self → Bool };
 
+    // how many of them a page with neighbours has at least
+    ghost least: { ℕ };
+
     fn is_below(&self, key: &K, count: &mut Count) -> bool
         requires { count.old + 1 < 2 ^ 64 }
         ensures below { result ≡ below key.now self.now }
@@ -20,8 +23,11 @@ pub(crate) trait Sought<K> {
 
 impl<K: Ord, V> Sought<K> for SharedRow<K, V> {
     ghost use Rattle.std.specs.Ordering.{is_lt};
+    ghost use Rattle.version_shelf.specs.Pages.{least_rows};
 
     ghost below = { λ key row. is_lt (K.cmp row.0 key) };
+
+    ghost least = { least_rows };
 
     fn is_below(&self, key: &K, count: &mut Count) -> bool {
         compared(self.key(), key, count).is_lt()
@@ -29,9 +35,11 @@ impl<K: Ord, V> Sought<K> for SharedRow<K, V> {
 }
 
 impl<K, T: Sought<K>> Sought<K> for Page<T> {
-    ghost use Rattle.version_shelf.specs.Pages.{ends};
+    ghost use Rattle.version_shelf.specs.Pages.{ends, least_leaves};
 
     ghost below = { λ key parts. ends (T.below key) parts };
+
+    ghost least = { least_leaves };
 
     fn is_below(&self, key: &K, count: &mut Count) -> bool {
         match self.parts().split_last() {
@@ -43,10 +51,10 @@ impl<K, T: Sought<K>> Sought<K> for Page<T> {
 
 /// How many of the parts come before the key's place, by a search by halves.
 pub(crate) fn place<K, T: Sought<K>>(parts: &[T], key: &K, count: &mut Count) -> usize
-    requires size { length parts.now ≤ 128 }
-    requires room { count.old + 8 < 2 ^ 64 }
+    requires size { length parts.now < 512 }
+    requires room { count.old + 9 < 2 ^ 64 }
     ensures place { IsPlace (T.below key.now) parts.now result }
-    ensures counted { (count.old ≤ count.new) × (count.new ≤ count.old + 8) }
+    ensures counted { (count.old ≤ count.new) × (count.new ≤ count.old + 9) }
 {
     let mut from = 0;
     let mut until = parts.len();
@@ -85,12 +93,12 @@ pub(crate) fn cut_at<'a, K, T: Sought<K>>(
     key: &K,
     count: &mut Count,
 ) -> Cut<'a, T>
-    requires pages { ArePages pages.now }
-    requires size { length pages.now ≤ 128 }
-    requires room { count.old + 8 < 2 ^ 64 }
-    ensures cuts { Cuts pages.now result.below.now result.at.now result.above.now }
+    requires pages { ArePages T.least pages.now }
+    requires size { length pages.now ≤ 512 }
+    requires room { count.old + 9 < 2 ^ 64 }
+    ensures cuts { Cuts T.least pages.now result.below.now result.at.now result.above.now }
     ensures key { CutsAt (T.below key.now) result.below.now result.at.now result.above.now }
-    ensures counted { (count.old ≤ count.new) × (count.new ≤ count.old + 8) }
+    ensures counted { (count.old ≤ count.new) × (count.new ≤ count.old + 9) }
 {
     let (below, from) = pages.split_at(place(all_but_last(pages), key, count));
     match from.split_first() {

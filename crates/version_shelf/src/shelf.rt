@@ -3,7 +3,7 @@
 ghost use Rattle.std.specs.Prelude.{◌≡◌, ◌↔◌, ◌+◌, ◌<◌, ◌≤◌, ◌^◌, [], length, IsTrue, IfOk, Some, None, if◌then◌else◌, is_some};
 ghost use Rattle.std.specs.Option.{option_copied};
 ghost use Rattle.version_shelf.specs.Shelf.{ClonesEqual, HasRoom, most_rows, IsInOrder, get, count_of, rows_between, with_key, without_key, ChangesAt};
-ghost use Rattle.version_shelf.specs.Pages.{ArePages, flatten};
+ghost use Rattle.version_shelf.specs.Pages.{ArePages, flatten, least_leaves, least_rows, most_middles};
 
 use crate::count::Count;
 use crate::leaf::{rows_with, rows_without};
@@ -175,8 +175,8 @@ impl<K: Ord + Clone, V: Clone> Shelf<K, V> {
         requires order { IsInOrder K.cmp (flatten (flatten middles.items)) }
         requires rows { len ≡ length (flatten (flatten middles.items)) }
         requires most { len ≤ most_rows }
-        requires leaves { ArePages (flatten middles.items) }
-        requires middles { ArePages middles.items }
+        requires leaves { ArePages least_rows (flatten middles.items) }
+        requires middles { ArePages least_leaves middles.items }
         ensures { IfOk result (λ new. new ≡ flatten (flatten middles.items)) }
     {
         Ok(Shelf {
@@ -190,9 +190,9 @@ impl<K: Ord + Clone, V: Clone> Shelf<K, V> {
         ensures rows { flatten (flatten result.now) ≡ self.now }
         ensures order { IsInOrder K.cmp self.now }
         ensures most { length self.now ≤ most_rows }
-        ensures middles { ArePages result.now }
-        ensures leaves { ArePages (flatten result.now) }
-        ensures size { length result.now ≤ 128 }
+        ensures middles { ArePages least_leaves result.now }
+        ensures leaves { ArePages least_rows (flatten result.now) }
+        ensures size { length result.now ≤ most_middles }
     {
         match &self.middles {
             Some(middles) => middles.parts(),

@@ -2,7 +2,7 @@
 
 ghost use Rattle.std.specs.Prelude.{◌≡◌, ◌++◌, ◌+◌, ◌<◌, ◌≤◌, ◌^◌, [], length};
 ghost use Rattle.version_shelf.specs.Shelf.{IsInOrder, rows_between};
-ghost use Rattle.version_shelf.specs.Pages.{ArePages, AreWalkPages, flatten, walk_rows};
+ghost use Rattle.version_shelf.specs.Pages.{ArePages, AreWalkPages, flatten, least_leaves, least_rows, most_middles, walk_rows};
 
 use crate::count::Count;
 use crate::leaf::{between, split};
@@ -74,13 +74,13 @@ pub(crate) fn walk_between<'a, K: Ord, V>(
     count: &mut Count,
 ) -> Walk<'a, K, V>
     requires order { IsInOrder K.cmp (flatten (flatten middles.now)) }
-    requires middles { ArePages middles.now }
-    requires leaves { ArePages (flatten middles.now) }
-    requires size { length middles.now ≤ 128 }
-    requires room { count.old + 48 < 2 ^ 64 }
+    requires middles { ArePages least_leaves middles.now }
+    requires leaves { ArePages least_rows (flatten middles.now) }
+    requires size { length middles.now ≤ most_middles }
+    requires room { count.old + 54 < 2 ^ 64 }
     ensures pages { AreWalkPages result.leaves.now result.middles.now result.last_leaves.now }
     ensures rows { walk_rows result.rest.now result.leaves.now result.middles.now result.last_leaves.now result.last.now ≡ rows_between K.cmp (flatten (flatten middles.now)) lo.now hi.now }
-    ensures counted { (count.old ≤ count.new) × (count.new ≤ count.old + 48) }
+    ensures counted { (count.old ≤ count.new) × (count.new ≤ count.old + 54) }
 {
     let start = cut_at(middles, lo, count);
     let (_, from) = middles.split_at(start.below.len());
@@ -109,12 +109,12 @@ fn walk_in_middle<'a, K: Ord, V>(
     count: &mut Count,
 ) -> Walk<'a, K, V>
     requires order { IsInOrder K.cmp (flatten leaves.now) }
-    requires leaves { ArePages leaves.now }
-    requires size { length leaves.now ≤ 128 }
-    requires room { count.old + 32 < 2 ^ 64 }
+    requires leaves { ArePages least_rows leaves.now }
+    requires size { length leaves.now ≤ least_leaves + least_leaves }
+    requires room { count.old + 36 < 2 ^ 64 }
     ensures pages { AreWalkPages result.leaves.now result.middles.now result.last_leaves.now }
     ensures rows { walk_rows result.rest.now result.leaves.now result.middles.now result.last_leaves.now result.last.now ≡ rows_between K.cmp (flatten leaves.now) lo.now hi.now }
-    ensures counted { (count.old ≤ count.new) × (count.new ≤ count.old + 32) }
+    ensures counted { (count.old ≤ count.new) × (count.new ≤ count.old + 36) }
 {
     let start = cut_at(leaves, lo, count);
     let (_, from) = leaves.split_at(start.below.len());

@@ -11,8 +11,7 @@ pub returns-in-Some-clause-cuts : goal.returns-in-Some-clause-cuts
 returns-in-Some-clause-cuts g c =
     let all = parts g c in
     let pages = rw all at c.requires.pages in
-    let size = rw all at c.requires.size in
-    rw (c.parts.ensures, all) (cuts_of c.split_at.result.0.now c.in-Some.page.now c.in-Some.above.now pages size)
+    rw (c.parts.ensures, all) (cuts_of g.T.Sought.least c.split_at.result.0.now c.in-Some.page.now c.in-Some.above.now pages)
 
 pub returns-in-Some-clause-key : goal.returns-in-Some-clause-key
 returns-in-Some-clause-key g c = rw c.parts.ensures (cuts_at _ c.args.pages.now c.all_but_last.result.now c.split_at.result.0.now c.place.result c.in-Some.page.now c.in-Some.above.now c.all_but_last.ensures c.place.ensures.place c.split_at.ensures.front c.split_at.ensures.front_len (parts g c))

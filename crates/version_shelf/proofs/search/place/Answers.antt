@@ -8,7 +8,7 @@ loop-from-init g c = record {
   before = λ none. absurd (omega arith);
   behind = starts_past _ c.args.parts.now;
   counted = omega arith;
-  finds = halvings 8 (omega arith) (omega arith);
+  finds = halvings 9 (omega arith) (omega arith);
 }
 
 pub loop-from-preserved-then-is_below : goal.loop-from-preserved-then-is_below

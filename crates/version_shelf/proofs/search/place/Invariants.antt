@@ -10,7 +10,7 @@ invariant-loop-from g l = record {
   before : 0 < l.from → ends (g.T.Sought.below l.key) (take l.from l.parts) ≡ true;
   behind : starts (g.T.Sought.below l.key) (drop l.until l.parts) ≡ false;
   counted : l.initial.count ≤ l.count;
-  finds : Finds (l.until - l.from) l.count (l.initial.count + 8);
+  finds : Finds (l.until - l.from) l.count (l.initial.count + 9);
 }
 
 abbrev pub decreases-loop-from : goal.decreases-loop-from

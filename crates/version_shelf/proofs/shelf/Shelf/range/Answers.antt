@@ -1,4 +1,4 @@
-use Rattle.std.proofs.Common.{◌&&◌, ◌≤◌, length, ap, ◌∙◌, arith}
+use Rattle.std.proofs.Common.{◌&&◌, ap, ◌∙◌, arith}
 use Rattle.std.specs.Ordering.{is_ge, is_lt}
 use Rattle.version_shelf.specs.Shelf.{rows_between}
 use Rattle.version_shelf.proofs.Above.{in_order_filter}
