@@ -4,3 +4,5 @@ pub mod Judging
 pub mod Keeping
 pub mod Printed
 pub mod Yes
+pub mod Faultless
+pub mod Confirmed

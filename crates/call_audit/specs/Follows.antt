@@ -43,7 +43,11 @@ pub record AreHistory (records : List AuditRecord) : Type 0 where
   pub strict : AreStrict records
   pub legal : AreLegal records
 
--- ---- the law
+-- ---- the laws
 
 abbrev pub FaultlessAreHistory : Type 0
 FaultlessAreHistory = (records : List AuditRecord) → AreFaultless [] records → AreHistory records
+
+-- and a history is without a fault
+abbrev pub HistoryIsFaultless : Type 0
+HistoryIsFaultless = (records : List AuditRecord) → AreHistory records → AreFaultless [] records

@@ -3,3 +3,4 @@ pub mod Audits
 pub mod Follows
 pub mod Keeps
 pub mod Verdicts
+pub mod Confirmed

@@ -21,7 +21,7 @@ verdict_on domain before (line ∷ lines) = verdict_by (judged domain before lin
 abbrev pub verdict_of : List ℕ → List (List ℕ) → Verdict
 verdict_of domain lines = verdict_on domain [] lines
 
--- ---- the law
+-- ---- the laws
 
 -- each line spells its record
 abbrev pub Spell : List ℕ → List (List ℕ) → List AuditRecord → Type 0
@@ -39,3 +39,7 @@ pub record IsYes (domain : List ℕ) (lines : List (List ℕ)) (calls : ℕ) : T
 
 abbrev pub YesIsHistory : Type 0
 YesIsHistory = (domain : List ℕ) (lines : List (List ℕ)) (calls : ℕ) → verdict_of domain lines ≡ Yes calls → IsYes domain lines calls
+
+-- Lines that spell the records of a history are audited yes.
+abbrev pub HistoryIsYes : Type 0
+HistoryIsYes = (domain : List ℕ) (lines : List (List ℕ)) (records : List AuditRecord) → Spell domain lines records → AreHistory records → verdict_of domain lines ≡ Yes (length records)

@@ -1,13 +1,29 @@
-//! What do records without a fault promise?
+//! What do records without a fault promise, and which records have none?
 //!
-//! The function does nothing. What it ensures is a law, stated in `specs/Follows.antt` and `specs/Verdicts.antt`; a caller that
-//! calls it may rest on it.
+//! The functions do nothing. What each ensures is a law, stated in `specs/Follows.antt`, `specs/Verdicts.antt` and
+//! `specs/Confirmed.antt`; a caller that calls it may rest on it.
 
-ghost use Rattle.call_audit.specs.Follows.{FaultlessAreHistory};
-ghost use Rattle.call_audit.specs.Verdicts.{YesIsHistory};
+ghost use Rattle.call_audit.specs.Confirmed.{ConfirmedAreAudited};
+ghost use Rattle.call_audit.specs.Follows.{FaultlessAreHistory, HistoryIsFaultless};
+ghost use Rattle.call_audit.specs.Verdicts.{HistoryIsYes, YesIsHistory};
+
+use reg_lines::{lines_law, printed_law, read_back_law};
 
 /// Records none of which has a fault behind those before it are a history, and so are those of lines that are audited yes.
 pub fn audited_law()
     ensures history { FaultlessAreHistory }
     ensures yes { YesIsHistory }
 {}
+
+/// No history is audited no: its records have no fault, and lines that spell them are audited yes. So are the lines of the
+/// records of calls whose replies the plain book gives in an order that keeps what ended before, where each line is short
+/// enough to be read.
+pub fn confirmed_law()
+    ensures faultless { HistoryIsFaultless }
+    ensures yes { HistoryIsYes }
+    ensures calls { ConfirmedAreAudited }
+{
+    read_back_law();
+    lines_law();
+    printed_law();
+}

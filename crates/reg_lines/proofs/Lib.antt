@@ -27,3 +27,9 @@ pub mod CompactRecords
 pub mod ReadBack
 pub mod ReadBackOps
 pub mod ReadBackRecords
+pub mod LineTokens
+pub mod Neat
+pub mod NeatValues
+pub mod Typed
+pub mod OneLine
+pub mod Spelled

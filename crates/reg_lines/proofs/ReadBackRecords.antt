@@ -27,7 +27,7 @@ use Rattle.reg_lines.proofs.ReadBackOps.{next-due, next-put, only, op-back}
 
 -- ---- operations, one after another
 
-ops-back : (n : ℕ) (m : MissingId) (ids : ChaCha) (os : List Op) → AllByRecursion IsWrittenOp os → ops_in n m ids (items_of (map op_data os)) ≡ Ok (os, ids)
+pub ops-back : (n : ℕ) (m : MissingId) (ids : ChaCha) (os : List Op) → AllByRecursion IsWrittenOp os → ops_in n m ids (items_of (map op_data os)) ≡ Ok (os, ids)
 ops-back n m ids [] h = refl
 ops-back n m ids (o ∷ os) h = rw (op-back o m ids h.0) (rw (ops-back (n + 1) m ids os h.1) refl)
 
@@ -36,21 +36,21 @@ ops-back n m ids (o ∷ os) h = rw (op-back o m ids h.0) (rw (ops-back (n + 1) m
 abbrev batch_keys : List Key
 batch_keys = key.Ops ∷ key.After ∷ key.Token ∷ []
 
-abbrev batch_due : Batch → List Due
+abbrev pub batch_due : Batch → List Due
 batch_due batch =
     (codes "after", Some (whole batch.after))
     ∷ (codes "ops", Some (list_data op_data batch.ops))
     ∷ (codes "token", option_map uuid_data batch.token)
     ∷ []
 
-batch-due : (batch : Batch) → batch_data batch ≡ object (members_due (batch_due batch))
+pub batch-due : (batch : Batch) → batch_data batch ≡ object (members_due (batch_due batch))
 batch-due batch =
     ap object (
     next-put (codes "after") (whole batch.after) _ _ (
     next-put (codes "ops") (list_data op_data batch.ops) _ _ (
     next-due (codes "token") uuid_data batch.token _ _ refl)))
 
-listed-back : (d : Data) (batch : Batch) → get (key_name key.Ops) d ≡ Some (list_data op_data batch.ops) → get (key_name key.After) d ≡ Some (whole batch.after) → get (key_name key.Token) d ≡ option_map uuid_data batch.token → IfSome batch.token IsUuid → listed_in d ≡ Ok (record { items = items_of (map op_data batch.ops); after = batch.after; token = batch.token })
+pub listed-back : (d : Data) (batch : Batch) → get (key_name key.Ops) d ≡ Some (list_data op_data batch.ops) → get (key_name key.After) d ≡ Some (whole batch.after) → get (key_name key.Token) d ≡ option_map uuid_data batch.token → IfSome batch.token IsUuid → listed_in d ≡ Ok (record { items = items_of (map op_data batch.ops); after = batch.after; token = batch.token })
 unfolding listed_in items_at
 listed-back d batch o a t h = rw o (rw (optional_number-back key.After d (Some batch.after) a) (rw (optional_uuid-back key.Token d batch.token t h) refl))
 

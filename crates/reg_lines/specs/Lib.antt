@@ -24,3 +24,4 @@ pub mod RecordLines
 pub mod RecordValues
 pub mod CallRecords
 pub mod ReadBack
+pub mod Spelled

@@ -12,10 +12,12 @@
 //! - [`PrintJson`] is a value with one compact JSON text, which it puts piece by piece without
 //!   taking memory: [`print_text`], [`print_number`], [`print_list`], [`print_line`].
 //! - [`read_request`] says which [`Request`] a line spells, or why it spells none: a [`LineRefusal`] with the line's
-//!   number and the first [`Fault`] found, or want of memory. One definition, `spelled`, says both. A request has its
+//!   number and the first [`Fault`] found, or want of memory. One definition, `spelled`, says both; [`spelled_law`] says that
+//!   each batch without a fault is spelled by the text that is printed of it. A request has its
 //!   [`Tries`], 1 to 16; [`unknown_keys_law`] says which unknown key is told.
 //! - [`read_event`] says the same of the line of an event, for the machine of calls; `spelled_event` is its definition.
-//! - [`read_record`] says which [`Record`] of a call a line spells, for an audit; `spelled_record` is its definition.
+//! - [`read_record`] says which [`Record`] of a call a line spells, for an audit; `spelled_record` is its definition, and
+//!   [`read_back_law`] says that the text of a record spells it.
 //! - [`Ids`] gives ids to entries that come without one; [`ids_law`] says which words of its stream they are made of.
 //! - A [`LineRefusal`], and a book's reply with its call number, a [`CallReply`], are printed as lines, and so is a
 //!   [`CallConflict`]; [`printed_law`] says which JSON values these lines are.
@@ -51,5 +53,5 @@ pub use printing::{
 };
 pub use reading::{
     Ids, Record, Request, Tries, ids_law, read_back_law, read_event, read_record, read_request,
-    unknown_keys_law,
+    spelled_law, unknown_keys_law,
 };

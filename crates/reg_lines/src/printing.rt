@@ -1,6 +1,6 @@
 //! Which bytes print a value?
 //!
-//! - `json`: a value that has one JSON text, which it puts piece by piece; `text`: a text as a JSON string.
+//! - `print_json`: a value that has one JSON text, which it puts piece by piece; `text`: a text as a JSON string.
 //! - `names`, `book_rows`: what a book holds; `marks`: what a call read.
 //! - `replies`, `events`, `refusal`, `seats`: the lines that go out.
 //! - `batches`, `records`: what was asked, as a record of a call has it.
@@ -9,9 +9,9 @@
 pub(crate) mod batches;
 pub(crate) mod book_rows;
 pub(crate) mod events;
-pub(crate) mod json;
 pub(crate) mod marks;
 pub(crate) mod names;
+pub(crate) mod print_json;
 pub(crate) mod records;
 pub(crate) mod refusal;
 pub(crate) mod replies;
@@ -20,7 +20,7 @@ pub(crate) mod text;
 pub(crate) mod values;
 
 pub use events::{CallOrder, EventRefused};
-pub use json::{PrintJson, print_line, print_list, print_number};
+pub use print_json::{PrintJson, print_line, print_list, print_number};
 pub use records::CallRecord;
 pub use refusal::LineRefusal;
 pub use replies::{CallConflict, CallReply};

@@ -18,5 +18,5 @@ pub use event::read_event;
 pub use fields::unknown_keys_law;
 pub use ids::{Ids, ids_law};
 pub use record::{Record, read_back_law, read_record};
-pub use request::{Request, read_request};
+pub use request::{Request, read_request, spelled_law};
 pub use tries::Tries;

@@ -110,7 +110,7 @@ fn of_a_long_line_the_front_is_kept_and_the_rest_passed_over(rt: HostRuntime) ->
 /// Many bytes that don't repeat at the edges of a buffer.
 fn many_bytes(alloc: Global) -> Result<Vec<u8>, Fail> {
     let mut bytes = Vec::new(alloc);
-    for index in 0..20_000u32 {
+    for index in 0..200_000u32 {
         bytes.push((index % 251) as u8)?;
     }
     Ok(bytes)
@@ -135,7 +135,7 @@ fn comes_out(rt: &impl Abort, alloc: Global, bytes: &[u8], len: usize) -> Result
 #[test]
 fn bytes_come_out_in_order_past_the_edge_of_the_buffer(rt: HostRuntime) -> Result<(), Fail> {
     let bytes = many_bytes(rt.alloc())?;
-    for len in [1, 7, 4_000, 8_191, 8_192, 8_193, 20_000] {
+    for len in [1, 7, 30_000, 65_535, 65_536, 65_537, 200_000] {
         comes_out(&rt, rt.alloc(), bytes.as_slice(), len)?;
     }
     Ok(())

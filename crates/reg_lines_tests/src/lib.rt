@@ -7,6 +7,7 @@
 //! - `events`: what the lines of events spell.
 //! - `schedules`: the lines of a schedule: what is printed for each answer to an event.
 //! - `seats`: what is printed where a seat has no answer.
+//! - `records`: the record of a call, printed and read again, and lines that are no records.
 //! - `texts` and `replies`: what is printed, by `answers`, which runs a plain book on lines.
 //! - `bytes`: lines of memory, of devices that are interrupted, and of one that is full, by the engine of `engine`. What it
 //!   answers stands in `specs/Numbered.antt`.
@@ -28,6 +29,8 @@ mod ids;
 mod operations;
 #[cfg(test)]
 mod pages;
+#[cfg(test)]
+mod records;
 #[cfg(test)]
 mod replies;
 #[cfg(test)]

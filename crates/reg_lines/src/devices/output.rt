@@ -7,7 +7,7 @@ use crate::devices::sink::{Sink, SinkFailed};
 use std::marker::Model;
 
 /// How many bytes are held at most.
-const ROOM: usize = 8192;
+const ROOM: usize = 65_536;
 
 /// Writes all of the bytes, in as many calls as the sink needs. After a failed call it has a
 /// beginning of them.

@@ -7,7 +7,7 @@ ghost use Rattle.reg_lines.specs.Stream.{Puts};
 use crate::devices::output::Output;
 use crate::devices::sink::Sink;
 use crate::printing::book_rows::put_lifetime;
-use crate::printing::json::{PrintJson, print_list, print_number};
+use crate::printing::print_json::{PrintJson, print_list, print_number};
 use crate::printing::text::print_text;
 use entry_book::{Agent, Batch, DropMode, MatchMode, NewEntry, Op, PageQuery, SelectorMatch, Text};
 use spiffe_name::{SpiffeId, TrustDomain};

@@ -5,7 +5,7 @@ ghost use Rattle.reg_lines.specs.Stream.{Puts};
 
 use crate::devices::output::Output;
 use crate::devices::sink::Sink;
-use crate::printing::json::{PrintJson, print_number};
+use crate::printing::print_json::{PrintJson, print_number};
 use entry_book::{Agent, Bundle, Entry};
 
 /// The fields, in the order of their keys' bytes; a lifetime of 0 is left out.

@@ -6,7 +6,7 @@ ghost use Rattle.reg_lines.specs.Stream.{Puts};
 
 use crate::devices::output::Output;
 use crate::devices::sink::Sink;
-use crate::printing::json::{PrintJson, print_list, print_number};
+use crate::printing::print_json::{PrintJson, print_list, print_number};
 use crate::printing::replies::{CallConflict, CallReply};
 use crate::printing::text::print_text;
 use batch_work::Status;

@@ -8,7 +8,7 @@ ghost use Rattle.reg_lines.specs.Stream.{Puts};
 
 use crate::devices::output::Output;
 use crate::devices::sink::Sink;
-use crate::printing::json::PrintJson;
+use crate::printing::print_json::PrintJson;
 use crate::printing::text::{print_text, put_all_escaped};
 use itoa::Buffer;
 use spiffe_name::SpiffeId;

@@ -5,7 +5,7 @@ ghost use Rattle.reg_lines.specs.Replies.{selector_json, uuid_json};
 
 use crate::devices::output::Output;
 use crate::devices::sink::Sink;
-use crate::printing::json::{PrintJson, print_list};
+use crate::printing::print_json::{PrintJson, print_list};
 use crate::printing::text::print_text;
 use entry_book::{DomainSet, Sequence, Shared, Text};
 use spiffe_name::{Selector, SelectorSet, SpiffeId, TrustDomain};

@@ -4,7 +4,7 @@ ghost use Rattle.reg_lines.specs.RecordLines.{record_json};
 
 use crate::devices::output::Output;
 use crate::devices::sink::Sink;
-use crate::printing::json::{PrintJson, print_number};
+use crate::printing::print_json::{PrintJson, print_number};
 use crate::printing::replies::CallReply;
 use call_machine::{CallAnswer, KnownCall};
 use entry_book::{Batch, Reply};

@@ -6,6 +6,7 @@ ghost use Rattle.reg_lines.specs.Fields.{Fails, Gives};
 ghost use Rattle.reg_lines.specs.ReadBack.{BatchesReadBack, OpsReadBack, RecordsReadBack};
 ghost use Rattle.reg_lines.specs.RecordViews.{recorded};
 ghost use Rattle.reg_lines.specs.Records.{number_or_null_at, object_at, record_in, recorded_batch_in, spelled_record};
+ghost use Rattle.reg_lines.specs.Spelled.{RecordsAreLines, RecordsAreSpelled};
 
 use crate::fault::{Code, Fault, Key};
 use crate::printing::refusal::LineRefusal;
@@ -159,10 +160,13 @@ pub fn read_record(
     }
 }
 
-/// What is printed of an operation, of a batch and of a record reads as that, told of their JSON values. This function has no
-/// code: it is a fact to cite.
+/// What is printed of an operation, of a batch and of a record reads as that, told of their JSON values; and the text that is
+/// printed of a record spells what the record tells, where it isn't too long for a line, and has no line feed in it. This
+/// function has no code: it is a fact to cite.
 pub fn read_back_law()
     ensures ops { OpsReadBack }
     ensures batches { BatchesReadBack }
     ensures records { RecordsReadBack }
+    ensures record_texts { RecordsAreSpelled }
+    ensures record_lines { RecordsAreLines }
 {}

@@ -6,6 +6,7 @@ ghost use Rattle.serde_json.specs.Find.{as_object};
 ghost use Rattle.serde_json.specs.View.{members_view, view};
 ghost use Rattle.reg_lines.specs.Fields.{Fails, Gives};
 ghost use Rattle.reg_lines.specs.Requests.{framed, object_in, request_in, spelled, value_in};
+ghost use Rattle.reg_lines.specs.Spelled.{BatchesAreSpelled, OpsAreSpelled};
 
 use crate::fault::{Code, Fault, Key};
 use crate::printing::refusal::LineRefusal;
@@ -164,3 +165,10 @@ pub fn read_request(
         }),
     }
 }
+
+/// Each batch without a fault is spelled by a line, the text that is printed of it, where that isn't too long for one: so is each
+/// operation. This function has no code: it is a fact to cite.
+pub fn spelled_law()
+    ensures batches { BatchesAreSpelled }
+    ensures ops { OpsAreSpelled }
+{}

@@ -1,5 +1,6 @@
 use Rattle.reg_lines.proofs.ReadBackOps.{op-back}
 use Rattle.reg_lines.proofs.ReadBackRecords.{batch-back, record-back}
+use Rattle.reg_lines.proofs.Spelled.{record-line, record-spelled}
 use Rattle.reg_lines.proofs.reading.record.read_back_law.Goals as goal
 
 pub returns-clause-ops : goal.returns-clause-ops
@@ -10,3 +11,9 @@ returns-clause-batches c = batch-back
 
 pub returns-clause-records : goal.returns-clause-records
 returns-clause-records c = record-back
+
+pub returns-clause-record_texts : goal.returns-clause-record_texts
+returns-clause-record_texts c = record-spelled
+
+pub returns-clause-record_lines : goal.returns-clause-record_lines
+returns-clause-record_lines c = record-line

@@ -1,6 +1,6 @@
 use Rattle.reg_lines.proofs.Items.{comma-some, comma-none}
 use Rattle.reg_lines.proofs.Puts.{Puts-same, Puts-nil}
-use Rattle.reg_lines.proofs.printing.json.put_comma.Goals as goal
+use Rattle.reg_lines.proofs.printing.print_json.put_comma.Goals as goal
 
 pub returns-then-index-gt0 : goal.returns-then-index-gt0
 returns-then-index-gt0 g c = Puts-same _ _ _ _ (comma-some c.args.index c.if-index-gt0.true) c.put.ensures

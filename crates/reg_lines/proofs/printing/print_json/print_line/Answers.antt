@@ -1,5 +1,5 @@
 use Rattle.reg_lines.proofs.Puts.{Puts-then}
-use Rattle.reg_lines.proofs.printing.json.print_line.Goals as goal
+use Rattle.reg_lines.proofs.printing.print_json.print_line.Goals as goal
 
 pub returns : goal.returns
 returns g c = Puts-then _ _ _ _ _ c.print_to.ensures c.put.ensures

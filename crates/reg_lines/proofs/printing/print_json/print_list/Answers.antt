@@ -1,7 +1,7 @@
 use Rattle.std.proofs.Common.{rules}
 use Rattle.reg_lines.proofs.Puts.{Puts-then}
 use Rattle.reg_lines.specs.Json.{list_json}
-use Rattle.reg_lines.proofs.printing.json.print_list.Goals as goal
+use Rattle.reg_lines.proofs.printing.print_json.print_list.Goals as goal
 
 pub returns : goal.returns
 unfolding list_json
