@@ -1,0 +1,206 @@
+//! Random batches of a few names, told as text.
+
+ghost use Rattle.std.specs.Prelude.{◌<◌};
+
+use crate::failed::Failed;
+use std::alloc::Global;
+
+const NUMBERS: [&str; 6] = ["1", "2", "3", "4", "5", "6"];
+
+const PARENTS: [&str; 5] = ["n1", "n2", "/spire/server", "/web", "/api"];
+
+const IDENTITIES: [&str; 3] = ["/web", "/api", "n2"];
+
+const SELECTORS: [&str; 4] = ["x:1", "x:2", "x:1,x:2", "x:1"];
+
+const EXPIRIES: [&str; 4] = ["0", "1", "2", "3"];
+
+const DOMAINS: [&str; 6] = ["", "", "d1", "d2", "d3", "d1 d3"];
+
+const BUNDLES: [&str; 4] = ["d1", "d2", "d3", "ex.org"];
+
+const AGENTS: [&str; 2] = ["n1", "n2"];
+
+const MODES: [&str; 3] = ["restrict", "delete", "dissociate"];
+
+const CHANGES: [&str; 16] = [
+    "create",
+    "create",
+    "create",
+    "create",
+    "update",
+    "update0",
+    "delete",
+    "delete0",
+    "prune",
+    "set_agent",
+    "set_agent",
+    "drop_agent",
+    "set_bundle",
+    "set_bundle",
+    "set_bundle",
+    "drop_bundle",
+];
+
+const QUESTIONS: [&str; 8] = [
+    "show",
+    "show_agent",
+    "show_bundle",
+    "children",
+    "page",
+    "page",
+    "authorised",
+    "trust",
+];
+
+/// A random number below a bound.
+pub fn below(state: &mut u64, bound: u64) -> usize
+    requires { 0 < bound }
+    ensures { result < bound }
+{
+    *state = state
+        .wrapping_mul(6_364_136_223_846_793_005)
+        .wrapping_add(1_442_695_040_888_963_407);
+    ((*state >> 33) % bound) as usize
+}
+
+/// A random operation on an entry, of the kind.
+fn entry_line(alloc: Global, state: &mut u64, kind: &str) -> Result<String, Failed> {
+    let (number, parent) = (NUMBERS[below(state, 6)], PARENTS[below(state, 5)]);
+    let (identity, selectors) = (IDENTITIES[below(state, 3)], SELECTORS[below(state, 4)]);
+    let (expiry, domains) = (EXPIRIES[below(state, 4)], DOMAINS[below(state, 6)]);
+    Ok(format!(in alloc; "{kind} {number} {parent} {identity} {selectors} {expiry} {domains}")?)
+}
+
+fn is_of_one_entry(kind: &str) -> bool {
+    matches!(
+        kind,
+        "create" | "update" | "update0" | "delete" | "delete0" | "show"
+    )
+}
+
+/// A random page of the newest book.
+fn page_line(alloc: Global, state: &mut u64) -> Result<String, Failed> {
+    let size = NUMBERS[below(state, 3)];
+    if below(state, 2) == 0 {
+        return Ok(format!(in alloc; "page {size} - -")?);
+    }
+    let from = NUMBERS[below(state, 6)];
+    Ok(format!(in alloc; "page {size} - {from}")?)
+}
+
+/// The two words behind the kind of a random operation that is neither on one entry nor a page.
+fn words_of(state: &mut u64, kind: &str) -> (&'static str, &'static str) {
+    match kind {
+        "set_agent" | "drop_agent" | "show_agent" | "authorised" | "trust" => (
+            AGENTS[below(state, 2)],
+            SELECTORS[below(state, 4)],
+        ),
+        "prune" => (EXPIRIES[below(state, 4)], ""),
+        "children" => (PARENTS[below(state, 5)], ""),
+        "show_bundle" => (BUNDLES[below(state, 4)], ""),
+        _ => (BUNDLES[below(state, 3)], MODES[below(state, 3)]),
+    }
+}
+
+/// A random operation of the kind.
+fn line_of(alloc: Global, state: &mut u64, kind: &str) -> Result<String, Failed> {
+    if is_of_one_entry(kind) {
+        return entry_line(alloc, state, kind);
+    }
+    if kind == "page" {
+        return page_line(alloc, state);
+    }
+    let (first, second) = words_of(state, kind);
+    Ok(format!(in alloc; "{kind} {first} {second}")?)
+}
+
+fn change(alloc: Global, state: &mut u64) -> Result<String, Failed> {
+    let kind = CHANGES[below(state, 16)];
+    line_of(alloc, state, kind)
+}
+
+fn question(alloc: Global, state: &mut u64) -> Result<String, Failed> {
+    let kind = QUESTIONS[below(state, 8)];
+    line_of(alloc, state, kind)
+}
+
+/// Puts up to so many random questions or changes behind the text.
+fn add_lines(
+    alloc: Global,
+    state: &mut u64,
+    text: &mut String,
+    asks: bool,
+    bound: u64,
+) -> Result<(), Failed>
+    requires { 0 < bound }
+{
+    for _ in 0..below(state, bound) {
+        text.push_str("; ")?;
+        let line = if asks {
+            question(alloc, state)?
+        } else {
+            change(alloc, state)?
+        };
+        text.push_str(line.as_str())?;
+    }
+    Ok(())
+}
+
+/// One to three questions.
+fn questions(alloc: Global, state: &mut u64) -> Result<String, Failed> {
+    let mut text = question(alloc, state)?;
+    add_lines(alloc, state, &mut text, true, 3)?;
+    Ok(text)
+}
+
+/// One to three changes, and up to two questions.
+fn changes(alloc: Global, state: &mut u64) -> Result<String, Failed> {
+    let mut text = change(alloc, state)?;
+    add_lines(alloc, state, &mut text, false, 3)?;
+    add_lines(alloc, state, &mut text, true, 3)?;
+    Ok(text)
+}
+
+/// Changes with a token.
+fn with_token(alloc: Global, state: &mut u64) -> Result<String, Failed> {
+    let token = below(state, 200);
+    let changes = changes(alloc, state)?;
+    let text = changes.as_str();
+    Ok(format!(in alloc; "token {token}; {text}")?)
+}
+
+/// One of a few batches with a token, which come again and again.
+fn repeated(alloc: Global, state: &mut u64) -> Result<String, Failed> {
+    let token = below(state, 20);
+    let agent = AGENTS[below(state, 2)];
+    Ok(format!(in alloc; "token {token}; set_agent {agent} x:1")?)
+}
+
+/// A page of one of the books before the last one at this place, of this one, or of one to come.
+fn past_page(alloc: Global, state: &mut u64, place: u64) -> Result<String, Failed> {
+    let size = NUMBERS[below(state, 6)];
+    let back = below(state, 70) as u64;
+    let at = place.wrapping_add(2).saturating_sub(back);
+    Ok(format!(in alloc; "page {size} {at} -")?)
+}
+
+/// Changes that wait for a place around this one.
+fn later(alloc: Global, state: &mut u64, place: u64) -> Result<String, Failed> {
+    let least = place.wrapping_add(below(state, 2) as u64);
+    let changes = changes(alloc, state)?;
+    let text = changes.as_str();
+    Ok(format!(in alloc; "after {least}; {text}")?)
+}
+
+/// A random batch for a book at this place.
+pub fn batch_text(alloc: Global, state: &mut u64, place: u64) -> Result<String, Failed> {
+    match below(state, 16) {
+        0 => past_page(alloc, state, place),
+        1 => later(alloc, state, place),
+        2 => repeated(alloc, state),
+        3 | 4 => with_token(alloc, state),
+        5..=8 => questions(alloc, state),
+        _ => changes(alloc, state),
+    }
+}

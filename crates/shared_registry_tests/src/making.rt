@@ -1,0 +1,213 @@
+//! Batches, made of the words of a text. They are of `ex.org`: an ID is told by its path, that of an agent by its name alone.
+
+use crate::failed::Failed;
+use entry_book::{
+    Agent, Batch, DomainSet, DropMode, Filter, NewEntry, Op, PageQuery, Sequence, Shared, Text,
+};
+use spiffe_name::{Selector, SelectorSet, SpiffeId, TrustDomain};
+use std::alloc::Global;
+use uuid::Uuid;
+
+/// The words of a line.
+pub fn words<'a>(alloc: Global, line: &'a str) -> Result<Vec<&'a str>, Failed> {
+    let mut words = Vec::new(alloc);
+    for word in line.split_whitespace() {
+        words.push(word)?;
+    }
+    Ok(words)
+}
+
+/// The word at an index from 0; the empty one behind the last.
+pub fn word<'a>(words: &[&'a str], index: usize) -> &'a str {
+    words.get(index).copied().unwrap_or("")
+}
+
+pub fn number(words: &[&str], index: usize) -> Result<u64, Failed> {
+    Ok(word(words, index).parse::<u64>()?)
+}
+
+/// The number that a word tells, which `-` doesn't.
+fn given_number(words: &[&str], index: usize) -> Result<Option<u64>, Failed> {
+    if word(words, index) == "-" {
+        return Ok(None);
+    }
+    Ok(Some(number(words, index)?))
+}
+
+/// The UUID whose last bytes are this number.
+fn uuid(words: &[&str], index: usize) -> Result<Uuid, Failed> {
+    Ok(Uuid::from_u64_pair(0, number(words, index)?))
+}
+
+fn id_text(alloc: Global, word: &str) -> Result<String, Failed> {
+    if word.starts_with("/") {
+        return Ok(format!(in alloc; "spiffe://ex.org{word}")?);
+    }
+    Ok(format!(in alloc; "spiffe://ex.org/spire/agent/{word}")?)
+}
+
+fn id(alloc: Global, word: &str) -> Result<Shared<SpiffeId>, Failed> {
+    let text = id_text(alloc, word)?;
+    Ok(Shared::of(alloc, SpiffeId::parse(alloc, text.as_str())?)?)
+}
+
+/// The trust domain of a name. Nothing is said of it, so that no caller's proof computes what the grammar says of a literal.
+pub fn trust_domain(alloc: Global, name: &str) -> Result<TrustDomain, Failed> {
+    Ok(TrustDomain::parse(alloc, name)?)
+}
+
+fn domain(alloc: Global, name: &str) -> Result<Shared<TrustDomain>, Failed> {
+    Ok(Shared::of(alloc, trust_domain(alloc, name)?)?)
+}
+
+/// The selectors of a word, with commas between them; none for `-`.
+fn selectors(alloc: Global, word: &str) -> Result<Shared<SelectorSet>, Failed> {
+    let spaced = word.replace(alloc, ",", " ")?;
+    let mut selectors = Vec::new(alloc);
+    for text in spaced.split_whitespace() {
+        if text != "-" {
+            selectors.push(Selector::parse(alloc, text)?)?;
+        }
+    }
+    Ok(Shared::of(alloc, SelectorSet::of(selectors)?)?)
+}
+
+fn domains(alloc: Global, words: &[&str]) -> Result<DomainSet, Failed> {
+    let mut domains = Vec::new(alloc);
+    for name in words.iter().skip(6) {
+        domains.push(TrustDomain::parse(alloc, name)?)?;
+    }
+    Ok(DomainSet::of(alloc, domains)?)
+}
+
+fn text(alloc: Global) -> Result<Shared<Text>, Failed> {
+    Ok(Shared::of(alloc, Text::of(String::new(alloc)))?)
+}
+
+/// An entry, of its number, parent, identity, selectors, expiry and domains.
+fn entry(alloc: Global, words: &[&str]) -> Result<Shared<NewEntry>, Failed> {
+    let parent = id(alloc, word(words, 2))?;
+    let identity = id(alloc, word(words, 3))?;
+    let selectors = selectors(alloc, word(words, 4))?;
+    let hint = text(alloc)?;
+    let domains = domains(alloc, words)?;
+    let new = NewEntry {
+        id: uuid(words, 1)?,
+        parent,
+        identity,
+        selectors,
+        hint,
+        domains,
+        expiry: number(words, 5)?,
+        x509_svid_ttl: 0,
+        jwt_svid_ttl: 0,
+    };
+    Ok(Shared::of(alloc, new)?)
+}
+
+/// An agent, of its name and its selectors.
+fn agent(alloc: Global, words: &[&str]) -> Result<Agent, Failed> {
+    let selectors = selectors(alloc, word(words, 2))?;
+    Ok(Agent {
+        id: id(alloc, word(words, 1))?,
+        selectors,
+    })
+}
+
+/// A page, of its size, the number of the book that it reads, and the number of the entry after which it begins.
+fn page(alloc: Global, words: &[&str]) -> Result<Op, Failed> {
+    let filter = Filter {
+        parent: None,
+        identity: None,
+        domain: None,
+        selectors: None,
+    };
+    let query = PageQuery {
+        size: number(words, 1)?,
+        at: given_number(words, 2)?,
+        from: given_number(words, 3)?.map(|number| Uuid::from_u64_pair(0, number)),
+        filter,
+    };
+    Ok(Op::Page(Shared::of(alloc, query)?))
+}
+
+fn mode(word: &str) -> DropMode {
+    match word {
+        "delete" => DropMode::Delete,
+        "dissociate" => DropMode::Dissociate,
+        _ => DropMode::Restrict,
+    }
+}
+
+/// The operation that a line tells. One whose name ends in 0 expects revision 0.
+fn op(alloc: Global, words: &[&str]) -> Result<Op, Failed> {
+    match word(words, 0) {
+        "create" => Ok(Op::Create(entry(alloc, words)?)),
+        "update" => Ok(Op::Update(entry(alloc, words)?, None)),
+        "update0" => Ok(Op::Update(entry(alloc, words)?, Some(0))),
+        "delete" => Ok(Op::Delete(uuid(words, 1)?, None)),
+        "delete0" => Ok(Op::Delete(uuid(words, 1)?, Some(0))),
+        "show" => Ok(Op::Show(uuid(words, 1)?)),
+        "prune" => Ok(Op::Prune(number(words, 1)?)),
+        "page" => page(alloc, words),
+        "set_agent" => Ok(Op::SetAgent(agent(alloc, words)?)),
+        kind => other_op(alloc, words, kind),
+    }
+}
+
+fn other_op(alloc: Global, words: &[&str], kind: &str) -> Result<Op, Failed> {
+    match kind {
+        "set_bundle" => Ok(Op::SetBundle(domain(alloc, word(words, 1))?, text(alloc)?)),
+        "drop_bundle" => {
+            let mode = mode(word(words, 2));
+            Ok(Op::DropBundle(domain(alloc, word(words, 1))?, mode))
+        }
+        "show_bundle" => Ok(Op::ShowBundle(domain(alloc, word(words, 1))?)),
+        kind => op_of_id(id(alloc, word(words, 1))?, kind),
+    }
+}
+
+fn op_of_id(id: Shared<SpiffeId>, kind: &str) -> Result<Op, Failed> {
+    match kind {
+        "drop_agent" => Ok(Op::DropAgent(id)),
+        "show_agent" => Ok(Op::ShowAgent(id)),
+        "children" => Ok(Op::Children(id)),
+        "authorised" => Ok(Op::Authorised(id)),
+        "trust" => Ok(Op::Trust(id)),
+        _ => Err(Failed::NotRead),
+    }
+}
+
+/// The number behind this word, where a line begins with it.
+fn number_behind(alloc: Global, lines: &str, first: &str) -> Result<Option<u64>, Failed> {
+    for line in lines.lines() {
+        let words = words(alloc, line)?;
+        if word(words.as_slice(), 0) == first {
+            return Ok(Some(number(words.as_slice(), 1)?));
+        }
+    }
+    Ok(None)
+}
+
+/// The operations that the other lines tell.
+fn ops_of(alloc: Global, lines: &str) -> Result<Sequence<Op>, Failed> {
+    let mut ops = Sequence::empty(alloc);
+    for line in lines.lines() {
+        if !line.starts_with("token ") && !line.starts_with("after ") {
+            ops.push(op(alloc, words(alloc, line)?.as_slice())?)?;
+        }
+    }
+    Ok(ops)
+}
+
+/// The batch that a text tells: its token, `token 7`, and the least place at which it may run, `after 1`, where they are given,
+/// and its operations, with `; ` between them.
+pub fn batch(alloc: Global, text: &str) -> Result<Batch, Failed> {
+    let lines = text.replace(alloc, "; ", "\n")?;
+    let token = number_behind(alloc, lines.as_str(), "token")?;
+    let after = number_behind(alloc, lines.as_str(), "after")?;
+    let ops = ops_of(alloc, lines.as_str())?;
+    let domain = trust_domain(alloc, "ex.org")?;
+    let token = token.map(|number| Uuid::from_u64_pair(0, number));
+    Ok(Batch::new(alloc, &domain, ops, after.unwrap_or(0), token)?)
+}
