@@ -1,5 +1,5 @@
 -- What a parse of the words gives, in the terms of the command line's definitions.
-use Rattle.std.proofs.Common.{Bool, ap, ap₂, codes, refl, subst, sym, ◌≡◌, ◌∙◌, inl, inr, List, Option, Some, None, option_map, [], true}
+use Rattle.std.proofs.Common.{Bool, ap, ap₂, codes, refl, subst, sym, ◌≡◌, ◌∙◌, inl, inr, ℕ, List, Option, Some, None, option_map, [], true}
 use Rattle.std.specs.Str.{bytes_eq}
 use Rattle.std.proofs.lemmas.Slice.Eq.{bytes_eq-Decides}
 use Rattle.std.specs.Prelude.{if◌then◌else◌, Box, unwrap_or}
@@ -19,11 +19,14 @@ use Rattle.clap.proofs.WalkLemmas.{first_value-rows}
 use Rattle.spiffe_name.specs.Domain.{domain_refusal}
 use Rattle.spiffe_name.specs.Failures.{FailsBy}
 use Rattle.spiffe_name.specs.declared.Failure.{Failure}
-use Rattle.spiffe_name.specs.declared.Failure.TheVariants.{NoMemory, Refused}
+use Rattle.spiffe_name.specs.declared.Failure.TheVariants as name
 use Rattle.spiffe_name.specs.declared.IdRefusal.{IdRefusal}
-use Rattle.regd.specs.CommandLine.{IsFaultOf, TellsNoSeed, domain_word, line_faults, option_asked, option_in, program_asked, program_in, program_name, regd_command, seed_text}
+use Rattle.regd.specs.CommandLine.{AsksServer, AsksWell, IsFaultOf, IsServerFault, TellsNoSeed, domain_word, line_faults, option_asked, option_in, program_asked, program_in, program_name, regd_command, seed_text}
 use Rattle.regd.specs.declared.programs.Program.{Program}
-use Rattle.regd.specs.declared.faults.CommandLineFault.TheVariants.{Seed}
+use Rattle.regd.specs.declared.programs.Program.TheVariants.{Serve}
+use Rattle.regd.specs.declared.settings.ServerPlan.{ServerPlan}
+use Rattle.regd.specs.declared.faults.CommandLineFault.{CommandLineFault}
+use Rattle.regd.specs.declared.faults.CommandLineFault.TheVariants.{Address, Domain, NoMemory, NotText, Number, Refused, Seed}
 use Rattle.regd.specs.Conversions.{fault_of_domain, fault_of_kind, fault_of_refusal}
 
 -- the parser's account holds of the program
@@ -78,8 +81,8 @@ option_in-parse id name app words m program is has e n =
 -- a text that is no domain, of words that were taken
 pub IsFaultOf-domain : (words : List Text) (text : Text) (failure : Failure IdRefusal) → line_faults words ≡ [] → text ≡ unwrap_or (domain_word words) []
     → FailsBy (domain_refusal text) failure → IsFaultOf words (fault_of_domain failure)
-IsFaultOf-domain words text NoMemory taken is fails = tt
-IsFaultOf-domain words text (Refused refusal) taken is fails = (taken, subst (λ (t : Text). domain_refusal t ≡ Some refusal) is fails)
+IsFaultOf-domain words text name.NoMemory taken is fails = tt
+IsFaultOf-domain words text (name.Refused refusal) taken is fails = (taken, subst (λ (t : Text). domain_refusal t ≡ Some refusal) is fails)
 
 -- a text that tells no seed, of words that were taken, whose domain is one
 pub IsFaultOf-seed : (words : List Text) (domain seed : Text) → line_faults words ≡ [] → domain ≡ unwrap_or (domain_word words) [] → domain_refusal domain ≡ None
@@ -120,3 +123,40 @@ pub unwrap_or-text : (o : Option (Bor Text)) (other text : Bor Text) (word : Opt
     → option_map (λ s. s.now) o ≡ word → text.now ≡ unwrap_or word last
 unwrap_or-text None other text word last is none same = ap (λ (b : Bor Text). b.now) is ∙ none ∙ ap (λ (w : Option Text). unwrap_or w last) same
 unwrap_or-text (Some s) other text word last is none same = ap (λ (b : Bor Text). b.now) is ∙ ap (λ (w : Option Text). unwrap_or w last) same
+
+-- ---- a server
+
+pub server-parse : (app : App) (words : List Text) (m : ArgMatches) (program : Program) (server : Option ServerPlan) → app ≡ regd_command → HasMatchesOf app words m
+    → AsksServer (subcommand_rows_of m) program server → AsksServer (subcommand_of regd_command words) program server
+server-parse app words m program server is has asks = subst (λ met. AsksServer met program server) (met-parse app words m is has) asks
+
+server_fault : (words : List Text) (program : Program) (fault : CommandLineFault) → AsksWell words → IsServerFault (subcommand_of regd_command words) program fault → IsFaultOf words fault
+server_fault words program Address well is = (well, is.1)
+server_fault words program Number well is = (well, is.1)
+server_fault words program Seed well is = absurd is
+server_fault words program NotText well is = absurd is
+server_fault words program NoMemory well is = absurd is
+server_fault words program (Refused error) well is = absurd is
+server_fault words program (Domain refusal) well is = absurd is
+
+asks_server : (met : Option (Text × List Row)) (program : Program) (fault : CommandLineFault) → IsServerFault met program fault → program ≡ Serve
+asks_server met program Address is = is.0
+asks_server met program Number is = is.0
+asks_server met program Seed is = absurd is
+asks_server met program NotText is = absurd is
+asks_server met program NoMemory is = absurd is
+asks_server met program (Refused error) is = absurd is
+asks_server met program (Domain refusal) is = absurd is
+
+-- what a server is asked for is refused, of words that were taken, whose domain is one, and whose seed
+pub IsFaultOf-server : (app : App) (words : List Text) (m : ArgMatches) (program : Program) (fault : CommandLineFault) (domain seed : Text) → app ≡ regd_command → HasMatchesOf app words m
+    → line_faults words ≡ [] → program ≡ program_in (subcommand_rows_of m) → domain ≡ unwrap_or (domain_word words) [] → domain_refusal domain ≡ None → seed ≡ seed_text words → (TellsNoSeed seed → ⊥)
+    → IsServerFault (subcommand_rows_of m) program fault → IsFaultOf words fault
+IsFaultOf-server app words m program fault domain seed is has taken e d fine s told fails =
+    let well : AsksWell words = record {
+      taken = taken;
+      asked = sym (program_in-parse app words m program is has e) ∙ asks_server (subcommand_rows_of m) program fault fails;
+      domain = subst (λ (t : Text). domain_refusal t ≡ None) d fine;
+      seed = subst (λ (t : Text). TellsNoSeed t → ⊥) s told;
+    } in
+    server_fault words program fault well (subst (λ met. IsServerFault met program fault) (met-parse app words m is has) fails)

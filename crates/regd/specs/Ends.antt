@@ -5,6 +5,8 @@ use Rattle.spiffe_name.specs.Codes.{id_code}
 use Rattle.regd.specs.declared.ended.Ended.{Ended}
 use Rattle.regd.specs.declared.faults.RunFault.{RunFault}
 use Rattle.regd.specs.declared.faults.RunFault.TheVariants as run
+use Rattle.regd.specs.declared.faults.ServeFault.{ServeFault}
+use Rattle.regd.specs.declared.faults.ServeFault.TheVariants as serve
 use Rattle.regd.specs.declared.faults.CommandLineFault.{CommandLineFault}
 use Rattle.regd.specs.declared.faults.CommandLineFault.TheVariants as line
 use Rattle.regd.specs.declared.programs.Outcome.{Outcome}
@@ -23,8 +25,13 @@ told_text text_of (told.Parser error) = text_of error
 told_text text_of told.Input = own_line (codes "input failed")
 told_text text_of told.Output = own_line (codes "output failed")
 told_text text_of told.NoMemory = own_line (codes "out of memory")
+told_text text_of told.Listen = own_line (codes "listen failed")
+told_text text_of told.Accept = own_line (codes "accept failed")
+told_text text_of told.NoSeat = own_line (codes "no seat")
 told_text text_of (told.Domain refusal) = own_line (codes "domain " ++ id_code refusal)
 told_text text_of told.Seed = own_line (codes "seed")
+told_text text_of told.Address = own_line (codes "listen")
+told_text text_of told.Number = own_line (codes "number")
 told_text text_of told.NotText = own_line (codes "a word isn't UTF-8")
 
 abbrev pub with : ℕ → Told Error → Ended
@@ -43,6 +50,8 @@ abbrev pub ended_by_line : CommandLineFault → Ended
 ended_by_line (line.Refused error) = with 2 (told.Parser error)
 ended_by_line (line.Domain refusal) = with 2 (told.Domain refusal)
 ended_by_line line.Seed = with 2 told.Seed
+ended_by_line line.Address = with 2 told.Address
+ended_by_line line.Number = with 2 told.Number
 ended_by_line line.NotText = with 2 told.NotText
 ended_by_line line.NoMemory = with 1 told.NoMemory
 
@@ -50,3 +59,12 @@ ended_by_line line.NoMemory = with 1 told.NoMemory
 abbrev pub ended_of : Result (Result Outcome RunFault) CommandLineFault → Ended
 ended_of (Ok answered) = ended_by_run answered
 ended_of (Err fault) = ended_by_line fault
+
+-- the end of a server
+abbrev pub ended_of_server : {T : Type 0} → Result T ServeFault → Ended
+ended_of_server (Ok none) = with 0 told.Nothing
+ended_of_server (Err serve.Listen) = with 1 told.Listen
+ended_of_server (Err serve.Output) = with 1 told.Output
+ended_of_server (Err serve.Accept) = with 1 told.Accept
+ended_of_server (Err serve.NoSeat) = with 1 told.NoSeat
+ended_of_server (Err serve.NoMemory) = with 1 told.NoMemory

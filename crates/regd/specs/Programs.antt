@@ -9,7 +9,7 @@ use Rattle.regd.specs.declared.faults.RunFault.{RunFault}
 use Rattle.regd.specs.declared.programs.Outcome.{Outcome}
 use Rattle.regd.specs.declared.programs.Outcome.TheVariants.{Done}
 use Rattle.regd.specs.declared.programs.Program.{Program}
-use Rattle.regd.specs.declared.programs.Program.TheVariants.{Audit, Plain, Record, Schedule}
+use Rattle.regd.specs.declared.programs.Program.TheVariants.{Audit, Plain, Record, Schedule, Serve}
 
 -- a run that denies nothing
 abbrev pub done_of : Result Unit RunFault → Result Outcome RunFault
@@ -22,3 +22,5 @@ RunsAs Plain domain seed input rest output out result = (ran : Result Unit RunFa
 RunsAs Schedule domain seed input rest output out result = (ran : Result Unit RunFault) × (result ≡ done_of ran) × RunsSchedule domain seed input rest output out ran
 RunsAs Record domain seed input rest output out result = (ran : Result Unit RunFault) × (result ≡ done_of ran) × RunsRecord domain seed input rest output out ran
 RunsAs Audit domain seed input rest output out result = RunsAudit domain input rest output out result
+-- a server has no input and no output of lines
+RunsAs Serve domain seed input rest output out result = ⊥

@@ -1,9 +1,9 @@
 //! How did a run end, and what does the caller get to know of it?
 
 ghost use Rattle.std.specs.Prelude.{◌≡◌};
-ghost use Rattle.regd.specs.Ends.{ended_of};
+ghost use Rattle.regd.specs.Ends.{ended_of, ended_of_server};
 
-use crate::faults::{CommandLineFault, RunFault};
+use crate::faults::{CommandLineFault, RunFault, ServeFault};
 use crate::programs::Outcome;
 use crate::told::Told;
 
@@ -34,7 +34,23 @@ impl Ended {
             Err(CommandLineFault::Refused(error)) => Ended::with(2, Told::Parser(error)),
             Err(CommandLineFault::Domain(refusal)) => Ended::with(2, Told::Domain(refusal)),
             Err(CommandLineFault::Seed) => Ended::with(2, Told::Seed),
+            Err(CommandLineFault::Address) => Ended::with(2, Told::Address),
+            Err(CommandLineFault::Number) => Ended::with(2, Told::Number),
             Err(CommandLineFault::NotText) => Ended::with(2, Told::NotText),
+        }
+    }
+
+    /// The end of a server, by why it ended before its last connection did.
+    pub fn of_server(served: Result<(), ServeFault>) -> Ended
+        ensures { result ≡ ended_of_server served }
+    {
+        match served {
+            Ok(()) => Ended::with(0, Told::Nothing),
+            Err(ServeFault::Listen) => Ended::with(1, Told::Listen),
+            Err(ServeFault::Output) => Ended::with(1, Told::Output),
+            Err(ServeFault::Accept) => Ended::with(1, Told::Accept),
+            Err(ServeFault::NoSeat) => Ended::with(1, Told::NoSeat),
+            Err(ServeFault::NoMemory) => Ended::with(1, Told::NoMemory),
         }
     }
 

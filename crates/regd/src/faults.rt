@@ -29,6 +29,31 @@ impl From<AllocError> for RunFault {
     }
 }
 
+/// Why a server ended before its last connection did.
+#[derive(Clone, Copy, Debug, PartialEq, Eq, Drop)]
+pub enum ServeFault {
+    /// It can't listen at the address.
+    Listen,
+    /// A write of the address that it got failed.
+    Output,
+    /// No connection can be accepted any more.
+    Accept,
+    /// A worker got no seat.
+    NoSeat,
+    /// Memory was wanting before the first connection was accepted, or a thread for a worker.
+    NoMemory,
+}
+
+impl From<AllocError> for ServeFault {
+    ghost use Rattle.regd.specs.declared.faults.ServeFault.TheVariants.{NoMemory as WantOfMemory};
+
+    ghost from_gives = { λ _ fault. fault ≡ WantOfMemory };
+
+    fn from(_: AllocError) -> ServeFault {
+        ServeFault::NoMemory
+    }
+}
+
 /// Why a command line is none.
 #[derive(Debug, Drop)]
 pub enum CommandLineFault {
@@ -38,6 +63,10 @@ pub enum CommandLineFault {
     Domain(IdRefusal),
     /// The seed isn't 64 lower-case hexadecimal digits.
     Seed,
+    /// Where to listen isn't an IPv4 address with a port.
+    Address,
+    /// A number isn't one of those that it may be. The command-line parser refuses it first.
+    Number,
     /// A word isn't text.
     NotText,
     /// Memory was wanting.

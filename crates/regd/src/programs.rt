@@ -1,6 +1,6 @@
 //! Which programs are there, and what does each do?
 
-ghost use Rattle.std.specs.Prelude.{◌≡◌, []};
+ghost use Rattle.std.specs.Prelude.{◌≡◌, [], None};
 ghost use Rattle.regd.specs.Programs.{RunsAs, done_of};
 
 use crate::audit_engine::audit;
@@ -23,6 +23,8 @@ pub enum Program {
     Record,
     /// Records of calls are audited.
     Audit,
+    /// Connections are served through a shared registry.
+    Serve,
 }
 
 impl Program {
@@ -37,6 +39,7 @@ impl Program {
             Program::Plain => "plain",
             Program::Schedule | Program::Record => "schedule",
             Program::Audit => "audit",
+            Program::Serve => "serve",
         }
     }
 }
@@ -50,13 +53,15 @@ pub enum Outcome {
     Denied,
 }
 
-/// Runs the program that the settings ask for, with their trust domain and seed: each line of the input is answered, in order.
+/// Runs the program that the settings ask for, which is no server, with their trust domain and seed: each line of the input is
+/// answered, in order.
 pub fn run_settings<S: Source, K: Sink>(
     alloc: Global,
     settings: Settings,
     input: &mut Input<S>,
     output: &mut Output<K>,
 ) -> Result<Outcome, RunFault>
+    requires lines { settings.server ≡ None }
     requires input { input.old.failures ≡ 0 }
     requires output { output.old.failures ≡ 0 }
     requires none_held { output.old.held ≡ [] }
@@ -70,6 +75,7 @@ pub fn run_settings<S: Source, K: Sink>(
         Program::Schedule => done(schedule(alloc, domain, seed, input, output)),
         Program::Record => done(record_schedule(alloc, domain, seed, input, output)),
         Program::Audit => audit(alloc, domain, input, output),
+        Program::Serve => unreachable!(),
     }
 }
 

@@ -13,6 +13,7 @@ pub const FIRST_SEED: &str = "00000000000000000000000000000000000000000000000000
 /// stands among them.
 pub fn seed_of(text: &str) -> Option<[u8; 32]>
     ensures seed { IfSome result (λ seed. encode_lower seed ≡ text.now) }
+    ensures told { IfSome result (λ _. TellsNoSeed text.now → ⊥) }
     ensures none { IfNone result (TellsNoSeed text.now) }
 {
     let seed = <[u8; 32] as FromHex>::from_hex(text).ok()?;

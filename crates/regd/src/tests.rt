@@ -11,11 +11,14 @@ mod records;
 mod refusals;
 mod runs;
 mod schedules;
+mod serving;
+mod sessions;
 mod story;
 mod tokens;
 
 use crate::{
-    CommandLineFault, Ended, Outcome, Program, RunFault, Settings, a_line_gives_its_domain,
+    CommandLineFault, Ended, Outcome, Program, RunFault, ServeFault, Settings,
+    a_line_gives_its_domain,
 };
 use spiffe_name::IdRefusal;
 use std::alloc::Global;
@@ -199,6 +202,108 @@ fn the_parser_refuses_every_other_word(rt: HostRuntime) -> Result<(), Fail> {
     Ok(())
 }
 
+/// What a command line asks of a server: its address, its workers and its connections, or else its fault.
+fn asked(alloc: Global, words: &[&str]) -> Result<String, Fail> {
+    match Settings::from_words(alloc, words) {
+        Ok(settings) => {
+            let plan = settings.server().ok_or("no server")?;
+            Ok(format!(in alloc; "{} {} {}", plan.listen, plan.workers, plan.connections)?)
+        }
+        Err(fault) => Ok(Ended::of(Err(fault)).told.to_string(alloc)?),
+    }
+}
+
+#[test]
+fn a_server_is_asked_for_by_its_address_and_its_numbers(rt: HostRuntime) -> Result<(), Fail> {
+    for (listen, workers, connections, want) in [
+        ("127.0.0.1:0", "1", "1", "127.0.0.1:0 1 1"),
+        ("0.0.0.0:65535", "32", "65535", "0.0.0.0:65535 32 65535"),
+        ("localhost:80", "1", "1", "regd: listen\n"),
+        ("[::1]:80", "1", "1", "regd: listen\n"),
+        ("127.0.0.1", "1", "1", "regd: listen\n"),
+        ("127.0.0.1:65536", "1", "1", "regd: listen\n"),
+    ] {
+        let words = [
+            "regd",
+            "serve",
+            "--domain",
+            "ex.org",
+            "--connections",
+            connections,
+            "--listen",
+            listen,
+            "--workers",
+            workers,
+        ];
+        assert_eq!(rt; asked(rt.alloc(), &words)?.as_str(), want);
+    }
+    Ok(())
+}
+
+/// The parser's refusals come first, and then the domain, the seed and the address.
+#[test]
+fn the_first_fault_of_a_server_is_told(rt: HostRuntime) -> Result<(), Fail> {
+    let zeros = "0000000000000000000000000000000000000000000000000000000000000000";
+    for (domain, seed, workers, connections, start) in [
+        (
+            "A",
+            "x",
+            "0",
+            "1",
+            "error: invalid value '0' for '--workers <N>'",
+        ),
+        (
+            "A",
+            "x",
+            "33",
+            "1",
+            "error: invalid value '33' for '--workers <N>'",
+        ),
+        (
+            "A",
+            "x",
+            "two",
+            "1",
+            "error: invalid value 'two' for '--workers <N>'",
+        ),
+        (
+            "A",
+            "x",
+            "1",
+            "0",
+            "error: invalid value '0' for '--connections <C>'",
+        ),
+        (
+            "A",
+            "x",
+            "1",
+            "65536",
+            "error: invalid value '65536' for '--connections <C>'",
+        ),
+        ("A", "x", "1", "1", "regd: domain I5\n"),
+        ("ex.org", "x", "1", "1", "regd: seed\n"),
+        ("ex.org", zeros, "1", "1", "regd: listen\n"),
+    ] {
+        let words = [
+            "regd",
+            "serve",
+            "--domain",
+            domain,
+            "--seed",
+            seed,
+            "--listen",
+            "here",
+            "--workers",
+            workers,
+            "--connections",
+            connections,
+        ];
+        let told = asked(rt.alloc(), &words)?;
+        assert!(rt; told.starts_with(start), "{told}");
+    }
+    Ok(())
+}
+
 #[test]
 fn each_end_has_its_status_and_its_text(rt: HostRuntime) -> Result<(), Fail> {
     let ends = [
@@ -213,6 +318,7 @@ fn each_end_has_its_status_and_its_text(rt: HostRuntime) -> Result<(), Fail> {
             "regd: domain I4\n",
         ),
         (Err(CommandLineFault::Seed), 2, "regd: seed\n"),
+        (Err(CommandLineFault::Address), 2, "regd: listen\n"),
         (
             Err(CommandLineFault::NotText),
             2,
@@ -222,6 +328,24 @@ fn each_end_has_its_status_and_its_text(rt: HostRuntime) -> Result<(), Fail> {
     ];
     for (answered, status, want) in ends {
         let ended = Ended::of(answered);
+        assert_eq!(rt; ended.status, status);
+        assert_eq!(rt; ended.told.to_string(rt.alloc())?.as_str(), want);
+    }
+    Ok(())
+}
+
+#[test]
+fn each_end_of_a_server_has_its_status_and_its_text(rt: HostRuntime) -> Result<(), Fail> {
+    let ends = [
+        (Ok(()), 0, ""),
+        (Err(ServeFault::Output), 1, "regd: output failed\n"),
+        (Err(ServeFault::NoMemory), 1, "regd: out of memory\n"),
+        (Err(ServeFault::Listen), 1, "regd: listen failed\n"),
+        (Err(ServeFault::Accept), 1, "regd: accept failed\n"),
+        (Err(ServeFault::NoSeat), 1, "regd: no seat\n"),
+    ];
+    for (served, status, want) in ends {
+        let ended = Ended::of_server(served);
         assert_eq!(rt; ended.status, status);
         assert_eq!(rt; ended.told.to_string(rt.alloc())?.as_str(), want);
     }

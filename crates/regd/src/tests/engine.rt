@@ -1,11 +1,15 @@
 //! The engine over memory: what a run answers, and tables of what it has to answer.
 
+ghost use Rattle.std.specs.Prelude.{◌≡◌, IfOk, None};
+
+use super::sessions::answers_alone;
 use crate::{Outcome, RunFault, Settings, plain, run_settings};
 use reg_lines::{CountedDevice, Input, Output};
 use serde_json::Value;
 use spiffe_name::TrustDomain;
 use std::alloc::Global;
 use std::process::Abort;
+use std::sync::Wait;
 use std::test::Fail;
 use test_devices::{Giver, Pace, Taker, Trouble};
 
@@ -34,14 +38,14 @@ fn run_with(
     Ok(plain(alloc, domain, seed, &mut input, &mut output))
 }
 
-/// What the engine of `ex.org` with the first seed answers to these bytes, in lines that are compact.
-pub fn answers(rt: &impl Abort, alloc: Global, bytes: &[u8]) -> Result<Vec<u8>, Fail> {
+/// What the engine of `ex.org` with the first seed answers to these bytes, in lines that are compact, and a session, too.
+pub fn answers(rt: &(impl Abort + Wait), alloc: Global, bytes: &[u8]) -> Result<Vec<u8>, Fail> {
     answers_with(rt, alloc, "ex.org", FIRST_SEED, bytes)
 }
 
 /// The same of the engine of another trust domain, or with another seed.
 pub fn answers_with(
-    rt: &impl Abort,
+    rt: &(impl Abort + Wait),
     alloc: Global,
     domain: &str,
     seed: [u8; 32],
@@ -50,7 +54,10 @@ pub fn answers_with(
     let mut giver = Giver::new(bytes, Pace::All, Trouble::NONE);
     let mut taker = Taker::new(alloc, Pace::All, Trouble::NONE);
     let ended = run_with(alloc, domain, seed, &mut giver, &mut taker)?;
-    compact_bytes(rt, alloc, ended, taker)
+    let answers = compact_bytes(rt, alloc, ended, taker)?;
+    let alone = answers_alone(rt, alloc, domain, seed, bytes)?;
+    assert_eq!(rt; str::from_utf8(&alone)?, str::from_utf8(&answers)?);
+    Ok(answers)
 }
 
 /// What a run of these words of a command line answers to these bytes, in lines that are compact.
@@ -72,9 +79,7 @@ pub fn told_of_words(
     words: &[&str],
     bytes: &[u8],
 ) -> Result<(Outcome, Vec<u8>), Fail> {
-    let settings = Settings::from_words(alloc, words)
-        .ok()
-        .ok_or("no settings")?;
+    let settings = settings_of_words(alloc, words)?;
     let mut giver = Giver::new(bytes, Pace::All, Trouble::NONE);
     let mut taker = Taker::new(alloc, Pace::All, Trouble::NONE);
     let mut input = Input::new(CountedDevice::new(&mut giver));
@@ -85,6 +90,19 @@ pub fn told_of_words(
         return Err(Fail::from("the run failed"));
     };
     Ok((outcome, compact_bytes(rt, alloc, Ok(()), taker)?))
+}
+
+/// The settings that the words give, which ask for no server.
+fn settings_of_words(alloc: Global, words: &[&str]) -> Result<Settings, Fail>
+    ensures { IfOk result (λ settings. settings.server ≡ None) }
+{
+    let settings = Settings::from_words(alloc, words)
+        .ok()
+        .ok_or("no settings")?;
+    match settings.server() {
+        None => Ok(settings),
+        Some(_) => Err(Fail::from("a server is asked for")),
+    }
 }
 
 /// What a run that ended well has written; each of its lines is compact.
@@ -138,7 +156,7 @@ fn add_line(text: &mut String, line: &str) -> Result<(), Fail> {
 }
 
 /// The requests of the table, in one run of the engine of `ex.org` with the first seed, get the answers beside them.
-pub fn are_answered(rt: &impl Abort, alloc: Global, text: &str) -> Result<(), Fail> {
+pub fn are_answered(rt: &(impl Abort + Wait), alloc: Global, text: &str) -> Result<(), Fail> {
     are_answered_with(rt, alloc, "ex.org", FIRST_SEED, text)
 }
 
@@ -153,7 +171,7 @@ pub fn are_played(rt: &impl Abort, alloc: Global, text: &str) -> Result<(), Fail
 
 /// The same of an engine of another trust domain, or with another seed.
 pub fn are_answered_with(
-    rt: &impl Abort,
+    rt: &(impl Abort + Wait),
     alloc: Global,
     domain: &str,
     seed: [u8; 32],

@@ -3,6 +3,7 @@
 use super::engine::answers;
 use std::alloc::Global;
 use std::process::Abort;
+use std::sync::Wait;
 use std::test::Fail;
 
 /// The lines of a run, and the answers to its last ones.
@@ -72,7 +73,12 @@ fn op(alloc: Global, kind: Kind, number: u32) -> Result<String, Fail> {
 }
 
 /// Are these the last lines of the answers?
-fn ends_with(rt: &impl Abort, alloc: Global, filling: &Filling, wanted: &str) -> Result<(), Fail> {
+fn ends_with(
+    rt: &(impl Abort + Wait),
+    alloc: Global,
+    filling: &Filling,
+    wanted: &str,
+) -> Result<(), Fail> {
     let bytes = answers(rt, alloc, filling.asked.as_bytes())?;
     let from = bytes.len().saturating_sub(wanted.len());
     assert_eq!(rt; str::from_utf8(bytes.as_slice().split_at(from).1)?, wanted);

@@ -3,6 +3,7 @@
 use super::engine::{answers, are_answered};
 use std::alloc::Global;
 use std::process::Abort;
+use std::sync::Wait;
 use std::test::Fail;
 
 /// A page of an empty book.
@@ -153,7 +154,7 @@ const CREATE: &str =
 "#;
 
 /// The answer to the page, where so many changes came up to it.
-fn last_is(rt: &impl Abort, alloc: Global, place: u32, wanted: &str) -> Result<(), Fail> {
+fn last_is(rt: &(impl Abort + Wait), alloc: Global, place: u32, wanted: &str) -> Result<(), Fail> {
     let got = answers(rt, alloc, asked_at(alloc, place)?.as_bytes())?;
     assert_eq!(rt; str::from_utf8(&got)?.lines().last(), Some(wanted));
     Ok(())

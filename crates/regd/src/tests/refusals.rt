@@ -3,6 +3,7 @@
 use super::engine::{FIRST_SEED, answers, answers_with, are_answered, are_answered_with, padded};
 use std::alloc::Global;
 use std::process::Abort;
+use std::sync::Wait;
 use std::test::Fail;
 
 /// A number in a reply is that of its line, or of its call.
@@ -185,7 +186,7 @@ fn bytes_that_are_no_text(rt: HostRuntime) -> Result<(), Fail> {
 }
 
 /// The answer to a question of the children of this parent, on the book of the trust domain `a`.
-fn children_of(rt: &impl Abort, alloc: Global, parent: &str) -> Result<Vec<u8>, Fail> {
+fn children_of(rt: &(impl Abort + Wait), alloc: Global, parent: &str) -> Result<Vec<u8>, Fail> {
     let line = format!(in alloc;
         "{{\"ops\":[{{\"op\":\"children\",\"parent\":\"{parent}\"}}]}}\n"
     )?;

@@ -1,4 +1,4 @@
-use Rattle.std.proofs.Common.{◌≡◌, false, None, ap, ap₂, sym, ◌∙◌}
+use Rattle.std.proofs.Common.{rules, ◌≡◌, false, None, ap, ap₂, sym, ◌∙◌}
 use Rattle.std.specs.Result.{result_ok}
 use Rattle.std.specs.Str.{bytes_eq}
 use Rattle.hex.specs.Hex.{decode_sized, encode_lower}
@@ -18,3 +18,6 @@ returns-else-eq-clause-none c =
     let digits = c.as_slice.ensures ∙ c.digits_of.ensures in
     let other : bytes_eq (encode_lower c.in_ok-seed.seed) c.args.text.now ≡ false = ap₂ bytes_eq (sym digits) (sym c.as_bytes.ensures.value) ∙ (sym c.eq.ensures ∙ c.if-eq.false) in
     TellsNoSeed-other c.args.text.now c.in_ok-seed.seed found other
+
+pub returns-then-eq-clause-told : goal.returns-then-eq-clause-told
+returns-then-eq-clause-told c = λ none. none c.in_ok-seed.seed (search rules) (λ i. search rules) (search rules)

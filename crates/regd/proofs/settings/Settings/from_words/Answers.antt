@@ -2,7 +2,7 @@ use Rattle.std.proofs.Common.{refl, ◌∙◌}
 use Rattle.clap.proofs.TakesLemmas.{passed_up}
 use Rattle.clap.specs.Walk.{texts}
 use Rattle.regd.specs.CommandLine.{domain_word}
-use Rattle.regd.proofs.Words.{IsFaultOf-parse, IsFaultOf-domain, IsFaultOf-seed, domain_word-given, line_faults-parse, option_in-parse, program_in-parse, unwrap_or-text}
+use Rattle.regd.proofs.Words.{IsFaultOf-parse, IsFaultOf-domain, IsFaultOf-seed, IsFaultOf-server, domain_word-given, line_faults-parse, option_in-parse, program_in-parse, server-parse, unwrap_or-text}
 use Rattle.regd.proofs.settings.Settings.from_words.Goals as goal
 
 pub returns-in_err-matches-clause-fault : goal.returns-in_err-matches-clause-fault
@@ -40,3 +40,15 @@ returns-clause-seed c =
 
 pub returns-clause-program : goal.returns-clause-program
 returns-clause-program c = program_in-parse _ _ _ _ c.in_ok-regd_command.ensures c.in_ok-matches.ensures.matches c.program_of-program.ensures
+
+pub returns-in_err-server-clause-fault : goal.returns-in_err-server-clause-fault
+returns-in_err-server-clause-fault c =
+    let given = c.option_word.ensures ∙ option_in-parse _ _ _ _ _ _ c.in_ok-regd_command.ensures c.in_ok-matches.ensures.matches c.program_of-program.ensures c.name.ensures in
+    let domain = unwrap_or-text c.option_word.result _ _ _ _ c.unwrap_or-word.ensures refl given in
+    let told = c.option_word-2.ensures ∙ option_in-parse _ _ _ _ _ _ c.in_ok-regd_command.ensures c.in_ok-matches.ensures.matches c.program_of-program.ensures c.name-2.ensures in
+    let seed = unwrap_or-text c.option_word-2.result _ _ _ _ c.unwrap_or-text.ensures refl told in
+    passed_up c.from_residual-in_err-server.result _ _ c.from_residual-in_err-server.ensures.1
+    (IsFaultOf-server _ (texts c.args.words.now) _ _ _ _ _ c.in_ok-regd_command.ensures c.in_ok-matches.ensures.matches (line_faults-parse _ _ c.in_ok-regd_command.ensures c.in_ok-matches.ensures.kinds) c.program_of-program.ensures domain c.in_ok-domain.ensures.table.1 seed c.in-Some.ensures.told c.in_err-server.ensures.fault)
+
+pub returns-clause-server : goal.returns-clause-server
+returns-clause-server c = server-parse _ _ _ _ _ c.in_ok-regd_command.ensures c.in_ok-matches.ensures.matches c.in_ok-server.ensures.server
