@@ -1,0 +1,181 @@
+"""Which refusal is due to a line, if any? The first one in the stated order, told by the tables alone."""
+import json
+import math
+
+from . import tables
+from .tables import MOST_BYTES, MOST_DEEP, MOST_OPS, MOST_WHOLE
+
+
+class Refused(Exception):
+    """Why a line is refused: its code, and the key and the operation where they are told."""
+
+    def __init__(self, code, field=None, op=None):
+        super().__init__(code)
+        self.code, self.field, self.op = code, field, op
+
+    def line(self, number):
+        """The line that tells it."""
+        told = {"code": self.code, "field": self.field, "line": number, "op": self.op}
+        return compact({key: value for key, value in told.items() if value is not None})
+
+
+def compact(value):
+    """The text of a value as lines are printed."""
+    return json.dumps(value, separators=(",", ":"), sort_keys=True, ensure_ascii=False)
+
+
+def whole(text):
+    """A number without fraction and exponent: one that is no whole number of these lines is kept as a float."""
+    if text.startswith("-") or len(text) > 20 or int(text) > MOST_WHOLE:
+        return finite(text)
+    return int(text)
+
+
+def finite(text):
+    number = float(text)
+    if not math.isfinite(number):
+        raise ValueError(text)
+    return number
+
+
+def no_constant(text):
+    raise ValueError(text)
+
+
+def depth(text):
+    """How deep lists and objects lie in each other, as far as brackets tell."""
+    deepest = now = 0
+    inside = escaped = False
+    for letter in text:
+        if inside:
+            inside = escaped or letter != '"'
+            escaped = not escaped and letter == "\\"
+        elif letter == '"':
+            inside = True
+        elif letter in "[{":
+            now += 1
+            deepest = max(deepest, now)
+        elif letter in "]}":
+            now -= 1
+    return deepest
+
+
+def value_of(data):
+    """The JSON value of a line without its LF."""
+    try:
+        text = data.decode("utf-8")
+        if max(text.count("["), text.count("{")) > MOST_DEEP // 2 and depth(text) > MOST_DEEP:
+            raise ValueError("too deep")
+        value = json.loads(text, parse_int=whole, parse_float=finite, parse_constant=no_constant)
+        # half a surrogate pair is no character
+        json.dumps(value, ensure_ascii=False).encode("utf-8")
+    except ValueError:
+        raise Refused("L2") from None
+    return value
+
+
+def object_of(line):
+    """The object of a line, its LF included where it has one."""
+    data = line.removesuffix(b"\n")
+    if len(data) > MOST_BYTES:
+        raise Refused("L1")
+    if data == line:
+        raise Refused("L3")
+    value = value_of(data)
+    if not isinstance(value, dict):
+        raise Refused("L4")
+    return value
+
+
+def read_keys(given, keys, op=None, ids_drawn=True):
+    """Looks at the keys of an object in the order of their table."""
+    for key in keys:
+        absent = given.get(key.name) is None
+        if absent and (key.optional or key.drawn and ids_drawn):
+            continue
+        code = "L5" if key.name not in given else key.kind.grammar(given[key.name])
+        needed = tables.NEEDS.get(key.name)
+        if not code and needed and given.get(needed) is None:
+            code = "L5"
+        if code:
+            raise Refused(code, key.name, op)
+
+
+def no_others(given, keys, op=None):
+    """Refuses the least of the keys that aren't known."""
+    unknown = set(given) - {key.name for key in keys}
+    if unknown:
+        raise Refused("L5", min(unknown, key=str.encode), op)
+
+
+def read_ops(batch, ids_drawn):
+    """Looks at the operations of a batch, one after another."""
+    for index, op in enumerate(batch["ops"]):
+        if not isinstance(op, dict):
+            raise Refused("L5", "ops", index)
+        read_keys(op, tables.OP, index)
+        keys = tables.OPERATIONS[op["op"]]
+        read_keys(op, keys, index, ids_drawn and batch.get("token") is None)
+        no_others(op, tables.OP + keys, index)
+
+
+def op_codes(op):
+    """What no batch may have in an operation."""
+    values = [(key, op.get(key.name)) for key in tables.OPERATIONS[op["op"]]]
+    return [code for key, value in values if value is not None for code in key.kind.law(value)]
+
+
+def read_batch(batch):
+    """Looks for what no batch may have."""
+    ops = batch["ops"]
+    if not ops:
+        raise Refused("B1")
+    if len(ops) > MOST_OPS:
+        raise Refused("B2")
+    for index, op in enumerate(ops):
+        if codes := op_codes(op):
+            raise Refused(min(codes, key=lambda code: int(code[1:])), op=index)
+    for index, op in enumerate(ops):
+        if len(ops) > 1 and op["op"] == "page" and op.get("at") is not None:
+            raise Refused("B13", op=index)
+    if batch.get("token") is not None and all(op["op"] in tables.QUERIES for op in ops):
+        raise Refused("B14")
+
+
+def read_request(line):
+    """The object of a request line."""
+    request = object_of(line)
+    read_keys(request, tables.REQUEST)
+    no_others(request, tables.REQUEST)
+    read_ops(request, True)
+    read_batch(request)
+    return request
+
+
+def read_within(batch, ids_drawn):
+    """Looks at the batch of an event or a record, whose own keys are in order."""
+    read_keys(batch, tables.BATCH)
+    no_others(batch, tables.BATCH)
+    read_ops(batch, ids_drawn)
+    read_batch(batch)
+
+
+def read_event(line):
+    """The object of an event line."""
+    event = object_of(line)
+    read_keys(event, tables.EVENT)
+    keys = tables.INVOKE if event["event"] == "invoke" else tables.EVENT
+    read_keys(event, keys)
+    no_others(event, keys)
+    if "batch" in event:
+        read_within(event["batch"], True)
+    return event
+
+
+def read_record(line):
+    """The object of a record."""
+    record = object_of(line)
+    read_keys(record, tables.RECORD)
+    no_others(record, tables.RECORD)
+    read_within(record["batch"], False)
+    return record

@@ -1,0 +1,324 @@
+"""What may stand in a line? Each operation and each frame with its keys in order, and each kind of value with its rules.
+
+A key that comes to `OPERATIONS` is met at once by everything that is drawn, whatever its operation, as long as its kind is here.
+"""
+import dataclasses
+import re
+import typing
+
+OWN = "ex.org"
+HOME = f"spiffe://{OWN}"
+SERVER = f"{HOME}/spire/server"
+AGENTS = "/spire/agent/"
+SHOWN = "00000000-0000-0000-0000-000000000001"
+
+MOST_BYTES = 1_048_576
+MOST_DEEP = 127
+MOST_WHOLE = 2**64 - 1
+MOST_OPS = 64
+MOST_CALLS = 4_096
+
+
+def bytes_in(text):
+    return len(text.encode())
+
+
+# what the grammar of a value refuses: a code, or None
+
+
+def uuid_code(value):
+    if not isinstance(value, str):
+        return "L5"
+    hyphenated = "[0-9a-f]{8}(-[0-9a-f]{4}){3}-[0-9a-f]{12}"
+    spelled = rf"[0-9a-f]{{32}}|{hyphenated}|\{{{hyphenated}\}}|urn:uuid:{hyphenated}"
+    return None if re.fullmatch(spelled, value, re.I | re.A) else "U1"
+
+
+def domain_code(value):
+    if not isinstance(value, str):
+        return "L5"
+    if not value:
+        return "I3"
+    if bytes_in(value) > 255:
+        return "I4"
+    return None if re.fullmatch(r"[a-z0-9._-]+", value) else "I5"
+
+
+def segment_code(segment):
+    if not segment:
+        return "I6"
+    if segment in (".", ".."):
+        return "I7"
+    return None if re.fullmatch(r"[A-Za-z0-9._-]+", segment) else "I8"
+
+
+def parts_of(id):
+    """The trust domain and the path of an ID's text."""
+    domain, slash, path = id.removeprefix("spiffe://").partition("/")
+    return domain, slash + path
+
+
+def id_code(value):
+    if not isinstance(value, str):
+        return "L5"
+    if bytes_in(value) > 2_048:
+        return "I1"
+    if not value.startswith("spiffe://"):
+        return "I2"
+    domain, path = parts_of(value)
+    segments = path.split("/")[1:]
+    return domain_code(domain) or next(filter(None, map(segment_code, segments)), None)
+
+
+def selector_code(value):
+    if not isinstance(value, str):
+        return "L5"
+    if bytes_in(value) > 512:
+        return "S1"
+    kind, colon, rest = value.partition(":")
+    if not colon:
+        return "S2"
+    if not kind:
+        return "S3"
+    return None if rest else "S4"
+
+
+def list_of(code):
+    """The grammar of a list, item by item."""
+    return lambda value: next(filter(None, map(code, value)), None) if isinstance(value, list) else "L5"
+
+
+def of_type(kind):
+    return lambda value: None if isinstance(value, kind) else "L5"
+
+
+def number_code(value):
+    # bool is an int in Python
+    return None if type(value) is int and 0 <= value <= MOST_WHOLE else "L5"
+
+
+def word_of(*words):
+    return lambda value: None if isinstance(value, str) and value in words else "L5"
+
+
+# what no batch may have: the codes, of a value that its grammar takes
+
+
+def none(value):
+    return []
+
+
+def over(length, most, code):
+    return lambda value: [code] if length(value) > most else []
+
+
+def distinct(value):
+    return len(set(value))
+
+
+def place_law(value):
+    domain, path = parts_of(value)
+    return ["B3"] * (domain != OWN) + ["B4"] * (not path)
+
+
+def workload_law(value):
+    return place_law(value) + ["B5"] * (value == SERVER)
+
+
+def agent_law(value):
+    domain, path = parts_of(value)
+    return ["B3"] * (domain != OWN) + ["B10"] * (not path.startswith(AGENTS))
+
+
+@dataclasses.dataclass
+class Kind:
+    """A kind of value: what is refused of it, and values to be drawn, a good one, others that are good, bad ones by code."""
+
+    grammar: typing.Callable
+    good: object
+    others: list = dataclasses.field(default_factory=list)
+    bad: dict = dataclasses.field(default_factory=dict)
+    law: typing.Callable = none
+
+
+UUIDS = Kind(
+    uuid_code,
+    SHOWN,
+    ["0" * 32, f"{{{SHOWN}}}", f"urn:uuid:{SHOWN}", f"URN:uuid:{SHOWN}", "ABCDEFAB-CDEF-abcd-efab-CDEFABCDEFAB"],
+    {"U1": ["", SHOWN[1:], SHOWN + "0", f"{{{'0' * 32}}}", SHOWN.replace("-", "_"), f" {SHOWN}", f"{{{SHOWN}", "g" * 32, "\u0660" * 32]},
+)
+IDS_REFUSED = {
+    "I1": [f"{HOME}/{'x' * (2_048 - len(HOME))}", "x" * 2_049, f"{HOME}/{'é' * 1_017}"],
+    "I2": ["", "/x", f"SPIFFE://{OWN}/x", "spiffe:/x", "spiffe:/" + "x" * 2_040],
+    "I3": ["spiffe://", "spiffe:///x"],
+    "I4": ["spiffe://" + "a" * 256, "spiffe://" + "A" * 256 + "/x"],
+    "I5": [f"{HOME}:80/x", "spiffe://Ex.org/x", f"{HOME}?x", "spiffe://é/x", f"{HOME} //"],
+    "I6": [f"{HOME}/", f"{HOME}//x", f"{HOME}/x/", f"{HOME}/x//.."],
+    "I7": [f"{HOME}/.", f"{HOME}/..", f"{HOME}/x/./y", f"{HOME}/..//x"],
+    "I8": [f"{HOME}/x?y", f"{HOME}/x y", f"{HOME}/é", f"{HOME}/%2e/.."],
+}
+FOREIGN = [f"spiffe://b.org{AGENTS}n1", "spiffe://b.org", f"spiffe://{'a' * 255}/x", f"{HOME}.org/spire/server"]
+PLACES = Kind(
+    id_code,
+    f"{HOME}{AGENTS}n1",
+    [f"{HOME}/...", f"{HOME}/{'x' * (2_047 - len(HOME))}", f"{HOME}/a.b-c_D"],
+    IDS_REFUSED | {"B3": FOREIGN, "B4": [HOME]},
+    place_law,
+)
+WORKLOADS = Kind(id_code, f"{HOME}/web", PLACES.others, PLACES.bad | {"B5": [SERVER]}, workload_law)
+AGENT_IDS = Kind(
+    id_code,
+    f"{HOME}{AGENTS}n1",
+    [f"{HOME}{AGENTS}x/..."],
+    IDS_REFUSED | {"B3": FOREIGN, "B10": [HOME, f"{HOME}/web", f"{HOME}/spire/agent", SERVER]},
+    agent_law,
+)
+DOMAINS_REFUSED = {
+    "I3": [""],
+    "I4": ["a" * 256, "A" * 256],
+    "I5": ["B.org", "b.org/x", "spiffe://b.org", "b org", "é", "b.org\n", "\x00"],
+}
+BUNDLES = Kind(domain_code, "b.org", ["a" * 255, "0_.-", OWN], DOMAINS_REFUSED)
+PARTNERS = Kind(
+    domain_code, "b.org", ["a" * 255], DOMAINS_REFUSED | {"B11": [OWN]}, lambda value: ["B11"] * (value == OWN)
+)
+
+
+def numbered(count, form="u:{}"):
+    return [form.format(n) for n in range(count)]
+
+
+def selectors(least, most):
+    """Selectors of which so many may be given."""
+    too_few = [[]] * (least > 0)
+    return Kind(
+        list_of(selector_code),
+        ["u:1"],
+        [numbered(most), [*numbered(most), "u:0"], numbered(least), ["unix:uid:1000"], ["u:" + "é" * 255], ["u: ", "u:1"]],
+        {
+            "S1": [["u:" + "x" * 511], ["x" * 513], ["u:" + "é" * 255 + "x"]],
+            "S2": [["unix"], [""], ["u:1", "unix", 7]],
+            "S3": [[":x"], [":"]],
+            "S4": [["unix:"], ["u:1", "u:"]],
+            "L5": [[7, "unix"], ["u:1", None], [["u:1"]], {"0": "u:1"}],
+            "B6": [*too_few, numbered(most + 1)],
+        },
+        lambda value: [] if least <= distinct(value) <= most else ["B6"],
+    )
+
+
+NAMED = Kind(
+    list_of(domain_code),
+    ["b.org"],
+    [[], numbered(8, "b{}.org"), [*numbered(8, "b{}.org"), "b0.org"], [OWN]],
+    {code: [[value], ["b.org", value]] for code, [value, *_] in DOMAINS_REFUSED.items()}
+    | {"L5": [[7, ""], ["b.org", {}]], "B7": [numbered(9, "b{}.org")]},
+    over(distinct, 8, "B7"),
+)
+
+
+def texts(most, code):
+    """Texts of at most so many bytes."""
+    return Kind(
+        of_type(str),
+        "x",
+        ["", "x" * most, "é" * (most // 2), '"\\\n\x00\x7f'],
+        {code: ["x" * (most + 1), "é" * (most // 2) + "x"]},
+        over(bytes_in, most, code),
+    )
+
+
+def words(*several):
+    return Kind(word_of(*several), several[0], [*several[1:]], {"L5": [several[0].upper(), several[0] + " ", several[0][:-1]]})
+
+
+NUMBERS = Kind(number_code, 1, [0, MOST_WHOLE, 2**53 + 1])
+SIZES = Kind(number_code, 1, [500], {"B9": [0, 501, MOST_WHOLE]}, lambda value: [] if 1 <= value <= 500 else ["B9"])
+TRIES = Kind(lambda value: number_code(value) or (None if 1 <= value <= 16 else "L5"), 1, [16], {"L5": [0, 17, MOST_WHOLE]})
+STAMPS = Kind(lambda value: None if value is None else number_code(value), 9, [None, 0, 5, 6, MOST_WHOLE])
+OBJECTS = Kind(of_type(dict), None)
+SHOW = {"op": "show", "id": SHOWN}
+OPS = Kind(
+    of_type(list),
+    [SHOW],
+    [[SHOW] * MOST_OPS],
+    {"L5": [[SHOW, 7], [{"op": "mint"}, SHOW], [*[SHOW] * MOST_OPS, {}]], "B1": [[]], "B2": [[SHOW] * (MOST_OPS + 1)]},
+)
+
+# each key's kind, where an operation doesn't name another one
+KINDS = {
+    "id": UUIDS,
+    "from": UUIDS,
+    "token": UUIDS,
+    "parent": PLACES,
+    "identity": PLACES,
+    "workload": WORKLOADS,
+    "agent": AGENT_IDS,
+    "domain": BUNDLES,
+    "partner": PARTNERS,
+    "domains": NAMED,
+    "selectors": selectors(1, 16),
+    "proofs": selectors(0, 64),
+    "hint": texts(1_024, "B8"),
+    "text": texts(65_536, "B12"),
+    "mode": words("restrict", "delete", "dissociate"),
+    "match": words("superset", "exact", "any", "subset"),
+    "size": SIZES,
+    "tries": TRIES,
+    "replied": STAMPS,
+    "ops": OPS,
+    "batch": OBJECTS,
+    "reply": OBJECTS,
+    "event": words("invoke", "begin", "step", "commit", "reply"),
+} | {key: NUMBERS for key in "expiry x509_svid_ttl jwt_svid_ttl revision at before after call invoked".split()}
+
+
+@dataclasses.dataclass
+class Key:
+    """A key of an object: `?` may be left out, `~` only where ids are drawn."""
+
+    name: str
+    kind: Kind
+    optional: bool
+    drawn: bool
+
+
+def keys(text):
+    """Keys from a text: each is NAME, NAME? or NAME~, and behind = the name of its kind where that is another one."""
+    found = []
+    for word in text.split():
+        name, _, kind = word.partition("=")
+        bare = name.rstrip("?~")
+        found.append(Key(bare, KINDS[kind or bare], name.endswith("?"), name.endswith("~")))
+    return found
+
+
+OPERATIONS = {
+    "create": "id~ parent identity=workload selectors hint? domains? expiry? x509_svid_ttl? jwt_svid_ttl?",
+    "update": "id parent identity=workload selectors hint? domains? expiry? x509_svid_ttl? jwt_svid_ttl? revision?",
+    "delete": "id revision?",
+    "show": "id",
+    "show_agent": "agent",
+    "show_bundle": "domain",
+    "children": "parent",
+    "page": "size at? from? parent? identity? domain? selectors? match?",
+    "authorised": "agent",
+    "trust": "agent",
+    "prune": "before",
+    "set_agent": "agent selectors=proofs",
+    "drop_agent": "agent",
+    "set_bundle": "domain=partner text",
+    "drop_bundle": "domain=partner mode?",
+}
+OPERATIONS = {name: keys(text) for name, text in OPERATIONS.items()}
+KINDS["op"] = words(*OPERATIONS)
+QUERIES = "show show_agent show_bundle children page authorised trust".split()
+# a key that is refused where another one isn't given
+NEEDS = {"match": "selectors"}
+
+OP = keys("op")
+REQUEST = keys("ops after? token? tries?")
+BATCH = keys("ops after? token?")
+EVENT = keys("event call")
+INVOKE = keys("event call batch")
+RECORD = keys("batch call invoked replied reply")
