@@ -25,10 +25,12 @@ def lay_out(folder, name, crates, uses, root=ROOT):
     for crate in crates:
         for part in ["src", "specs", "proofs", "out/rlib"]:
             shutil.copytree(root / "crates" / crate / part, folder / "crates" / crate / part)
-    for part in ["src", "c"]:
-        (folder / "crates" / name / part).mkdir(parents=True)
-    shutil.copy(ROOT / "bench" / f"{name}.rattle", folder / "crates" / name / "src/main.rt")
-    shutil.copy(ROOT / "bench/granted.c", folder / "crates" / name / "c/granted.c")
+    made, source = folder / "crates" / name, ROOT / "bench" / f"{name}.rattle"
+    (made / "src").mkdir(parents=True)
+    shutil.copy(source, made / "src/main.rt")
+    if "fn granted()" in source.read_text():
+        (made / "c").mkdir()
+        shutil.copy(ROOT / "bench/granted.c", made / "c/granted.c")
 
 
 def built(folder, name, words):
