@@ -1,50 +1,16 @@
 //! `regd`, a workload registration server.
 //!
-//! - [`Settings`]: what a command line asks for, with a [`ServerPlan`] where that is a server.
-//! - [`Answerer`]: what answers the lines of an input; [`run_lines`]: a run of any of them over the bytes.
-//! - [`plain`]: the program `regd plain`, from the bytes of request lines to the bytes of reply lines; [`schedule`]: the
-//!   program `regd schedule`, from event lines to their answers and the order of the calls; [`record_schedule`]: the same with
-//!   `--record`, to the records of the calls alone; [`audit`]: the program `regd audit`, from records of calls to the verdict on
-//!   them; [`session`]: the lines of one connection, answered through a seat of a shared registry; [`sessions_law`]: what the
-//!   seat has seen only grows; [`serve`]: the program `regd serve`, a session for each connection. [`Program`] and
-//!   [`run_settings`]: the program that the settings ask for, and an [`Outcome`] where it got to its end.
-//! - [`RunFault`], [`ServeFault`] and [`CommandLineFault`]: why a run stopped, why a server did, and why a command line is none.
-//! - [`a_line_gives_its_domain`]: which words give which domain.
-//! - [`Ended`]: what the caller gets to know of that, the exit status and what standard error gets, a [`Told`].
+//! The process: its words are read, the program that they ask for runs over standard input and output or the network, and how it
+//! ended is told by standard error and the exit status. What the programs do stands in `reg_programs`.
 #![tactic(auto)]
 
 ghost use Rattle.std.specs.Prelude.{◌≡◌, ◌<◌, None};
 
-mod acceptor;
-mod audit_engine;
-mod driver;
-mod ended;
-mod faults;
-mod laws;
-mod plain_engine;
-mod programs;
-mod queue;
-mod record_engine;
-mod schedule_engine;
-mod seed;
-mod server;
-mod session_engine;
-mod settings;
-mod told;
-
-pub use audit_engine::audit;
-pub use driver::{Answerer, run_lines};
-pub use ended::Ended;
-pub use faults::{CommandLineFault, RunFault, ServeFault};
-pub use laws::a_line_gives_its_domain;
-pub use plain_engine::plain;
-pub use programs::{Outcome, Program, run_settings};
-pub use record_engine::record_schedule;
 use reg_lines::{CountedDevice, Input, Output};
-pub use schedule_engine::schedule;
-pub use server::serve;
-pub use session_engine::{session, sessions_law};
-pub use settings::{ServerPlan, Settings};
+use reg_programs::{
+    CommandLineFault, Ended, Outcome, RunFault, ServeFault, ServerPlan, Settings, run_settings,
+    serve,
+};
 use shared_registry::Opened;
 use std::marker::Brand;
 use std::net::{Net, TcpListener, TcpStream};
@@ -54,7 +20,6 @@ use std::sync::Wait;
 use std::thread::Threads;
 use std::time::Clock;
 use std::{env, io};
-pub use told::Told;
 
 fn main(rt: HostRuntime) -> ExitCode {
     let ended = match settings_of_process(&rt) {
@@ -116,6 +81,3 @@ fn words_of_process<R: Env + AllocGlobal>(rt: &R) -> Result<Vec<String>, Command
         Err(_) => Err(CommandLineFault::NotText),
     }
 }
-
-#[cfg(test)]
-mod tests;

@@ -1,0 +1,85 @@
+-- What the engine `session` answers to one line.
+use Rattle.std.proofs.Common.{◌≡◌, ◌+◌, ◌≤◌, ◌^◌, ℕ, List, true, false, refl, ap, subst, sym, ◌∙◌}
+use Rattle.std.specs.Prelude.{Ok}
+use Rattle.rand_chacha.specs.ChaCha.{ChaCha}
+use Rattle.spiffe_name.specs.declared.refusals.Failure.{Failure}
+use Rattle.spiffe_name.specs.declared.refusals.Failure.TheVariants.{NoMemory, Refused}
+use Rattle.entry_book.specs.Rows.{Bytes}
+use Rattle.reg_lines.specs.Fields.{Fails}
+use Rattle.reg_lines.specs.Lines.{kept, IsLine}
+use Rattle.reg_lines.specs.Refusals.{failure_json, refusal_json}
+use Rattle.reg_lines.specs.Requests.{spelled}
+use Rattle.reg_lines.specs.SeatLines.{seat_refusal_json}
+use Rattle.reg_lines.specs.Stream.{OutputState, Puts}
+use Rattle.reg_lines.specs.declared.fault.Fault.{Fault}
+use Rattle.reg_lines.specs.declared.printing.refusal.LineRefusal.{LineRefusal}
+use Rattle.reg_lines.specs.declared.printing.seats.SeatRefusal.TheVariants.{Spent}
+use Rattle.reg_lines.specs.declared.reading.request.Request.{Request}
+use Rattle.reg_lines.proofs.Kept.{kept_spells}
+use Rattle.shared_registry.specs.Seated.{Seated}
+use Rattle.reg_programs.specs.Answers.{as_line}
+use Rattle.reg_programs.specs.Driver.{AnswersKept}
+use Rattle.reg_programs.specs.Sessions.{AnswersCall, AnswersRequest, Session, TakesRequestLine, answered, asked, not_read, passed, refused, spent}
+
+-- ---- one line
+
+failed : (domain : Bytes) (now : Session) (line text : List ℕ) (ids : ChaCha) (failure : Failure Fault) → now.ids ≡ ids → Fails failure (spelled domain now.ids line) → text ≡ failure_json (now.lines + 1) failure → TakesRequestLine domain now line text now.seat ids
+failed domain now line text ids NoMemory i e t = record {
+  next = passed now;
+  answers = not_read refl (ap as_line t);
+  seat_is = refl;
+  ids_is = i;
+  lines_is = refl;
+}
+failed domain now line text ids (Refused fault) i e t = record {
+  next = passed now;
+  answers = refused fault e refl (ap as_line t);
+  seat_is = refl;
+  ids_is = i;
+  lines_is = refl;
+}
+
+-- the line spells no request, or memory was wanting
+pub line_refused : (domain : Bytes) (now : Session) (line : List ℕ) (ids : ChaCha) (refusal : LineRefusal) → now.ids ≡ ids → Fails refusal.failure (spelled domain now.ids line) → refusal.line ≡ now.lines + 1 → TakesRequestLine domain now line (refusal_json refusal) now.seat ids
+line_refused domain now line ids refusal i e n = failed domain now line (refusal_json refusal) ids refusal.failure i e (ap (λ k. failure_json k refusal.failure) n)
+
+pub seat_spent : (domain : Bytes) (now : Session) (line : List ℕ) (ids : ChaCha) (request : Request) → spelled domain now.ids line ≡ Ok (request, ids) → 2 ^ 48 ≤ now.seat.calls → TakesRequestLine domain now line (seat_refusal_json (now.lines + 1) Spent) now.seat ids
+seat_spent domain now line ids request e l = record {
+  next = asked now now.seat ids;
+  answers = spent request ids e l refl refl;
+  seat_is = refl;
+  ids_is = refl;
+  lines_is = refl;
+}
+
+pub call_answered : (domain : Bytes) (now : Session) (line text : List ℕ) (seat : Seated) (ids : ChaCha) (request : Request) → spelled domain now.ids line ≡ Ok (request, ids) → AnswersCall domain now.seat request (now.lines + 1) seat text → TakesRequestLine domain now line text seat ids
+call_answered domain now line text seat ids request e a = record {
+  next = asked now seat ids;
+  answers = answered request ids seat text e a refl refl;
+  seat_is = refl;
+  ids_is = refl;
+  lines_is = refl;
+}
+
+-- ---- the line of which bytes are kept
+
+same_state : (a b : Session) → a.seat ≡ b.seat → a.ids ≡ b.ids → a.lines ≡ b.lines → a ≡ b
+same_state a b s i n =
+    let p : Seated → Session = λ x. record { seat = x; ids = a.ids; lines = a.lines } in
+    let q : ChaCha → Session = λ x. record { seat = b.seat; ids = x; lines = a.lines } in
+    let r : ℕ → Session = λ x. record { seat = b.seat; ids = b.ids; lines = x } in
+    ap p s ∙ (ap q i ∙ ap r n)
+
+-- an answer to what is kept of a line is one to the line
+of_kept : (domain : Bytes) (now : Session) (line : List ℕ) (next : Session) (reply : List ℕ) → IsLine line → AnswersRequest domain now (kept line) next reply → AnswersRequest domain now line next reply
+of_kept domain now line next reply is (refused fault e n r) = refused fault (sym (kept_spells domain now.ids line is) ∙ e) n r
+of_kept domain now line next reply is (not_read n r) = not_read n r
+of_kept domain now line next reply is (spent request ids e l n r) = spent request ids (sym (kept_spells domain now.ids line is) ∙ e) l n r
+of_kept domain now line next reply is (answered request ids seat text e a n r) = answered request ids seat text (sym (kept_spells domain now.ids line is) ∙ e) a n r
+
+-- the line of which these bytes are kept was answered
+pub taken : (domain : Bytes) (before after : Session) (bytes text : List ℕ) (old out : OutputState) → TakesRequestLine domain before bytes text after.seat after.ids → after.lines ≡ before.lines + 1 → Puts old out (as_line text) → (now : Session) → now ≡ before → AnswersKept (AnswersRequest domain) (λ _. false) (λ s. s ≡ after) now bytes old out true
+taken domain before after bytes text old out a l p now is =
+    let P : Session → Type 0 = λ s. AnswersKept (AnswersRequest domain) (λ _. false) (λ s. s ≡ after) s bytes old out true in
+    let whole : (line : List ℕ) → IsLine line → bytes ≡ kept line → AnswersRequest domain before line a.next (as_line text) = λ line l k. of_kept domain before line a.next (as_line text) l (subst (λ x. AnswersRequest domain before x a.next (as_line text)) k a.answers) in
+    subst P (sym is) (a.next, as_line text, whole, p, same_state a.next after a.seat_is a.ids_is (a.lines_is ∙ sym l), refl)

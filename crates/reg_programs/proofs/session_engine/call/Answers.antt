@@ -1,0 +1,17 @@
+use Rattle.std.proofs.Common.{◌≡◌, ℕ, true, false, ap, subst, sym, ◌∙◌}
+use Rattle.reg_programs.specs.Sessions.{AnswersCall, line_answer_json, no_reply, outcome_json, submitted}
+use Rattle.shared_registry.specs.Outcomes.{IsSubmitted}
+use Rattle.reg_programs.proofs.session_engine.call.Goals as goal
+
+pub returns-then-is_query : goal.returns-then-is_query
+returns-then-is_query g c = record {
+  answers = no_reply c.in-Err.why (sym c.is_query.ensures.query ∙ c.if-is_query.true) c.in-Err.ensures.entered c.in-Err.ensures.own c.not_answered.ensures;
+}
+
+pub returns : goal.returns
+returns g c =
+    let told = c.outcome_of.ensures ∙ ap (λ (n : ℕ). outcome_json n c.args.line c.submit-outcome.result) c.calls-else-is_query.ensures in
+    let made = subst (λ (n : ℕ). IsSubmitted c.args.seat.now c.submit-outcome.new.seat c.args.request.batch n c.submit-outcome.result) c.count.ensures.value c.submit-outcome.ensures.answer in
+    record {
+      answers = submitted c.submit-outcome.result (sym c.is_query.ensures.query ∙ c.if-is_query.false) c.submit-outcome.ensures.along c.submit-outcome.ensures.heard made told;
+    }

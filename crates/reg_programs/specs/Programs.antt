@@ -1,0 +1,26 @@
+-- What the programs do.
+use Rattle.std.specs.Prelude.{◌≡◌, List, ℕ, Result, Ok, Err}
+use Rattle.reg_lines.specs.Stream.{InputState, OutputState}
+use Rattle.reg_programs.specs.Answers.{RunsPlain}
+use Rattle.reg_programs.specs.Audited.{RunsAudit}
+use Rattle.reg_programs.specs.Recorded.{RunsRecord}
+use Rattle.reg_programs.specs.Schedules.{RunsSchedule}
+use Rattle.reg_programs.specs.declared.faults.RunFault.{RunFault}
+use Rattle.reg_programs.specs.declared.programs.Outcome.{Outcome}
+use Rattle.reg_programs.specs.declared.programs.Outcome.TheVariants.{Done}
+use Rattle.reg_programs.specs.declared.programs.Program.{Program}
+use Rattle.reg_programs.specs.declared.programs.Program.TheVariants.{Audit, Plain, Record, Schedule, Serve}
+
+-- a run that denies nothing
+abbrev pub done_of : Result Unit RunFault → Result Outcome RunFault
+done_of (Ok none) = Ok Done
+done_of (Err fault) = Err fault
+
+-- What a run of this program over an input and an output has done. Only an audit denies.
+abbrev pub RunsAs : Program → List ℕ → List ℕ → InputState → InputState → OutputState → OutputState → Result Outcome RunFault → Type 0
+RunsAs Plain domain seed input rest output out result = (ran : Result Unit RunFault) × (result ≡ done_of ran) × RunsPlain domain seed input rest output out ran
+RunsAs Schedule domain seed input rest output out result = (ran : Result Unit RunFault) × (result ≡ done_of ran) × RunsSchedule domain seed input rest output out ran
+RunsAs Record domain seed input rest output out result = (ran : Result Unit RunFault) × (result ≡ done_of ran) × RunsRecord domain seed input rest output out ran
+RunsAs Audit domain seed input rest output out result = RunsAudit domain input rest output out result
+-- a server has no input and no output of lines
+RunsAs Serve domain seed input rest output out result = ⊥

@@ -1,0 +1,123 @@
+-- What the engine `session` answers, line by line.
+use Rattle.std.specs.Prelude.{◌≡◌, ◌≤◌, ◌^◌, ℕ, ◌+◌, true, false, List, [], Result, Ok, Err, refl}
+use Rattle.rand_chacha.specs.ChaCha.{ChaCha}
+use Rattle.entry_book.specs.Batches.{is_query}
+use Rattle.entry_book.specs.History.{books_of, reply_to}
+use Rattle.entry_book.specs.Rows.{Bytes}
+use Rattle.entry_book.specs.declared.reply.Outcome.TheVariants.{Committed as WasCommitted, Repeated as WasRepeated}
+use mathlib.Core.List.{IsPrefix}
+use Rattle.commit_head.specs.Journals.{IsLawfulJournal, batches_of}
+use Rattle.reg_lines.specs.Refusals.{fault_json, no_memory_json, refusal_json}
+use Rattle.reg_lines.specs.Replies.{conflict_json, reply_json}
+use Rattle.reg_lines.specs.Requests.{spelled}
+use Rattle.reg_lines.specs.Runs.{IsRun}
+use Rattle.reg_lines.specs.SeatLines.{seat_refusal_json}
+use Rattle.reg_lines.specs.Stream.{InputState, OutputState}
+use Rattle.reg_lines.specs.declared.fault.Fault.{Fault}
+use Rattle.reg_lines.specs.declared.printing.seats.SeatRefusal.TheVariants.{Spent, NoEntry as WasNotLetIn}
+use Rattle.reg_lines.specs.declared.reading.request.Request.{Request}
+use Rattle.shared_registry.specs.Outcomes.{HasHeard, IsSubmitted}
+use Rattle.shared_registry.specs.Seated.{Along, Entered, Seated, Stays}
+use Rattle.shared_registry.specs.declared.outcome.Outcome.{Outcome}
+use Rattle.shared_registry.specs.declared.outcome.Outcome.TheVariants.{Committed, Repeated, Refused, Conflict, NoMemory, NoEntry}
+use Rattle.shared_registry.specs.declared.seat.NoAnswer.{NoAnswer}
+use Rattle.shared_registry.specs.declared.seat.NoAnswer.TheVariants as no
+use Rattle.reg_programs.specs.Answers.{as_line}
+use Rattle.reg_programs.specs.Driver.{ClosesAs, RunsOver}
+use Rattle.reg_programs.specs.declared.faults.RunFault.{RunFault}
+use Rattle.reg_programs.specs.declared.session_engine.LineAnswer.{LineAnswer}
+use Rattle.reg_programs.specs.declared.session_engine.LineAnswer.TheVariants.{Shared, Own, Conflicted, NotAnswered, NotRead}
+
+-- What a session has come to: the seat, which counts its calls, with the lists that it has seen and was told of; the ids that are still to be given; and how many lines were read.
+pub record Session : Type 0 where
+  pub seat : Seated
+  pub ids : ChaCha
+  pub lines : ℕ
+
+-- before the first line
+abbrev pub start : Seated → ChaCha → Session
+start seat ids = record { seat = seat; ids = ids; lines = 0 }
+
+-- a line that spelled no request
+abbrev pub passed : Session → Session
+passed now = record now { lines = now.lines + 1 }
+
+-- a line that spelled a request, which left the seat so, and these ids
+abbrev pub asked : Session → Seated → ChaCha → Session
+asked now seat ids = record { seat = seat; ids = ids; lines = now.lines + 1 }
+
+-- ---- what a call of the seat is answered, as it is printed: the call of this number, by the line of this number
+
+abbrev pub no_answer_json : ℕ → NoAnswer → List ℕ
+no_answer_json line no.NoMemory = no_memory_json line
+no_answer_json line no.NoEntry = seat_refusal_json line WasNotLetIn
+
+abbrev pub outcome_json : ℕ → ℕ → Outcome → List ℕ
+outcome_json call line (Committed n replies) = reply_json call (record { place = n; outcome = WasCommitted replies })
+outcome_json call line (Repeated n replies) = reply_json call (record { place = n; outcome = WasRepeated replies })
+outcome_json call line (Refused reply) = reply_json call reply
+outcome_json call line (Conflict n) = conflict_json call n
+outcome_json call line NoMemory = no_memory_json line
+outcome_json call line NoEntry = seat_refusal_json line WasNotLetIn
+
+-- ---- a call of the seat, and its answer
+
+-- What a seat is answered to a request, as it is printed, and what the seat is then. A question has the plain book's reply on the books of what the seat has then seen. A batch of changes is answered as the registry promises it, with the tries that the request gives.
+pub data AnswersCall (domain : Bytes) (s : Seated) (request : Request) (line : ℕ) (t : Seated) (text : List ℕ) : Type 0 where
+  replied : is_query request.batch.ops ≡ true → Entered domain s t → t.own ≡ s.own → text ≡ reply_json t.calls (reply_to request.batch (books_of (batches_of t.seen))) → AnswersCall domain s request line t text
+  no_reply : (why : NoAnswer) → is_query request.batch.ops ≡ true → Stays domain s t → t.own ≡ s.own → text ≡ no_answer_json line why → AnswersCall domain s request line t text
+  submitted : (outcome : Outcome) → is_query request.batch.ops ≡ false → Along domain s t → HasHeard s t outcome → IsSubmitted s t request.batch request.tries outcome → text ≡ outcome_json t.calls line outcome → AnswersCall domain s request line t text
+
+-- ---- a line, and its answer
+
+-- The reply that a line may get in a session, and what the session has come to then. A line that spells a request makes one call of the seat, and has drawn the ids of its creates, whatever it is answered; a seat with no call number left makes none. Where memory is wanting to read the line, it is answered so, and changes nothing.
+pub data AnswersRequest (domain : Bytes) (now : Session) (line : List ℕ) (next : Session) (reply : List ℕ) : Type 0 where
+  refused : (fault : Fault) → spelled domain now.ids line ≡ Err fault → next ≡ passed now → reply ≡ as_line (fault_json (now.lines + 1) fault) → AnswersRequest domain now line next reply
+  not_read : next ≡ passed now → reply ≡ as_line (no_memory_json (now.lines + 1)) → AnswersRequest domain now line next reply
+  spent : (request : Request) (ids : ChaCha) → spelled domain now.ids line ≡ Ok (request, ids) → 2 ^ 48 ≤ now.seat.calls → next ≡ asked now now.seat ids → reply ≡ as_line (seat_refusal_json (now.lines + 1) Spent) → AnswersRequest domain now line next reply
+  answered : (request : Request) (ids : ChaCha) (seat : Seated) (text : List ℕ) → spelled domain now.ids line ≡ Ok (request, ids) → AnswersCall domain now.seat request (now.lines + 1) seat text → next ≡ asked now seat ids → reply ≡ as_line text → AnswersRequest domain now line next reply
+
+-- Each line has an answer in every state, at least that memory is wanting.
+pub a_request_answer : (domain : Bytes) (now : Session) (line : List ℕ) → (next : Session) × (reply : List ℕ) × AnswersRequest domain now line next reply
+a_request_answer domain now line = (passed now, as_line (no_memory_json (now.lines + 1)), not_read refl refl)
+
+-- ---- a run
+
+-- no text comes behind the last reply, and the seat is left as the run has left it
+abbrev pub LeavesSeat : Seated → Session → List ℕ → Type 0
+LeavesSeat left last end = (end ≡ []) × (last.seat ≡ left)
+
+-- What a run of the engine over an input and an output has done: it is a run of lines, and where it got to its end, it left the seat so.
+abbrev pub RunsSession : {T : Type 0} → Bytes → Seated → ChaCha → InputState → InputState → OutputState → OutputState → Seated → Result T RunFault → Type 0
+RunsSession domain seat ids input rest output out left result = RunsOver (AnswersRequest domain) (LeavesSeat left) ⊥ (start seat ids) input rest output out result
+
+-- ---- what the engine answers to a line
+
+abbrev pub line_answer_json : LineAnswer → List ℕ
+line_answer_json (Shared call reply) = reply_json call reply
+line_answer_json (Own call reply) = reply_json call reply
+line_answer_json (Conflicted conflict) = conflict_json conflict.call conflict.place
+line_answer_json (NotAnswered r) = seat_refusal_json r.line r.refusal
+line_answer_json (NotRead r) = refusal_json r
+
+-- One line was taken: its reply has this text, and this is where it left the seat and the ids.
+pub record TakesRequestLine (domain : Bytes) (now : Session) (line : List ℕ) (text : List ℕ) (seat : Seated) (ids : ChaCha) : Type 0 where
+  pub next : Session
+  pub answers : AnswersRequest domain now line next (as_line text)
+  pub seat_is : next.seat ≡ seat
+  pub ids_is : next.ids ≡ ids
+  pub lines_is : next.lines ≡ now.lines + 1
+
+-- ---- a law: what the seat of a session has seen only grows
+
+-- The seat is the same one, and has made no fewer calls. What it has seen begins with what it had seen, and is a lawful journal, if that was one.
+pub record Grew (domain : Bytes) (s t : Seated) : Type 0 where
+  pub number : t.number ≡ s.number
+  pub calls : s.calls ≤ t.calls
+  pub seen : IsPrefix s.seen t.seen
+  pub lawful : IsLawfulJournal domain s.seen → IsLawfulJournal domain t.seen
+  pub told : t.told ≡ s.told
+
+-- So the books on which a session was answered are those of beginnings of one lawful journal: of what the seat has seen in the end.
+abbrev pub SessionsGrow : Type 0
+SessionsGrow = (domain : Bytes) (lines : List (List ℕ)) (first last : Session) (text : List ℕ) → IsRun (AnswersRequest domain) first lines last text → Grew domain first.seat last.seat

@@ -1,0 +1,104 @@
+//! Why did a run not get to its end?
+
+ghost use Rattle.std.specs.Prelude.{◌≡◌};
+ghost use Rattle.reg_programs.specs.Conversions.{fault_of_domain, fault_of_refusal};
+ghost use Rattle.reg_programs.specs.declared.faults.CommandLineFault.TheVariants.{NoMemory};
+
+use clap::error::ErrorKind;
+use spiffe_name::{Failure, IdRefusal};
+use std::alloc::AllocError;
+
+/// Why a run stopped.
+#[derive(Clone, Copy, Debug, PartialEq, Eq, Drop)]
+pub enum RunFault {
+    /// A read of the input failed.
+    Input,
+    /// A write of the output failed, or a flush.
+    Output,
+    /// Memory was wanting before the first line was read, or for the text behind the last reply.
+    NoMemory,
+}
+
+impl From<AllocError> for RunFault {
+    ghost use Rattle.reg_programs.specs.declared.faults.RunFault.TheVariants.{NoMemory as WantOfMemory};
+
+    ghost from_gives = { λ _ fault. fault ≡ WantOfMemory };
+
+    fn from(_: AllocError) -> RunFault {
+        RunFault::NoMemory
+    }
+}
+
+/// Why a server ended before its last connection did.
+#[derive(Clone, Copy, Debug, PartialEq, Eq, Drop)]
+pub enum ServeFault {
+    /// It can't listen at the address.
+    Listen,
+    /// A write of the address that it got failed.
+    Output,
+    /// No connection can be accepted any more.
+    Accept,
+    /// A worker got no seat.
+    NoSeat,
+    /// Memory was wanting before the first connection was accepted, or a thread for a worker.
+    NoMemory,
+}
+
+impl From<AllocError> for ServeFault {
+    ghost use Rattle.reg_programs.specs.declared.faults.ServeFault.TheVariants.{NoMemory as WantOfMemory};
+
+    ghost from_gives = { λ _ fault. fault ≡ WantOfMemory };
+
+    fn from(_: AllocError) -> ServeFault {
+        ServeFault::NoMemory
+    }
+}
+
+/// Why a command line is none.
+#[derive(Debug, Drop)]
+pub enum CommandLineFault {
+    /// The command-line parser refuses the words, or they ask for help.
+    Refused(clap::Error),
+    /// The domain isn't one, for this reason.
+    Domain(IdRefusal),
+    /// The seed isn't 64 lower-case hexadecimal digits.
+    Seed,
+    /// Where to listen isn't an IPv4 address with a port.
+    Address,
+    /// A number isn't one of those that it may be. The command-line parser refuses it first.
+    Number,
+    /// A word isn't text.
+    NotText,
+    /// Memory was wanting.
+    NoMemory,
+}
+
+impl From<AllocError> for CommandLineFault {
+    ghost from_gives = { λ _ fault. fault ≡ NoMemory };
+
+    fn from(_: AllocError) -> CommandLineFault {
+        CommandLineFault::NoMemory
+    }
+}
+
+impl From<clap::Error> for CommandLineFault {
+    ghost from_gives = { λ error fault. fault ≡ fault_of_refusal error };
+
+    fn from(error: clap::Error) -> CommandLineFault {
+        match error.kind() {
+            ErrorKind::OutOfMemory => CommandLineFault::NoMemory,
+            _ => CommandLineFault::Refused(error),
+        }
+    }
+}
+
+impl From<Failure<IdRefusal>> for CommandLineFault {
+    ghost from_gives = { λ failure fault. fault ≡ fault_of_domain failure };
+
+    fn from(failure: Failure<IdRefusal>) -> CommandLineFault {
+        match failure {
+            Failure::NoMemory => CommandLineFault::NoMemory,
+            Failure::Refused(refusal) => CommandLineFault::Domain(refusal),
+        }
+    }
+}

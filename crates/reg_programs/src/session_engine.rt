@@ -1,0 +1,267 @@
+//! How is an input of request lines answered through a seat of a shared registry?
+
+ghost use Rattle.std.specs.Prelude.{◌≡◌, ◌+◌, ◌<◌, ◌^◌, [], true, false};
+ghost use Rattle.entry_book.specs.Batches.{is_query};
+ghost use Rattle.reg_programs.specs.Sessions.{AnswersCall, RunsSession, Session, SessionsGrow, TakesRequestLine, line_answer_json, no_answer_json, outcome_json};
+
+use crate::driver::{Answerer, run_lines};
+use crate::faults::RunFault;
+use entry_book::{Outcome as BatchOutcome, Reply, Shared};
+use reg_lines::{
+    CallConflict, CallReply, Ids, Input, LineRefusal, Output, PrintJson, Request, SeatRefusal,
+    SeatRefused, Sink, Source, print_line, read_request,
+};
+use shared_registry::{Naming, NoAnswer, OpenGate, Outcome, Registry, Seat};
+use spiffe_name::{Failure, TrustDomain};
+use std::alloc::{AllocError, Global};
+use std::marker::Model;
+use std::sync::Wait;
+
+/// Answers each line of the input through the seat, in order, and hands the seat back. Creates that come without an id get the
+/// ids, in order.
+///
+/// The replies are out before each read that may wait, and at the end.
+pub fn session<J: Naming, R: Wait, S: Source, K: Sink>(
+    rt: &R,
+    alloc: Global,
+    registry: &Registry<J>,
+    domain: &TrustDomain,
+    seat: Seat<J>,
+    ids: Ids,
+    input: &mut Input<S>,
+    output: &mut Output<K>,
+) -> (Seat<J>, Result<(), RunFault>)
+    requires domain { domain.now ≡ J.domain }
+    requires input { input.old.failures ≡ 0 }
+    requires output { output.old.failures ≡ 0 }
+    requires none_held { output.old.held ≡ [] }
+    ensures { RunsSession J.domain seat ids input.old input.new output.old output.new result.0 result.1 }
+{
+    let mut run = SessionRun {
+        rt,
+        registry,
+        domain,
+        seat,
+        ids,
+        lines: 0,
+    };
+    let ran = run_lines(alloc, &mut run, input, output);
+    (run.into_seat(), ran)
+}
+
+/// A seat that answers lines, the ids that it gives, and how many lines were read.
+#[derive(Drop)]
+struct SessionRun<'a, J: Naming, R: Wait> {
+    rt: &'a R,
+    registry: &'a Registry<J>,
+    domain: &'a TrustDomain,
+    seat: Seat<J>,
+    ids: Ids,
+    lines: u64,
+}
+
+impl<'a, J: Naming, R: Wait> Model for SessionRun<'a, J, R> {
+    ghost use Rattle.std.specs.Prelude.{◌≡◌};
+    ghost use Rattle.reg_programs.specs.Sessions.{Session};
+
+    ghost Value = { Session };
+
+    ghost view = { λ r. record { seat = r.seat; ids = r.ids; lines = r.lines } };
+
+    ghost invariant = { λ r. r.domain.now ≡ J.domain };
+}
+
+impl<'a, J: Naming, R: Wait> SessionRun<'a, J, R> {
+    ghost use Rattle.std.specs.Prelude.{◌≡◌};
+
+    /// The seat, taken out.
+    fn into_seat(self) -> Seat<J>
+        ensures { result ≡ self.entry.seat }
+    {
+        self.seat
+    }
+}
+
+impl<'a, J: Naming, R: Wait> Answerer for SessionRun<'a, J, R> {
+    ghost use Rattle.std.specs.Prelude.{◌≡◌, ⊤, [], false};
+    ghost use Rattle.reg_programs.specs.Sessions.{AnswersRequest, Session, a_request_answer};
+
+    ghost State = { Session };
+
+    ghost Setting = { ⊤ };
+
+    ghost setting = { λ _. tt };
+
+    ghost stands = { λ r s. s ≡ r };
+
+    ghost lines = { λ r. r.lines };
+
+    ghost answers = { λ _. AnswersRequest J.domain };
+
+    ghost ends = { λ _. false };
+
+    ghost closes = { λ _ _ end. end ≡ [] };
+
+    ghost wants = { ⊥ };
+
+    ghost some_answer = { λ _. a_request_answer J.domain };
+
+    fn answer<K: Sink>(&mut self, alloc: Global, line: &[u8], output: &mut Output<K>) -> bool {
+        let answer = take(
+            self.rt,
+            alloc,
+            self.registry,
+            self.domain,
+            &mut self.seat,
+            &mut self.ids,
+            self.lines,
+            line,
+        );
+        self.lines += 1;
+        print_line(&answer, output);
+        true
+    }
+
+    /// No text comes behind the last reply.
+    fn close<K: Sink>(&mut self, _: Global, _: &mut Output<K>) -> Result<(), AllocError> {
+        Ok(())
+    }
+}
+
+/// What a line is answered.
+#[derive(Drop)]
+pub(crate) enum LineAnswer {
+    /// The call of this number has this reply, which the registry made.
+    Shared(u64, Shared<Reply>),
+    /// The call of this number has this reply.
+    Own(u64, Reply),
+    /// Its changes were given up for those of others.
+    Conflicted(CallConflict),
+    /// The seat has no answer.
+    NotAnswered(SeatRefused),
+    /// It spells no request, or memory was wanting.
+    NotRead(LineRefusal),
+}
+
+impl PrintJson for LineAnswer {
+    ghost text = { line_answer_json };
+
+    fn print_to<S: Sink>(&self, output: &mut Output<S>) {
+        match self {
+            LineAnswer::Shared(call, reply) => {
+                let call = *call;
+                let reply = reply.get();
+                CallReply { call, reply }.print_to(output);
+            }
+            LineAnswer::Own(call, reply) => {
+                let call = *call;
+                CallReply { call, reply }.print_to(output);
+            }
+            LineAnswer::Conflicted(conflict) => conflict.print_to(output),
+            LineAnswer::NotAnswered(refused) => refused.print_to(output),
+            LineAnswer::NotRead(refusal) => refusal.print_to(output),
+        }
+    }
+}
+
+/// Takes one line, of which `lines` came before: what it is answered.
+fn take<J: Naming, R: Wait>(
+    rt: &R,
+    alloc: Global,
+    registry: &Registry<J>,
+    domain: &TrustDomain,
+    seat: &mut Seat<J>,
+    ids: &mut Ids,
+    lines: u64,
+    line: &[u8],
+) -> LineAnswer
+    requires domain { domain.now ≡ J.domain }
+    requires lines { lines + 1 < 2 ^ 64 }
+    ensures line { TakesRequestLine J.domain (record { seat = seat.old; ids = ids.old; lines = lines }) line.now (line_answer_json result) seat.new ids.new }
+{
+    match read_request(alloc, domain, ids, line, lines + 1) {
+        Err(refusal) => LineAnswer::NotRead(refusal),
+        Ok(request) => {
+            if seat.has_calls() {
+                call(rt, registry, seat, request, lines + 1)
+            } else {
+                LineAnswer::NotAnswered(SeatRefused {
+                    line: lines + 1,
+                    refusal: SeatRefusal::Spent,
+                })
+            }
+        }
+    }
+}
+
+/// Makes a call of the seat, for the request of the line of this number: what it is answered.
+fn call<J: Naming, R: Wait>(
+    rt: &R,
+    registry: &Registry<J>,
+    seat: &mut Seat<J>,
+    request: Request,
+    line: u64,
+) -> LineAnswer
+    requires domain { request.batch.domain ≡ J.domain }
+    requires calls { seat.old.calls < 2 ^ 48 }
+    ensures answers { AnswersCall J.domain seat.old request line seat.new (line_answer_json result) }
+{
+    let Request { batch, tries } = request;
+    if batch.is_query() {
+        match registry.query(seat, &batch) {
+            Ok(reply) => LineAnswer::Shared(seat.calls(), reply),
+            Err(why) => not_answered(line, why),
+        }
+    } else {
+        let outcome = registry.submit(rt, seat, &OpenGate, batch, tries.count() as u32);
+        outcome_of(seat.calls(), line, outcome)
+    }
+}
+
+/// Why the line of this number has no answer.
+fn not_answered(line: u64, why: NoAnswer) -> LineAnswer
+    ensures { line_answer_json result ≡ no_answer_json line why }
+{
+    match why {
+        NoAnswer::NoMemory => LineAnswer::NotRead(LineRefusal {
+            line,
+            failure: Failure::NoMemory,
+        }),
+        NoAnswer::NoEntry => LineAnswer::NotAnswered(SeatRefused {
+            line,
+            refusal: SeatRefusal::NoEntry,
+        }),
+    }
+}
+
+/// What became of the batch of changes that the call of this number handed in, for the line of this number.
+fn outcome_of(call: u64, line: u64, outcome: Outcome) -> LineAnswer
+    ensures { line_answer_json result ≡ outcome_json call line outcome }
+{
+    match outcome {
+        Outcome::Committed(place, replies) => LineAnswer::Own(
+            call,
+            Reply {
+                place,
+                outcome: BatchOutcome::Committed(replies),
+            },
+        ),
+        Outcome::Repeated(place, replies) => LineAnswer::Own(
+            call,
+            Reply {
+                place,
+                outcome: BatchOutcome::Repeated(replies),
+            },
+        ),
+        Outcome::Refused(reply) => LineAnswer::Shared(call, reply),
+        Outcome::Conflict(place) => LineAnswer::Conflicted(CallConflict { call, place }),
+        Outcome::NoMemory => not_answered(line, NoAnswer::NoMemory),
+        Outcome::NoEntry => not_answered(line, NoAnswer::NoEntry),
+    }
+}
+
+/// What the seat of a session has seen only grows, whatever the lines and their answers are. This function has no code: it is a fact
+/// to cite.
+pub fn sessions_law()
+    ensures { SessionsGrow }
+{}

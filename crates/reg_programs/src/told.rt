@@ -1,0 +1,64 @@
+//! What does standard error get at the end of a run?
+
+ghost use Rattle.reg_programs.specs.Ends.{told_text};
+
+use spiffe_name::IdRefusal;
+use std::fmt;
+use std::fmt::Display;
+
+/// What standard error gets: the text that this displays, with the line feed at its end.
+#[derive(Debug, Drop)]
+pub enum Told<E> {
+    /// Nothing.
+    Nothing,
+    /// The command-line parser's own text.
+    Parser(E),
+    /// A read of the input failed.
+    Input,
+    /// A write of the output failed, or a flush.
+    Output,
+    /// Memory was wanting.
+    NoMemory,
+    /// The server can't listen at its address.
+    Listen,
+    /// No connection can be accepted any more.
+    Accept,
+    /// A worker got no seat.
+    NoSeat,
+    /// The domain isn't one, for this reason.
+    Domain(IdRefusal),
+    /// The seed isn't 64 lower-case hexadecimal digits.
+    Seed,
+    /// Where to listen isn't an IPv4 address with a port.
+    Address,
+    /// A number isn't one of those that it may be.
+    Number,
+    /// A word isn't text.
+    NotText,
+}
+
+impl<E: Display> Display for Told<E> {
+    ghost output = { told_text E.output };
+
+    fn fmt<W: fmt::Write>(&self, f: &mut fmt::Formatter<W>) -> fmt::Result {
+        match self {
+            Told::Nothing => Ok(()),
+            Told::Parser(error) => error.fmt(f),
+            Told::Input => f.write_str("regd: input failed\n"),
+            Told::Output => f.write_str("regd: output failed\n"),
+            Told::NoMemory => f.write_str("regd: out of memory\n"),
+            Told::Listen => f.write_str("regd: listen failed\n"),
+            Told::Accept => f.write_str("regd: accept failed\n"),
+            Told::NoSeat => f.write_str("regd: no seat\n"),
+            Told::Domain(refusal) => {
+                f.write_str("regd: domain ")?;
+                f.write_str(refusal.code())?;
+                f.write_str("\n")
+            }
+            Told::Seed => f.write_str("regd: seed\n"),
+            Told::Address => f.write_str("regd: listen\n"),
+            Told::Number => f.write_str("regd: number\n"),
+            Told::NotText => f.write_str("regd: a word isn't UTF-8\n"),
+        }
+    }
+}

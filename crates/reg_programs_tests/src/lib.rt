@@ -1,0 +1,42 @@
+//! What do the programs of `regd` answer, line by line, and how do they end?
+//!
+//! The crate has tests alone, over the public calls of `reg_programs`:
+//!
+//! - `command_lines`: command lines and what is told of them, word for word.
+//! - `engine`: runs of the engines over memory, told by tables. On it stand `story`, `operations`, `refusals`, `ids`, `limits`,
+//!   `pages`, `places`, `tokens`, `runs` (request lines), `schedules` (event lines), `records` and `audits` (recorded calls).
+//! - `sessions`: the lines of one connection over memory; `serving`: a server over TCP, both ends in one process.
+#![tactic(auto)]
+
+#[cfg(test)]
+mod audits;
+#[cfg(test)]
+mod command_lines;
+#[cfg(test)]
+mod engine;
+#[cfg(test)]
+mod ids;
+#[cfg(test)]
+mod limits;
+#[cfg(test)]
+mod operations;
+#[cfg(test)]
+mod pages;
+#[cfg(test)]
+mod places;
+#[cfg(test)]
+mod records;
+#[cfg(test)]
+mod refusals;
+#[cfg(test)]
+mod runs;
+#[cfg(test)]
+mod schedules;
+#[cfg(test)]
+mod serving;
+#[cfg(test)]
+mod sessions;
+#[cfg(test)]
+mod story;
+#[cfg(test)]
+mod tokens;

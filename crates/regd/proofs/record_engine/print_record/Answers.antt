@@ -1,7 +1,0 @@
-use Rattle.reg_lines.proofs.Puts.{Puts-same}
-use Rattle.regd.proofs.Recording.{told_line}
-use Rattle.regd.proofs.record_engine.print_record.Goals as goal
-
-pub returns-in-Some-of : goal.returns-in-Some-of
-returns-in-Some-of g c = λ r of.
-    Puts-same _ _ _ _ (told_line c.args.machine.now.calls c.args.call r c.in-Some.known c.in-Some-of.record of c.in-Some.ensures c.in-Some-of.ensures) c.print_line.ensures
