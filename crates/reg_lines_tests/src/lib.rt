@@ -1,7 +1,7 @@
 //! What do lines spell, what is printed, and how do bytes come in and go out?
 //!
 //! The crate has tests alone, over the public calls of `reg_lines`: what their clauses leave open, and each call once where
-//! it succeeds. Runs over devices that are slow or fail are tests of `regd`.
+//! it succeeds. Runs over devices that are slow or fail are tests of `reg_programs`.
 //!
 //! - `frames`, `requests`, `operations`, `pages`, `tokens` and `ids`: what lines spell, told in the words of `spelled`.
 //! - `events`: what the lines of events spell.
