@@ -81,36 +81,58 @@ fn the_first_operations_least_fault_is_told(rt: HostRuntime) -> Result<(), Fail>
     Ok(())
 }
 
-#[test]
-fn only_batches_of_questions_are_queries(rt: HostRuntime) -> Result<(), Fail> {
-    let alloc = rt.alloc();
+/// A question, and this operation behind it.
+fn behind_a_question(alloc: Global, op: Op) -> Result<Sequence<Op>, Fail> {
+    let mut ops = Sequence::empty(alloc);
+    ops.push(authorised(alloc, N1)?)?;
+    ops.push(op)?;
+    Ok(ops)
+}
+
+/// Is a batch of a question and this operation a query, or not, as the operation is a question, or not?
+fn asks(rt: &impl Abort, alloc: Global, op: Op, is_question: bool) -> Result<(), Fail> {
+    assert_eq!(*rt; op.is_question(), is_question);
+    let ops = behind_a_question(alloc, op)?;
     let own = TrustDomain::parse(alloc, "ex.org")?;
-    for (op, is_question) in [
-        (create(alloc, new_entry(alloc, N1, WEB)?)?, false),
-        (update(alloc, new_entry(alloc, N1, WEB)?)?, false),
-        (Op::Delete(uuid(), None), false),
-        (Op::Show(uuid()), true),
-        (Op::ShowAgent(id(alloc, N1)?), true),
-        (Op::ShowBundle(domain(alloc, "ex.org")?), true),
-        (Op::Children(id(alloc, N1)?), true),
-        (page(alloc, 500, None)?, true),
-        (authorised(alloc, N1)?, true),
-        (Op::Trust(id(alloc, N1)?), true),
-        (Op::Prune(0), false),
-        (Op::SetAgent(agent(alloc, N1, 0)?), false),
-        (Op::DropAgent(id(alloc, N1)?), false),
-        (set_bundle(alloc, "d100", 0)?, false),
-        (drop_bundle(alloc, "d100")?, false),
-    ] {
-        assert_eq!(rt; op.is_question(), is_question);
-        let mut ops = Sequence::empty(alloc);
-        ops.push(authorised(alloc, N1)?)?;
-        ops.push(op)?;
-        let batch = Batch::new(alloc, &own, ops, 0, None)?.clone()?;
-        assert_eq!(rt; batch.is_query(), is_question);
-        assert_eq!(rt; batch.domain().as_str(), "ex.org");
-    }
+    let batch = Batch::new(alloc, &own, ops, 0, None)?.clone()?;
+    assert_eq!(*rt; batch.is_query(), is_question);
+    assert_eq!(*rt; batch.domain().as_str(), "ex.org");
     Ok(())
+}
+
+#[test]
+fn batches_of_questions_are_queries(rt: HostRuntime) -> Result<(), Fail> {
+    let alloc = rt.alloc();
+    asks(&rt, alloc, Op::Show(uuid()), true)?;
+    asks(&rt, alloc, Op::ShowAgent(id(alloc, N1)?), true)?;
+    asks(&rt, alloc, Op::ShowBundle(domain(alloc, "ex.org")?), true)?;
+    asks(&rt, alloc, Op::Children(id(alloc, N1)?), true)?;
+    asks(&rt, alloc, page(alloc, 500, None)?, true)?;
+    asks(&rt, alloc, authorised(alloc, N1)?, true)?;
+    asks(&rt, alloc, Op::Trust(id(alloc, N1)?), true)
+}
+
+#[test]
+fn batches_with_a_change_are_no_queries(rt: HostRuntime) -> Result<(), Fail> {
+    let alloc = rt.alloc();
+    asks(
+        &rt,
+        alloc,
+        create(alloc, new_entry(alloc, N1, WEB)?)?,
+        false,
+    )?;
+    asks(
+        &rt,
+        alloc,
+        update(alloc, new_entry(alloc, N1, WEB)?)?,
+        false,
+    )?;
+    asks(&rt, alloc, Op::Delete(uuid(), None), false)?;
+    asks(&rt, alloc, Op::Prune(0), false)?;
+    asks(&rt, alloc, Op::SetAgent(agent(alloc, N1, 0)?), false)?;
+    asks(&rt, alloc, Op::DropAgent(id(alloc, N1)?), false)?;
+    asks(&rt, alloc, set_bundle(alloc, "d100", 0)?, false)?;
+    asks(&rt, alloc, drop_bundle(alloc, "d100")?, false)
 }
 
 #[test]
@@ -157,21 +179,27 @@ fn ids_of_agents_at_their_boundaries(rt: HostRuntime) -> Result<(), Fail> {
 }
 
 #[test]
-fn parents_and_bundles_at_their_boundaries(rt: HostRuntime) -> Result<(), Fail> {
+fn parents_at_their_boundaries(rt: HostRuntime) -> Result<(), Fail> {
     let alloc = rt.alloc();
-    for (op, code) in [
-        (Op::Children(id(alloc, N1)?), ""),
-        (Op::Children(id(alloc, SERVER)?), ""),
-        (Op::Children(id(alloc, FOREIGN)?), "B3"),
-        (Op::Children(id(alloc, BARE)?), "B4"),
-        (Op::ShowBundle(domain(alloc, "ex.org")?), ""),
-        (set_bundle(alloc, "ex.org", 65537)?, "B11"),
-        (set_bundle(alloc, "d100", 65536)?, ""),
-        (set_bundle(alloc, "d100", 65537)?, "B12"),
-        (drop_bundle(alloc, "ex.org")?, "B11"),
-        (drop_bundle(alloc, "d100")?, ""),
+    for (parent, code) in [(N1, ""), (SERVER, ""), (FOREIGN, "B3"), (BARE, "B4")] {
+        check(&rt, alloc, Op::Children(id(alloc, parent)?), code)?;
+    }
+    Ok(())
+}
+
+#[test]
+fn bundles_at_their_boundaries(rt: HostRuntime) -> Result<(), Fail> {
+    let alloc = rt.alloc();
+    check(&rt, alloc, Op::ShowBundle(domain(alloc, "ex.org")?), "")?;
+    for (of, length, code) in [
+        ("ex.org", 65537, "B11"),
+        ("d100", 65536, ""),
+        ("d100", 65537, "B12"),
     ] {
-        check(&rt, alloc, op, code)?;
+        check(&rt, alloc, set_bundle(alloc, of, length)?, code)?;
+    }
+    for (of, code) in [("ex.org", "B11"), ("d100", "")] {
+        check(&rt, alloc, drop_bundle(alloc, of)?, code)?;
     }
     Ok(())
 }

@@ -1,5 +1,6 @@
 pub mod Auditing
 pub mod Calling
+pub mod Confirming
 pub mod Driving
 pub mod Growing
 pub mod Lines

@@ -2,6 +2,7 @@ pub mod Answers
 pub mod Asked
 pub mod Audited
 pub mod CommandLine
+pub mod Confirmed
 pub mod Conversions
 pub mod Driver
 pub mod Ends

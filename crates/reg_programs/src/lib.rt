@@ -11,7 +11,8 @@
 //! - [`serve`]: the program `regd serve`, a session for each connection; [`serve_connections`]: the same at a listener that is
 //!   there already, with the workers' seats ([`seats_of`]) and a [`Queue`] of connections for each ([`queues_of`]).
 //! - [`RunFault`], [`ServeFault`] and [`CommandLineFault`]: why a run stopped, why a server did, and why a command line is none.
-//! - [`a_line_gives_its_domain`]: which words give which domain.
+//! - [`a_line_gives_its_domain`]: which words give which domain; [`recorded_runs_are_confirmed`]: the records that a schedule
+//!   leaves are audited yes.
 //! - [`Ended`]: what the caller gets to know of that, the exit status and what standard error gets, a [`Told`].
 #![tactic(auto)]
 
@@ -36,7 +37,7 @@ pub use audit_engine::audit;
 pub use driver::{Answerer, run_lines};
 pub use ended::Ended;
 pub use faults::{CommandLineFault, RunFault, ServeFault};
-pub use laws::a_line_gives_its_domain;
+pub use laws::{a_line_gives_its_domain, recorded_runs_are_confirmed};
 pub use plain_engine::plain;
 pub use programs::{Outcome, Program, run_settings};
 pub use queue::{Queue, queues_of};
