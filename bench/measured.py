@@ -24,7 +24,8 @@ def lay_out(folder, name, crates, uses, root=ROOT):
     (folder / "crates.txt").write_text("\n".join([*lines, f"{name}: {uses}"]) + "\n")
     for crate in crates:
         for part in ["src", "specs", "proofs", "out/rlib"]:
-            shutil.copytree(root / "crates" / crate / part, folder / "crates" / crate / part)
+            if (root / "crates" / crate / part).exists():
+                shutil.copytree(root / "crates" / crate / part, folder / "crates" / crate / part)
     made, source = folder / "crates" / name, ROOT / "bench" / f"{name}.rattle"
     (made / "src").mkdir(parents=True)
     shutil.copy(source, made / "src/main.rt")

@@ -1,7 +1,7 @@
-//! What `telling` leaves out of replies, told as text: all fields of entries, and the details of refusals.
+//! What the text of a reply leaves out, told as text: all fields of entries.
 
-use crate::telling::{accepted_text, of_number, outcome_text};
-use entry_book::{Entry, OpRefusal, OpReply, Outcome, Refusal};
+use batch_texts::{accepted_text, of_number, outcome_text};
+use entry_book::{Entry, OpReply, Outcome};
 use std::alloc::Global;
 use std::test::Fail;
 
@@ -73,27 +73,12 @@ fn add_op_replies(alloc: Global, text: &mut String, replies: &[OpReply]) -> Resu
     Ok(())
 }
 
-/// Adds the detail of a refusal, where it has one.
-fn add_detail(alloc: Global, text: &mut String, refusal: &Refusal) -> Result<(), Fail> {
-    match refusal {
-        Refusal::OfOp(_, OpRefusal::Similar(id)) => {
-            text.push_str(of_number(alloc, " | similar", id)?.as_str())?;
-        }
-        Refusal::OfOp(_, OpRefusal::NoBundle(domain)) => {
-            text.push_str(" | without")?;
-            add_word(text, domain.get().as_str())?;
-        }
-        _ => {}
-    }
-    Ok(())
-}
-
 fn add_outcome(alloc: Global, text: &mut String, outcome: &Outcome) -> Result<(), Fail> {
     match outcome {
         Outcome::Committed(replies) | Outcome::Answered(replies) | Outcome::Repeated(replies) => {
             add_op_replies(alloc, text, replies.get().as_slice())
         }
-        Outcome::Refused(refusal) => add_detail(alloc, text, refusal),
+        Outcome::Refused(_) => Ok(()),
     }
 }
 

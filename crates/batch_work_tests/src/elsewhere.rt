@@ -1,11 +1,10 @@
 //! A batch is run alike on two books that differ outside of what it reads.
 
 use crate::details::{whole_committed_text, whole_text};
-use crate::draws::batch_text;
 use crate::playing::first_window;
 use crate::random::ended;
 use crate::running::commit;
-use crate::telling::marks_text;
+use batch_texts::{batch_text, marks_text};
 use batch_work::{Status, Window, Work};
 use std::alloc::Global;
 use std::process::Abort;

@@ -1,11 +1,11 @@
 //! The reads of a random batch, told by hand, over plain rows that stand beside the history: operation by operation, each on
 //! the rows that the earlier ones left, to the first refusal.
 
-use crate::making::{number, number_behind, word, words};
 use crate::plain_rows::{
     DOMAINS, IDS, PlainEntry, PlainRows, delete_users, domain_place, entry_number, entry_of,
     free_users, has_similar, id_place, is_used, is_user, no_rows, prune, selectors_of,
 };
+use batch_texts::{number, number_behind, word, words};
 use std::alloc::Global;
 use std::test::Fail;
 

@@ -3,10 +3,10 @@
 //! The crate has tests alone, over the public calls of `batch_work`:
 //!
 //! - `windows`: which versions a window has. `versions` makes them.
-//! - `worked`: the marks of works on small books, and their ends, told by tables. `playing` plays a table, `making` reads its
-//!   words, `telling` tells marks and replies, and `details` all of a reply.
-//! - `random`: long histories of random batches, which `draws` draws, beside the plain book. What they read is compared with
-//!   what `footprints` tells over `plain_rows`.
+//! - `worked`: the marks of works on small books, and their ends, told by tables. `playing` plays a table, `details` tells all of
+//!   a reply.
+//! - `random`: long histories of random batches beside the plain book. What they read is compared with what `footprints` tells
+//!   over `plain_rows`.
 //! - `elsewhere`: random batches on pairs of books.
 //! - `running`: a work to its end, and the version after it.
 #![tactic(auto)]
@@ -14,13 +14,9 @@
 #[cfg(test)]
 mod details;
 #[cfg(test)]
-mod draws;
-#[cfg(test)]
 mod elsewhere;
 #[cfg(test)]
 mod footprints;
-#[cfg(test)]
-mod making;
 #[cfg(test)]
 mod plain_rows;
 #[cfg(test)]
@@ -29,8 +25,6 @@ mod playing;
 mod random;
 #[cfg(test)]
 mod running;
-#[cfg(test)]
-mod telling;
 #[cfg(test)]
 mod versions;
 #[cfg(test)]

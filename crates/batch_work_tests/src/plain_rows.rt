@@ -2,7 +2,7 @@
 
 ghost use Rattle.std.specs.Prelude.{◌<◌};
 
-use crate::making::word;
+use batch_texts::word;
 use std::test::Fail;
 
 /// The IDs of random batches, in the order of their texts.

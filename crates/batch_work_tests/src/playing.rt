@@ -1,8 +1,8 @@
 //! Batches on a window, and what their works read and come to, told by a table.
 
-use crate::making::batch;
 use crate::running::{begun, commit, end_text, run_to_end};
 use crate::versions::first;
+use batch_texts::batch;
 use batch_work::Window;
 use std::alloc::Global;
 use std::process::Abort;

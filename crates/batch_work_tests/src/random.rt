@@ -3,12 +3,10 @@
 ghost use Rattle.std.specs.Prelude.{◌≡◌, ◌<◌};
 
 use crate::details::{whole_committed_text, whole_text};
-use crate::draws::batch_text;
 use crate::footprints::{PlainHistory, footprint, no_history};
-use crate::making::{batch, trust_domain};
 use crate::playing::first_window;
 use crate::running::{begun, commit, run_to_end};
-use crate::telling::marks_text;
+use batch_texts::{batch, batch_text, marks_text, trust_domain};
 use batch_work::{Status, Window, Work};
 use entry_book::{Batch, Reply};
 use plain_book::PlainBook;
@@ -42,8 +40,8 @@ const COMING: [&str; 32] = [
     "; none",
     " x:1 x:2 /web ",
     " 2 120 10 ",
-    " | similar 1",
-    " | without d1",
+    "operation 0 by 1",
+    "operation 0 without d1",
     "token 1",
     " | group n1 ",
     " | users d1",

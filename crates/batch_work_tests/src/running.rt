@@ -9,7 +9,7 @@ ghost use Rattle.batch_work.specs.declared.status.Status.TheVariants as status;
 ghost use Rattle.batch_work.specs.Windows.{IsNext};
 ghost use Rattle.batch_work.specs.Working.{IsAccepted, MayBegin, status_of};
 
-use crate::telling::{add_mark, marks_text, replies_text, reply_text};
+use batch_texts::{add_mark, marks_text, replies_text, reply_text};
 use batch_work::{Status, Window, Work};
 use entry_book::Batch;
 use std::alloc::{AllocError, Global};
@@ -66,10 +66,10 @@ pub fn run_to_end(alloc: Global, work: &mut Work) -> Result<String, Fail> {
 /// What a work has come to, told as text: it is ready, with these replies, or settled with this reply.
 pub fn end_text(alloc: Global, work: &Work) -> Result<String, Fail> {
     if let Some(reply) = work.reply() {
-        return reply_text(alloc, reply.get());
+        return Ok(reply_text(alloc, reply.get())?);
     }
     match work.replies() {
-        Some(replies) => replies_text(alloc, "ready", replies.get().as_slice()),
+        Some(replies) => Ok(replies_text(alloc, "ready", replies.get().as_slice())?),
         None => Err(Fail::from("neither ready nor settled")),
     }
 }

@@ -44,9 +44,9 @@ create 1 n1 /web x:1 0
 READS create 1 n1 /api x:1 0 => entry 1
 COMES create 1 n1 /api x:1 0 => refused O1 at 1; operation 0
 READS create 2 n1 /web x:1 0 => entry 2 | group n1 /web
-COMES create 2 n1 /web x:1 0 => refused O2 at 1; operation 0
+COMES create 2 n1 /web x:1 0 => refused O2 at 1; operation 0 by 1
 READS create 2 n1 /web x:2 0 b.org c.org => entry 2 | group n1 /web | bundle b.org
-COMES create 2 n1 /web x:2 0 b.org c.org => refused O5 at 1; operation 0
+COMES create 2 n1 /web x:2 0 b.org c.org => refused O5 at 1; operation 0 without b.org
 READS show 1; delete 2; show 3 => entry 1 | entry 2
 COMES show 1; delete 2; show 3 => refused O3 at 1; operation 1
 ";

@@ -2,8 +2,7 @@
 //!
 //! The crate has tests alone, over the public calls of `call_machine`:
 //!
-//! - `worked`: small schedules, told by tables, which `playing` plays. `making` reads batches and events, `telling` tells answers
-//!   and replies.
+//! - `worked`: small schedules, told by tables, which `playing` plays. `making` reads events, `telling` tells answers.
 //! - `counted`: a machine, and what a test has to know of it; `refused`: that a refused event is handed back and changes nothing.
 #![tactic(auto)]
 

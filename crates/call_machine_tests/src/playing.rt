@@ -3,9 +3,10 @@
 ghost use Rattle.std.specs.Prelude.{◌<◌};
 
 use crate::counted::{Counted, run_at_once};
-use crate::making::{batch, bundles, event, trust_domain};
+use crate::making::{bundles, event};
 use crate::refused::answer;
 use crate::telling::{answer_text, known_text, numbers_text, whole_answer_text};
+use batch_texts::{batch, trust_domain};
 use batch_work::Status;
 use call_machine::{Done, Event};
 use std::alloc::Global;
@@ -105,13 +106,13 @@ fn reply_to(
     question: &str,
 ) -> Result<String, Fail> {
     if question == "ORDER" {
-        return numbers_text(alloc, machine.order()?.as_slice());
+        return Ok(numbers_text(alloc, machine.order()?.as_slice())?);
     }
     match question.strip_prefix("CALL ") {
-        Some(call) => known_text(alloc, machine.call(call.parse::<u64>()?)),
+        Some(call) => Ok(known_text(alloc, machine.call(call.parse::<u64>()?))?),
         None => {
             let answer = answer(rt, alloc, machine, event(alloc, question)?, LAST)?;
-            answer_text(alloc, &answer)
+            Ok(answer_text(alloc, &answer)?)
         }
     }
 }

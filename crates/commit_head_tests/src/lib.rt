@@ -3,16 +3,12 @@
 //! The crate has tests alone, over the public calls of `commit_head`:
 //!
 //! - `worked`: small histories, told by tables. `playing` plays a table on a `desk`: a head, and the works that wait for their
-//!   commits. `making` reads batches, `telling` tells replies.
-//! - `random`: a long history of random batches, which `draws` draws, beside the plain book.
+//!   commits. `telling` tells commits and items.
+//! - `random`: a long history of random batches beside the plain book.
 #![tactic(auto)]
 
 #[cfg(test)]
 mod desk;
-#[cfg(test)]
-mod draws;
-#[cfg(test)]
-mod making;
 #[cfg(test)]
 mod playing;
 #[cfg(test)]

@@ -1,8 +1,8 @@
 //! Histories on a desk, told by a table.
 
 use crate::desk::Desk;
-use crate::making::{batch, number, trust_domain, word, words};
 use crate::telling::{commit_text, item_text};
+use batch_texts::{batch, number, trust_domain, word, words};
 use commit_head::Commit;
 use std::alloc::Global;
 use std::process::Abort;
@@ -55,7 +55,7 @@ fn commits(alloc: Global, desk: &mut Desk, text: &str) -> Result<String, Fail> {
     let (index, seat) = (number(words.as_slice(), 0)?, seat(words.as_slice())?);
     let call = number(words.as_slice(), 2)?;
     let (commit, _) = desk.commit(index as usize, seat, call)?;
-    commit_text(alloc, &commit)
+    Ok(commit_text(alloc, &commit)?)
 }
 
 /// The same, in two calls.
@@ -67,7 +67,7 @@ fn commits_in_two(alloc: Global, desk: &mut Desk, text: &str) -> Result<String, 
     if !same {
         return Err(Fail::from("prepare has changed the head"));
     }
-    commit_text(alloc, &commit)
+    Ok(commit_text(alloc, &commit)?)
 }
 
 fn number_text(alloc: Global, number: u64) -> Result<String, Fail> {
@@ -76,7 +76,7 @@ fn number_text(alloc: Global, number: u64) -> Result<String, Fail> {
 
 fn item(alloc: Global, desk: &Desk, text: &str) -> Result<String, Fail> {
     match desk.head().item(text.parse::<u64>()?) {
-        Some(item) => item_text(alloc, item),
+        Some(item) => Ok(item_text(alloc, item)?),
         None => Ok(String::from_str(alloc, "none")?),
     }
 }

@@ -4,10 +4,8 @@
 ghost use Rattle.std.specs.Prelude.{◌≡◌};
 
 use crate::desk::Desk;
-use crate::draws::{batch_text, below};
-use crate::making::{batch, trust_domain};
 use crate::playing::first_desk;
-use crate::telling::{accepted_text, reply_text};
+use batch_texts::{accepted_text, batch, batch_text, below, reply_text, trust_domain};
 use batch_work::Work;
 use commit_head::{Commit, Head, Item};
 use entry_book::{Batch, Reply};
@@ -55,7 +53,7 @@ fn plain_text(alloc: Global, book: &mut PlainBook, batch: &Batch) -> Result<Stri
         return Err(Fail::from("another trust domain"));
     }
     let reply = run(book, batch)?;
-    reply_text(alloc, &reply)
+    Ok(reply_text(alloc, &reply)?)
 }
 
 /// The item of this number, which has to be kept.

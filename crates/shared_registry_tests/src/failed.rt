@@ -1,10 +1,9 @@
 //! Why can't a test go on? Threads hand it out, so it may be let go.
 
+use batch_texts::Failed as NoText;
 use shared_registry::{NoAnswer, NoEntry, NoSeat};
-use spiffe_name::Failure;
 use std::alloc::{AllocError, AllocFailed};
 use std::io;
-use std::num::ParseIntError;
 use std::test::Fail;
 
 /// A test, or one of its threads, can't go on, for this reason.
@@ -58,17 +57,11 @@ impl<T: Drop> From<AllocFailed<T>> for Failed {
     }
 }
 
-impl From<ParseIntError> for Failed {
-    fn from(_: ParseIntError) -> Failed {
-        Failed::NotRead
-    }
-}
-
-impl<R: Drop> From<Failure<R>> for Failed {
-    fn from(failure: Failure<R>) -> Failed {
-        match failure {
-            Failure::NoMemory => Failed::NoMemory,
-            Failure::Refused(_) => Failed::NotRead,
+impl From<NoText> for Failed {
+    fn from(failed: NoText) -> Failed {
+        match failed {
+            NoText::NoMemory => Failed::NoMemory,
+            NoText::NotRead => Failed::NotRead,
         }
     }
 }

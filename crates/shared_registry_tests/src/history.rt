@@ -2,13 +2,12 @@
 //! by eight threads, and each answer is recorded with its place. Afterwards the list is rebuilt from the places, and each answer is
 //! held against a plain book that is run through it.
 
-use crate::draws::{batch_text, below};
 use crate::failed::Failed;
-use crate::making::{batch, trust_domain};
 use crate::plays::{Play, plays};
 use crate::site::Site;
-use crate::telling::{outcome_text, reply_text};
+use crate::telling::outcome_text;
 use crate::threads::joined;
+use batch_texts::{batch, batch_text, below, reply_text, trust_domain};
 use entry_book::{Batch, Outcome as Answer, Reply};
 use plain_book::PlainBook;
 use shared_registry::{Naming, OpenGate, Outcome, Seat};
@@ -173,7 +172,7 @@ fn plain_text(alloc: Global, book: &mut PlainBook, text: &str) -> Result<String,
         return Err(Failed::NotAsked);
     }
     let reply = book.run(&batch)?;
-    reply_text(alloc, &reply)
+    Ok(reply_text(alloc, &reply)?)
 }
 
 /// The plain book, which has come to the call's place or is one short of it, answers as the call was answered. A conflict has no

@@ -5,14 +5,12 @@
 //! - `seats`: what one seat is told, and what new seats see; `long`: a long journal, which is cut.
 //! - `overtaken`: batches that a gate of `gates` holds on their way while others commit.
 //! - `together`: eight threads that commit at once; `ring`: receipts that go round eight threads.
-//! - `history`: many random batches, which `draws` draws, by eight threads: one list of committed batches explains all answers.
+//! - `history`: many random batches by eight threads: one list of committed batches explains all answers.
 //!
-//! `plays` plays each test on a registry of its own, at a `site`. `making` reads batches, `telling` tells replies and outcomes,
-//! `threads` puts together what threads made, `failed` says why a test can't go on.
+//! `plays` plays each test on a registry of its own, at a `site`. `telling` tells outcomes, `threads` puts together what threads
+//! made, `failed` says why a test can't go on.
 #![tactic(auto)]
 
-#[cfg(test)]
-mod draws;
 #[cfg(test)]
 mod failed;
 #[cfg(test)]
@@ -21,8 +19,6 @@ mod gates;
 mod history;
 #[cfg(test)]
 mod long;
-#[cfg(test)]
-mod making;
 #[cfg(test)]
 mod overtaken;
 #[cfg(test)]

@@ -5,12 +5,12 @@ ghost use Rattle.std.specs.Prelude.{◌≡◌};
 use crate::failed::{Failed, as_fail};
 use crate::history::history;
 use crate::long::checkpoint;
-use crate::making::trust_domain;
 use crate::overtaken::{all_tries, last_try, two_creates, under_the_lock};
 use crate::ring::ring;
 use crate::seats::{all_seats, new_seats, one_seat};
 use crate::site::Site;
 use crate::together::{many_creates, one_token};
+use batch_texts::trust_domain;
 use shared_registry::{Naming, Opened};
 use spiffe_name::TrustDomain;
 use std::alloc::Global;
@@ -85,7 +85,7 @@ pub fn plays<R: Threads + Wait + Clock + Abort + Print + Sync>(
     alloc: Global,
     play: Play,
 ) -> Result<(), Fail> {
-    let domain = as_fail(trust_domain(alloc, "ex.org"))?;
+    let domain = trust_domain(alloc, "ex.org")?;
     let own = domain.clone()?;
     let played = plays_at::<Brand, R>(rt, alloc, Opened::new(), domain, own, play);
     as_fail(played)

@@ -3,8 +3,8 @@
 ghost use Rattle.std.specs.Prelude.{◌≡◌};
 
 use crate::failed::Failed;
-use crate::making::batch;
-use crate::telling::{outcome_text, reply_text};
+use crate::telling::outcome_text;
+use batch_texts::{batch, reply_text};
 use entry_book::{Batch, Reply, Shared};
 use shared_registry::{Gate, Naming, OpenGate, Opened, Outcome, Receipt, Registry, Seat};
 use spiffe_name::TrustDomain;
@@ -101,7 +101,7 @@ impl<J: Naming> Site<J> {
     pub fn asks(&self, alloc: Global, seat: &mut Seat<J>, text: &str) -> Result<String, Failed> {
         let batch = batch(alloc, text)?;
         let reply = self.query(seat, &batch)?;
-        reply_text(alloc, reply.get())
+        Ok(reply_text(alloc, reply.get())?)
     }
 
     /// What becomes of the changes that a text tells, as text.

@@ -1,192 +1,24 @@
-//! Replies and outcomes, told as text. An ID is told by its path, that of an agent by its name alone; an entry by its number and,
-//! after a dot, its revision, and behind them its domains.
+//! What became of batches of changes, told as text.
 
 use crate::failed::Failed;
-use entry_book::{Agent, Bundle, Entry, OpReply, Outcome as Answer, Reply};
+use batch_texts::{accepted_text, placed, reply_text};
 use shared_registry::Outcome;
-use spiffe_name::SpiffeId;
 use std::alloc::Global;
-use uuid::Uuid;
 
-/// The number that the last two bytes of an id are.
-fn number_of(id: &Uuid) -> u16 {
-    let bytes = id.as_bytes();
-    u16::from_be_bytes([bytes[14], bytes[15]])
-}
-
-fn path<'a>(id: &'a SpiffeId) -> &'a str {
-    let text = id.as_str();
-    if let Some(name) = text.strip_prefix("spiffe://ex.org/spire/agent/") {
-        return name;
-    }
-    text.strip_prefix("spiffe://ex.org").unwrap_or(text)
-}
-
-fn of_number(alloc: Global, kind: &str, id: &Uuid) -> Result<String, Failed> {
-    let number = number_of(id);
-    Ok(format!(in alloc; "{kind} {number}")?)
-}
-
-fn add_entry(alloc: Global, text: &mut String, entry: &Entry) -> Result<(), Failed> {
-    let number = number_of(entry.id());
-    let revision = entry.revision();
-    text.push_str(format!(in alloc; " {number}.{revision}")?.as_str())?;
-    for domain in entry.domains().as_slice() {
-        text.push_str(" ")?;
-        text.push_str(domain.get().as_str())?;
-    }
-    Ok(())
-}
-
-fn entries_text(alloc: Global, kind: &str, entries: &[Entry]) -> Result<String, Failed> {
-    let mut text = String::from_str(alloc, kind)?;
-    for entry in entries {
-        add_entry(alloc, &mut text, entry)?;
-    }
-    Ok(text)
-}
-
-fn entry_text(alloc: Global, kind: &str, entry: &Entry) -> Result<String, Failed> {
-    let mut text = String::from_str(alloc, kind)?;
-    add_entry(alloc, &mut text, entry)?;
-    Ok(text)
-}
-
-fn page_text(alloc: Global, entries: &[Entry], next: &Option<Uuid>) -> Result<String, Failed> {
-    let mut text = entries_text(alloc, "page", entries)?;
-    if let Some(id) = next {
-        text.push_str(of_number(alloc, " next", id)?.as_str())?;
-    }
-    Ok(text)
-}
-
-/// An agent, as its name and the count of its selectors.
-fn agent_text(alloc: Global, agent: &Agent) -> Result<String, Failed> {
-    let name = path(agent.id.get());
-    let count = agent.selectors.get().len();
-    Ok(format!(in alloc; "agent {name} {count}")?)
-}
-
-/// A bundle, as its domain and its sequence.
-fn bundle_text(alloc: Global, bundle: &Bundle) -> Result<String, Failed> {
-    let domain = bundle.domain.get().as_str();
-    let sequence = bundle.sequence;
-    Ok(format!(in alloc; "bundle {domain} {sequence}")?)
-}
-
-fn bundles_text(alloc: Global, bundles: &[Bundle]) -> Result<String, Failed> {
-    let mut text = String::from_str(alloc, "bundles")?;
-    for bundle in bundles {
-        text.push_str(" ")?;
-        text.push_str(bundle_text(alloc, bundle)?.as_str())?;
-    }
-    Ok(text)
-}
-
-fn ids_text(alloc: Global, kind: &str, ids: &[Uuid]) -> Result<String, Failed> {
-    let mut text = String::from_str(alloc, kind)?;
-    for id in ids {
-        text.push_str(of_number(alloc, "", id)?.as_str())?;
-    }
-    Ok(text)
-}
-
-fn dropped_text(alloc: Global, deleted: &[Uuid], dissociated: &[Uuid]) -> Result<String, Failed> {
-    let mut text = ids_text(alloc, "dropped", deleted)?;
-    text.push_str(ids_text(alloc, " /", dissociated)?.as_str())?;
-    Ok(text)
-}
-
-fn nothing(alloc: Global) -> Result<String, Failed> {
-    Ok(String::from_str(alloc, "none")?)
-}
-
-fn op_reply_text(alloc: Global, reply: &OpReply) -> Result<String, Failed> {
-    match reply {
-        OpReply::Entry(entry) => entry_text(alloc, "entry", entry),
-        OpReply::EntryShown(Some(entry)) => entry_text(alloc, "shown", entry),
-        OpReply::Entries(entries) => entries_text(alloc, "entries", entries.as_slice()),
-        OpReply::Page(entries, next) => page_text(alloc, entries.as_slice(), next),
-        OpReply::Agent(agent) | OpReply::AgentShown(Some(agent)) => agent_text(alloc, agent),
-        OpReply::Bundle(bundle) | OpReply::BundleShown(Some(bundle)) => bundle_text(alloc, bundle),
-        OpReply::Bundles(bundles) => bundles_text(alloc, bundles.as_slice()),
-        OpReply::Pruned(ids) => ids_text(alloc, "pruned", ids.as_slice()),
-        OpReply::Dropped(deleted, dissociated) => {
-            dropped_text(alloc, deleted.as_slice(), dissociated.as_slice())
-        }
-        OpReply::EntryShown(None) | OpReply::AgentShown(None) | OpReply::BundleShown(None) => {
-            nothing(alloc)
-        }
-    }
-}
-
-/// What became of a batch, and the replies to its operations, each behind a semicolon.
-pub fn replies_text(alloc: Global, kind: &str, replies: &[OpReply]) -> Result<String, Failed> {
-    let mut text = String::from_str(alloc, kind)?;
-    for reply in replies {
-        text.push_str("; ")?;
-        text.push_str(op_reply_text(alloc, reply)?.as_str())?;
-    }
-    Ok(text)
-}
-
-fn placed(alloc: Global, kind: &str, place: u64) -> Result<String, Failed> {
-    Ok(format!(in alloc; "{kind} at {place}")?)
-}
-
-/// What became of a batch, at which place, and the replies to its operations.
-pub fn accepted_text(
-    alloc: Global,
-    kind: &str,
-    place: u64,
-    replies: &[OpReply],
-) -> Result<String, Failed> {
-    let head = placed(alloc, kind, place)?;
-    replies_text(alloc, head.as_str(), replies)
-}
-
-fn refused_text(
-    alloc: Global,
-    place: u64,
-    code: &str,
-    op: Option<usize>,
-) -> Result<String, Failed> {
-    match op {
-        Some(index) => Ok(format!(in alloc; "refused {code} at {place}; operation {index}")?),
-        None => Ok(format!(in alloc; "refused {code} at {place}")?),
-    }
-}
-
-/// A reply: what became of the batch, its place, and the replies to the operations, or the code of the refusal and the index
-/// of the operation refused.
-pub fn reply_text(alloc: Global, reply: &Reply) -> Result<String, Failed> {
-    let place = reply.place;
-    match &reply.outcome {
-        Answer::Committed(replies) => {
-            accepted_text(alloc, "committed", place, replies.get().as_slice())
-        }
-        Answer::Answered(replies) => {
-            accepted_text(alloc, "answered", place, replies.get().as_slice())
-        }
-        Answer::Repeated(replies) => {
-            accepted_text(alloc, "repeated", place, replies.get().as_slice())
-        }
-        Answer::Refused(refusal) => refused_text(alloc, place, refusal.code(), refusal.op()),
-    }
-}
-
-/// What became of a batch of changes: the same, and `conflict` with its place. Where memory was wanting or the seat wasn't let in,
+/// What became of a batch of changes, or `conflict`, each with its place. Where memory was wanting or the seat wasn't let in,
 /// the test can't go on.
 pub fn outcome_text(alloc: Global, outcome: &Outcome) -> Result<String, Failed> {
     match outcome {
         Outcome::Committed(place, replies) => {
-            accepted_text(alloc, "committed", *place, replies.get().as_slice())
+            let replies = replies.get().as_slice();
+            Ok(accepted_text(alloc, "committed", *place, replies)?)
         }
         Outcome::Repeated(place, replies) => {
-            accepted_text(alloc, "repeated", *place, replies.get().as_slice())
+            let replies = replies.get().as_slice();
+            Ok(accepted_text(alloc, "repeated", *place, replies)?)
         }
-        Outcome::Refused(reply) => reply_text(alloc, reply.get()),
-        Outcome::Conflict(place) => placed(alloc, "conflict", *place),
+        Outcome::Refused(reply) => Ok(reply_text(alloc, reply.get())?),
+        Outcome::Conflict(place) => Ok(placed(alloc, "conflict", *place)?),
         Outcome::NoMemory => Err(Failed::NoMemory),
         Outcome::NoEntry => Err(Failed::NotLetIn),
     }

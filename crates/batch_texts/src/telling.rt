@@ -1,12 +1,11 @@
-//! Marks and replies, told as text. An ID is told by its path, that of an agent by its name alone; an entry by its number and,
-//! after a dot, its revision, and behind them its domains.
+//! Replies, told as text. An ID is told by its path, that of an agent by its name alone; an entry by its number and, after a dot,
+//! its revision, and behind them its domains.
 
-use entry_book::{Agent, Bundle, Entry, OpReply, Outcome, Reply};
+use crate::failed::Failed;
+use entry_book::{Agent, Bundle, Entry, OpRefusal, OpReply, Outcome, Refusal, Reply};
 use spiffe_name::SpiffeId;
 use std::alloc::Global;
-use std::test::Fail;
 use uuid::Uuid;
-use version_book::{Mark, MarkKind};
 
 /// The number that the last two bytes of an id are.
 fn number_of(id: &Uuid) -> u16 {
@@ -14,7 +13,7 @@ fn number_of(id: &Uuid) -> u16 {
     u16::from_be_bytes([bytes[14], bytes[15]])
 }
 
-fn path<'a>(id: &'a SpiffeId) -> &'a str {
+pub fn path<'a>(id: &'a SpiffeId) -> &'a str {
     let text = id.as_str();
     if let Some(name) = text.strip_prefix("spiffe://ex.org/spire/agent/") {
         return name;
@@ -22,58 +21,16 @@ fn path<'a>(id: &'a SpiffeId) -> &'a str {
     text.strip_prefix("spiffe://ex.org").unwrap_or(text)
 }
 
-pub fn of_number(alloc: Global, kind: &str, id: &Uuid) -> Result<String, Fail> {
+pub fn of_number(alloc: Global, kind: &str, id: &Uuid) -> Result<String, Failed> {
     let number = number_of(id);
     Ok(format!(in alloc; "{kind} {number}")?)
 }
 
-fn of_text(alloc: Global, kind: &str, text: &str) -> Result<String, Fail> {
+pub fn of_text(alloc: Global, kind: &str, text: &str) -> Result<String, Failed> {
     Ok(format!(in alloc; "{kind} {text}")?)
 }
 
-fn group_text(alloc: Global, parent: &str, identity: &str) -> Result<String, Fail> {
-    Ok(format!(in alloc; "group {parent} {identity}")?)
-}
-
-fn expiring_text(alloc: Global, moment: u64) -> Result<String, Fail> {
-    Ok(format!(in alloc; "expiring {moment}")?)
-}
-
-pub fn mark_text(alloc: Global, mark: &Mark) -> Result<String, Fail> {
-    match mark.kind() {
-        MarkKind::Entry(id) => of_number(alloc, "entry", id),
-        MarkKind::Token(token) => of_number(alloc, "token", token),
-        MarkKind::Group(parent, identity) => {
-            group_text(alloc, path(parent.get()), path(identity.get()))
-        }
-        MarkKind::Children(parent) => of_text(alloc, "children", path(parent.get())),
-        MarkKind::Agent(id) => of_text(alloc, "agent", path(id.get())),
-        MarkKind::Users(domain) => of_text(alloc, "users", domain.get().as_str()),
-        MarkKind::Bundle(domain) => of_text(alloc, "bundle", domain.get().as_str()),
-        MarkKind::Expiring(moment) => expiring_text(alloc, *moment),
-        MarkKind::All => Ok(String::from_str(alloc, "all")?),
-    }
-}
-
-/// Marks, with ` | ` between them.
-pub fn marks_text(alloc: Global, marks: &[Mark]) -> Result<String, Fail> {
-    let mut text = String::new(alloc);
-    for mark in marks {
-        add_mark(alloc, &mut text, mark)?;
-    }
-    Ok(text)
-}
-
-/// Adds a mark behind the others.
-pub fn add_mark(alloc: Global, text: &mut String, mark: &Mark) -> Result<(), Fail> {
-    if !text.is_empty() {
-        text.push_str(" | ")?;
-    }
-    text.push_str(mark_text(alloc, mark)?.as_str())?;
-    Ok(())
-}
-
-fn add_entry(alloc: Global, text: &mut String, entry: &Entry) -> Result<(), Fail> {
+fn add_entry(alloc: Global, text: &mut String, entry: &Entry) -> Result<(), Failed> {
     let number = number_of(entry.id());
     let revision = entry.revision();
     text.push_str(format!(in alloc; " {number}.{revision}")?.as_str())?;
@@ -84,7 +41,7 @@ fn add_entry(alloc: Global, text: &mut String, entry: &Entry) -> Result<(), Fail
     Ok(())
 }
 
-fn entries_text(alloc: Global, kind: &str, entries: &[Entry]) -> Result<String, Fail> {
+fn entries_text(alloc: Global, kind: &str, entries: &[Entry]) -> Result<String, Failed> {
     let mut text = String::from_str(alloc, kind)?;
     for entry in entries {
         add_entry(alloc, &mut text, entry)?;
@@ -92,13 +49,13 @@ fn entries_text(alloc: Global, kind: &str, entries: &[Entry]) -> Result<String, 
     Ok(text)
 }
 
-fn entry_text(alloc: Global, kind: &str, entry: &Entry) -> Result<String, Fail> {
+fn entry_text(alloc: Global, kind: &str, entry: &Entry) -> Result<String, Failed> {
     let mut text = String::from_str(alloc, kind)?;
     add_entry(alloc, &mut text, entry)?;
     Ok(text)
 }
 
-fn page_text(alloc: Global, entries: &[Entry], next: &Option<Uuid>) -> Result<String, Fail> {
+fn page_text(alloc: Global, entries: &[Entry], next: &Option<Uuid>) -> Result<String, Failed> {
     let mut text = entries_text(alloc, "page", entries)?;
     if let Some(id) = next {
         text.push_str(of_number(alloc, " next", id)?.as_str())?;
@@ -107,20 +64,20 @@ fn page_text(alloc: Global, entries: &[Entry], next: &Option<Uuid>) -> Result<St
 }
 
 /// An agent, as its name and the count of its selectors.
-fn agent_text(alloc: Global, agent: &Agent) -> Result<String, Fail> {
+fn agent_text(alloc: Global, agent: &Agent) -> Result<String, Failed> {
     let name = path(agent.id.get());
     let count = agent.selectors.get().len();
     Ok(format!(in alloc; "agent {name} {count}")?)
 }
 
 /// A bundle, as its domain and its sequence.
-fn bundle_text(alloc: Global, bundle: &Bundle) -> Result<String, Fail> {
+fn bundle_text(alloc: Global, bundle: &Bundle) -> Result<String, Failed> {
     let domain = bundle.domain.get().as_str();
     let sequence = bundle.sequence;
     Ok(format!(in alloc; "bundle {domain} {sequence}")?)
 }
 
-fn bundles_text(alloc: Global, bundles: &[Bundle]) -> Result<String, Fail> {
+fn bundles_text(alloc: Global, bundles: &[Bundle]) -> Result<String, Failed> {
     let mut text = String::from_str(alloc, "bundles")?;
     for bundle in bundles {
         text.push_str(" ")?;
@@ -129,7 +86,7 @@ fn bundles_text(alloc: Global, bundles: &[Bundle]) -> Result<String, Fail> {
     Ok(text)
 }
 
-fn ids_text(alloc: Global, kind: &str, ids: &[Uuid]) -> Result<String, Fail> {
+fn ids_text(alloc: Global, kind: &str, ids: &[Uuid]) -> Result<String, Failed> {
     let mut text = String::from_str(alloc, kind)?;
     for id in ids {
         text.push_str(of_number(alloc, "", id)?.as_str())?;
@@ -137,17 +94,17 @@ fn ids_text(alloc: Global, kind: &str, ids: &[Uuid]) -> Result<String, Fail> {
     Ok(text)
 }
 
-fn dropped_text(alloc: Global, deleted: &[Uuid], dissociated: &[Uuid]) -> Result<String, Fail> {
+fn dropped_text(alloc: Global, deleted: &[Uuid], dissociated: &[Uuid]) -> Result<String, Failed> {
     let mut text = ids_text(alloc, "dropped", deleted)?;
     text.push_str(ids_text(alloc, " /", dissociated)?.as_str())?;
     Ok(text)
 }
 
-fn nothing(alloc: Global) -> Result<String, Fail> {
+fn nothing(alloc: Global) -> Result<String, Failed> {
     Ok(String::from_str(alloc, "none")?)
 }
 
-fn op_reply_text(alloc: Global, reply: &OpReply) -> Result<String, Fail> {
+fn op_reply_text(alloc: Global, reply: &OpReply) -> Result<String, Failed> {
     match reply {
         OpReply::Entry(entry) => entry_text(alloc, "entry", entry),
         OpReply::EntryShown(Some(entry)) => entry_text(alloc, "shown", entry),
@@ -167,7 +124,7 @@ fn op_reply_text(alloc: Global, reply: &OpReply) -> Result<String, Fail> {
 }
 
 /// What became of a batch, and the replies to its operations, each behind a semicolon.
-pub fn replies_text(alloc: Global, kind: &str, replies: &[OpReply]) -> Result<String, Fail> {
+pub fn replies_text(alloc: Global, kind: &str, replies: &[OpReply]) -> Result<String, Failed> {
     let mut text = String::from_str(alloc, kind)?;
     for reply in replies {
         text.push_str("; ")?;
@@ -176,7 +133,8 @@ pub fn replies_text(alloc: Global, kind: &str, replies: &[OpReply]) -> Result<St
     Ok(text)
 }
 
-fn placed(alloc: Global, kind: &str, place: u64) -> Result<String, Fail> {
+/// What became of something, and at which place.
+pub fn placed(alloc: Global, kind: &str, place: u64) -> Result<String, Failed> {
     Ok(format!(in alloc; "{kind} at {place}")?)
 }
 
@@ -186,21 +144,34 @@ pub fn accepted_text(
     kind: &str,
     place: u64,
     replies: &[OpReply],
-) -> Result<String, Fail> {
+) -> Result<String, Failed> {
     let head = placed(alloc, kind, place)?;
     replies_text(alloc, head.as_str(), replies)
 }
 
-fn refused_text(alloc: Global, place: u64, code: &str, op: Option<usize>) -> Result<String, Fail> {
-    match op {
-        Some(index) => Ok(format!(in alloc; "refused {code} at {place}; operation {index}")?),
-        None => Ok(format!(in alloc; "refused {code} at {place}")?),
+/// The detail of an operation's refusal, where it has one.
+fn detail_text(alloc: Global, refusal: &OpRefusal) -> Result<String, Failed> {
+    match refusal {
+        OpRefusal::Similar(id) => of_number(alloc, " by", id),
+        OpRefusal::NoBundle(domain) => of_text(alloc, " without", domain.get().as_str()),
+        _ => Ok(String::new(alloc)),
     }
 }
 
-/// What became of the batch, its place, and the replies to the operations, or the code of the refusal and the index of the
-/// operation refused.
-pub fn outcome_text(alloc: Global, place: u64, outcome: &Outcome) -> Result<String, Fail> {
+fn refused_text(alloc: Global, place: u64, refusal: &Refusal) -> Result<String, Failed> {
+    let code = refusal.code();
+    match refusal {
+        Refusal::OfOp(index, reason) => {
+            let detail = detail_text(alloc, reason)?;
+            Ok(format!(in alloc; "refused {code} at {place}; operation {index}{detail}")?)
+        }
+        _ => Ok(format!(in alloc; "refused {code} at {place}")?),
+    }
+}
+
+/// What became of a batch, its place, and the replies to its operations, or the code of the refusal, and of an operation's its
+/// index and its detail.
+pub fn outcome_text(alloc: Global, place: u64, outcome: &Outcome) -> Result<String, Failed> {
     match outcome {
         Outcome::Committed(replies) => {
             accepted_text(alloc, "committed", place, replies.get().as_slice())
@@ -211,10 +182,10 @@ pub fn outcome_text(alloc: Global, place: u64, outcome: &Outcome) -> Result<Stri
         Outcome::Repeated(replies) => {
             accepted_text(alloc, "repeated", place, replies.get().as_slice())
         }
-        Outcome::Refused(refusal) => refused_text(alloc, place, refusal.code(), refusal.op()),
+        Outcome::Refused(refusal) => refused_text(alloc, place, refusal),
     }
 }
 
-pub fn reply_text(alloc: Global, reply: &Reply) -> Result<String, Fail> {
+pub fn reply_text(alloc: Global, reply: &Reply) -> Result<String, Failed> {
     outcome_text(alloc, reply.place, &reply.outcome)
 }

@@ -1,14 +1,14 @@
 //! Batches, made of the words of a text. They are of `ex.org`: an ID is told by its path, that of an agent by its name alone.
 
+use crate::failed::Failed;
 use entry_book::{
     Agent, Batch, DomainSet, DropMode, Filter, NewEntry, Op, PageQuery, Sequence, Shared, Text,
 };
 use spiffe_name::{Selector, SelectorSet, SpiffeId, TrustDomain};
 use std::alloc::Global;
-use std::test::Fail;
 use uuid::Uuid;
 
-pub fn words<'a>(alloc: Global, line: &'a str) -> Result<Vec<&'a str>, Fail> {
+pub fn words<'a>(alloc: Global, line: &'a str) -> Result<Vec<&'a str>, Failed> {
     let mut words = Vec::new(alloc);
     for word in line.split_whitespace() {
         words.push(word)?;
@@ -21,12 +21,12 @@ pub fn word<'a>(words: &[&'a str], index: usize) -> &'a str {
     words.get(index).copied().unwrap_or("")
 }
 
-pub fn number(words: &[&str], index: usize) -> Result<u64, Fail> {
+pub fn number(words: &[&str], index: usize) -> Result<u64, Failed> {
     Ok(word(words, index).parse::<u64>()?)
 }
 
 /// The number that a word tells, which `-` doesn't.
-fn given_number(words: &[&str], index: usize) -> Result<Option<u64>, Fail> {
+fn given_number(words: &[&str], index: usize) -> Result<Option<u64>, Failed> {
     if word(words, index) == "-" {
         return Ok(None);
     }
@@ -34,33 +34,33 @@ fn given_number(words: &[&str], index: usize) -> Result<Option<u64>, Fail> {
 }
 
 /// The UUID whose last bytes are this number.
-fn uuid(words: &[&str], index: usize) -> Result<Uuid, Fail> {
+fn uuid(words: &[&str], index: usize) -> Result<Uuid, Failed> {
     Ok(Uuid::from_u64_pair(0, number(words, index)?))
 }
 
-fn id_text(alloc: Global, word: &str) -> Result<String, Fail> {
+fn id_text(alloc: Global, word: &str) -> Result<String, Failed> {
     if word.starts_with("/") {
         return Ok(format!(in alloc; "spiffe://ex.org{word}")?);
     }
     Ok(format!(in alloc; "spiffe://ex.org/spire/agent/{word}")?)
 }
 
-fn id(alloc: Global, word: &str) -> Result<Shared<SpiffeId>, Fail> {
+fn id(alloc: Global, word: &str) -> Result<Shared<SpiffeId>, Failed> {
     let text = id_text(alloc, word)?;
     Ok(Shared::of(alloc, SpiffeId::parse(alloc, text.as_str())?)?)
 }
 
 /// The trust domain of a name. Nothing is said of it, so that no caller's proof computes what the grammar says of a literal.
-pub fn trust_domain(alloc: Global, name: &str) -> Result<TrustDomain, Fail> {
+pub fn trust_domain(alloc: Global, name: &str) -> Result<TrustDomain, Failed> {
     Ok(TrustDomain::parse(alloc, name)?)
 }
 
-fn domain(alloc: Global, name: &str) -> Result<Shared<TrustDomain>, Fail> {
+fn domain(alloc: Global, name: &str) -> Result<Shared<TrustDomain>, Failed> {
     Ok(Shared::of(alloc, trust_domain(alloc, name)?)?)
 }
 
 /// The selectors of a word, with commas between them; none for `-`.
-fn selectors(alloc: Global, word: &str) -> Result<Shared<SelectorSet>, Fail> {
+fn selectors(alloc: Global, word: &str) -> Result<Shared<SelectorSet>, Failed> {
     let spaced = word.replace(alloc, ",", " ")?;
     let mut selectors = Vec::new(alloc);
     for text in spaced.split_whitespace() {
@@ -71,7 +71,7 @@ fn selectors(alloc: Global, word: &str) -> Result<Shared<SelectorSet>, Fail> {
     Ok(Shared::of(alloc, SelectorSet::of(selectors)?)?)
 }
 
-fn domains(alloc: Global, words: &[&str]) -> Result<DomainSet, Fail> {
+fn domains(alloc: Global, words: &[&str]) -> Result<DomainSet, Failed> {
     let mut domains = Vec::new(alloc);
     for name in words.iter().skip(6) {
         domains.push(TrustDomain::parse(alloc, name)?)?;
@@ -79,17 +79,17 @@ fn domains(alloc: Global, words: &[&str]) -> Result<DomainSet, Fail> {
     Ok(DomainSet::of(alloc, domains)?)
 }
 
-fn text(alloc: Global) -> Result<Shared<Text>, Fail> {
+fn text(alloc: Global) -> Result<Shared<Text>, Failed> {
     Ok(Shared::of(alloc, Text::of(String::new(alloc)))?)
 }
 
-fn hint(alloc: Global, word: &str) -> Result<Shared<Text>, Fail> {
+fn hint(alloc: Global, word: &str) -> Result<Shared<Text>, Failed> {
     let text = String::from_str(alloc, word)?;
     Ok(Shared::of(alloc, Text::of(text))?)
 }
 
 /// An entry, of its number, parent, identity, selectors, expiry and domains. Its hint and its times to live come of these.
-fn entry(alloc: Global, words: &[&str]) -> Result<Shared<NewEntry>, Fail> {
+fn entry(alloc: Global, words: &[&str]) -> Result<Shared<NewEntry>, Failed> {
     let expiry = number(words, 5)?;
     let parent = id(alloc, word(words, 2))?;
     let identity = id(alloc, word(words, 3))?;
@@ -111,7 +111,7 @@ fn entry(alloc: Global, words: &[&str]) -> Result<Shared<NewEntry>, Fail> {
 }
 
 /// An agent, of its name and its selectors.
-fn agent(alloc: Global, words: &[&str]) -> Result<Agent, Fail> {
+fn agent(alloc: Global, words: &[&str]) -> Result<Agent, Failed> {
     let selectors = selectors(alloc, word(words, 2))?;
     Ok(Agent {
         id: id(alloc, word(words, 1))?,
@@ -120,7 +120,7 @@ fn agent(alloc: Global, words: &[&str]) -> Result<Agent, Fail> {
 }
 
 /// A page, of its size, the number of the book that it reads, and the number of the entry after which it begins.
-fn page(alloc: Global, words: &[&str]) -> Result<Op, Fail> {
+fn page(alloc: Global, words: &[&str]) -> Result<Op, Failed> {
     let filter = Filter {
         parent: None,
         identity: None,
@@ -145,7 +145,7 @@ fn mode(word: &str) -> DropMode {
 }
 
 /// The operation that a line tells. One whose name ends in 0 expects revision 0.
-fn op(alloc: Global, words: &[&str]) -> Result<Op, Fail> {
+fn op(alloc: Global, words: &[&str]) -> Result<Op, Failed> {
     match word(words, 0) {
         "create" => Ok(Op::Create(entry(alloc, words)?)),
         "update" => Ok(Op::Update(entry(alloc, words)?, None)),
@@ -160,7 +160,7 @@ fn op(alloc: Global, words: &[&str]) -> Result<Op, Fail> {
     }
 }
 
-fn other_op(alloc: Global, words: &[&str], kind: &str) -> Result<Op, Fail> {
+fn other_op(alloc: Global, words: &[&str], kind: &str) -> Result<Op, Failed> {
     match kind {
         "set_bundle" => Ok(Op::SetBundle(domain(alloc, word(words, 1))?, text(alloc)?)),
         "drop_bundle" => {
@@ -172,19 +172,19 @@ fn other_op(alloc: Global, words: &[&str], kind: &str) -> Result<Op, Fail> {
     }
 }
 
-fn op_of_id(id: Shared<SpiffeId>, kind: &str) -> Result<Op, Fail> {
+fn op_of_id(id: Shared<SpiffeId>, kind: &str) -> Result<Op, Failed> {
     match kind {
         "drop_agent" => Ok(Op::DropAgent(id)),
         "show_agent" => Ok(Op::ShowAgent(id)),
         "children" => Ok(Op::Children(id)),
         "authorised" => Ok(Op::Authorised(id)),
         "trust" => Ok(Op::Trust(id)),
-        _ => Err(Fail::from("no such operation")),
+        _ => Err(Failed::NotRead),
     }
 }
 
 /// The number behind this word, where a line begins with it.
-pub fn number_behind(alloc: Global, lines: &str, first: &str) -> Result<Option<u64>, Fail> {
+pub fn number_behind(alloc: Global, lines: &str, first: &str) -> Result<Option<u64>, Failed> {
     for line in lines.lines() {
         let words = words(alloc, line)?;
         if word(words.as_slice(), 0) == first {
@@ -195,7 +195,7 @@ pub fn number_behind(alloc: Global, lines: &str, first: &str) -> Result<Option<u
 }
 
 /// The operations that the other lines tell.
-fn ops_of(alloc: Global, lines: &str) -> Result<Sequence<Op>, Fail> {
+fn ops_of(alloc: Global, lines: &str) -> Result<Sequence<Op>, Failed> {
     let mut ops = Sequence::empty(alloc);
     for line in lines.lines() {
         if !line.starts_with("token ") && !line.starts_with("after ") {
@@ -207,7 +207,7 @@ fn ops_of(alloc: Global, lines: &str) -> Result<Sequence<Op>, Fail> {
 
 /// The batch that a text tells: its token, `token 7`, and the least place at which it may run, `after 1`, where they are given,
 /// and its operations, with `; ` between them.
-pub fn batch(alloc: Global, text: &str) -> Result<Batch, Fail> {
+pub fn batch(alloc: Global, text: &str) -> Result<Batch, Failed> {
     let lines = text.replace(alloc, "; ", "\n")?;
     let token = number_behind(alloc, lines.as_str(), "token")?;
     let after = number_behind(alloc, lines.as_str(), "after")?;

@@ -1,0 +1,40 @@
+//! Why is there no batch, or no text?
+
+use spiffe_name::Failure;
+use std::alloc::{AllocError, AllocFailed};
+use std::num::ParseIntError;
+
+/// A text tells nothing, or memory is wanting.
+#[derive(Clone, Copy, Debug)]
+pub enum Failed {
+    NoMemory,
+    /// A text tells no batch.
+    NotRead,
+}
+
+impl From<AllocError> for Failed {
+    fn from(_: AllocError) -> Failed {
+        Failed::NoMemory
+    }
+}
+
+impl<T: Drop> From<AllocFailed<T>> for Failed {
+    fn from(_: AllocFailed<T>) -> Failed {
+        Failed::NoMemory
+    }
+}
+
+impl From<ParseIntError> for Failed {
+    fn from(_: ParseIntError) -> Failed {
+        Failed::NotRead
+    }
+}
+
+impl<R: Drop> From<Failure<R>> for Failed {
+    fn from(failure: Failure<R>) -> Failed {
+        match failure {
+            Failure::NoMemory => Failed::NoMemory,
+            Failure::Refused(_) => Failed::NotRead,
+        }
+    }
+}
