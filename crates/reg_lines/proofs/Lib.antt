@@ -33,3 +33,4 @@ pub mod NeatValues
 pub mod Typed
 pub mod OneLine
 pub mod Spelled
+pub mod Written

@@ -26,7 +26,7 @@
 //! - The answer to an event, an [`EventRefused`] and a [`CallOrder`] are printed as the lines of a schedule;
 //!   [`printed_events_law`] says which values they are.
 //! - A [`CallRecord`] is printed as the line of a record, with the call's batch; [`printed_records_law`] says which values they
-//!   are.
+//!   are, and [`CallRecord::know_types`] that they hold what the types of their parts see to, so that the line is read back.
 //!
 //! [`lines_law`] says what the lines of bytes are, and [`kept_law`] that what is kept of a line is enough; [`KEPT_BYTES`]
 //! and [`most_lines`] are the limits.

@@ -4,7 +4,7 @@
 //! - `names`, `book_rows`: what a book holds; `marks`: what a call read.
 //! - `replies`, `events`, `refusal`, `seats`: the lines that go out.
 //! - `batches`, `records`: what was asked, as a record of a call has it.
-//! - `values`: which JSON values these lines are.
+//! - `values`: which JSON values these lines are; `written`: what the types of a record's parts see to.
 
 pub(crate) mod batches;
 pub(crate) mod book_rows;
@@ -18,6 +18,7 @@ pub(crate) mod replies;
 pub(crate) mod seats;
 pub(crate) mod text;
 pub(crate) mod values;
+pub(crate) mod written;
 
 pub use events::{CallOrder, EventRefused};
 pub use print_json::{PrintJson, print_line, print_list, print_number};

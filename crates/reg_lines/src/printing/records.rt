@@ -6,6 +6,7 @@ use crate::devices::output::Output;
 use crate::devices::sink::Sink;
 use crate::printing::print_json::{PrintJson, print_number};
 use crate::printing::replies::CallReply;
+use crate::printing::written::Written;
 use call_machine::{CallAnswer, KnownCall};
 use entry_book::{Batch, Reply};
 
@@ -30,6 +31,7 @@ pub struct CallRecord<'a> {
 impl<'a> CallRecord<'a> {
     ghost use Rattle.std.specs.Prelude.{◌≡◌};
     ghost use Rattle.reg_lines.specs.CallRecords.{record_of};
+    ghost use Rattle.reg_lines.specs.Spelled.{IsWrittenBatch, IsWrittenCall};
 
     /// The record of the call of this number, once it has a reply: a conflict is none.
     pub fn of(call: u64, known: &KnownCall<'a>) -> Option<CallRecord<'a>>
@@ -46,6 +48,23 @@ impl<'a> CallRecord<'a> {
             Some(CallAnswer::Conflict(_)) => None,
             None => None,
         }
+    }
+
+    /// The record's batch has no fault, and its parts are as their types see to; of such a record [`crate::read_back_law`] says
+    /// that its line spells it. This only reads the record, and takes no memory: what it ensures is a fact to cite.
+    pub fn know_types(&self)
+        ensures batch { IsWrittenBatch self.now.batch.now }
+        ensures call { IsWrittenCall self.now.call self.now.invoked self.now.replied self.now.reply.now }
+    {
+        let reply = CallReply {
+            call: self.call,
+            reply: self.reply,
+        };
+        self.batch.know();
+        self.call.know();
+        self.invoked.know();
+        self.replied.know();
+        reply.know();
     }
 }
 
