@@ -9,11 +9,12 @@ use Rattle.entry_book.proofs.Sets.{All-within}
 use Rattle.call_machine.specs.Calls.{Call}
 use Rattle.call_machine.specs.Schedules.{Different}
 use Rattle.reg_lines.specs.Lines.{lines_of}
-use Rattle.call_audit.specs.Confirmed.{AreConfirmed, CallAt, CallHasEnded, CallsAreLegal, CallsAreStrict, CallsHaveEnded, CallsStandOnce, ConfirmedAreAudited, IsReadable, RecordedCall, line_of_call}
+use Rattle.reg_lines.specs.Spelled.{Fits}
+use Rattle.call_audit.specs.Confirmed.{AreConfirmed, CallAt, CallHasEnded, CallsAreLegal, CallsAreStrict, CallsHaveEnded, CallsStandOnce, ConfirmedAreAudited, IsReadable, RecordedCall, line_of_call, text_of_call}
 use Rattle.call_audit.specs.Verdicts.{verdict_of}
 use Rattle.call_audit.specs.declared.verdict.Verdict.TheVariants.{Yes}
 use Rattle.reg_programs.specs.Confirmed.{RecordsAreAudited, call_of}
-use Rattle.reg_programs.specs.Recorded.{AreLegal, AreRecords, IsEnded, IsEndedAt, IsNotPast, Recorded, StampsInOrder, record_line}
+use Rattle.reg_programs.specs.Recorded.{AreLegal, AreRecords, IsEnded, IsEndedAt, IsNotPast, IsWritten, Recorded, StampsInOrder, record_line}
 
 abbrev calls_of : List Recorded → List RecordedCall
 calls_of rs = map call_of rs
@@ -90,9 +91,15 @@ same_count : (rs : List Recorded) → length (calls_of rs) ≡ length rs
 same_count [] = refl
 same_count (r ∷ rs) = ap suc (same_count rs)
 
+-- ---- each can be read back
+
+readable : (domain : List ℕ) (rs : List Recorded) → AllByRecursion (λ r. r.batch.domain ≡ domain) rs → AllByRecursion IsWritten rs → AllByRecursion (λ r. Fits (text_of_call (call_of r))) rs → AllByRecursion (λ r. IsReadable domain (call_of r)) rs
+readable domain [] made written fits = tt
+readable domain (r ∷ rs) made written fits = (record { domain_is = made.0; batch = written.0.0; call = written.0.1; fits = fits.0 }, readable domain rs made.1 written.1 fits.1)
+
 pub records_are_audited : ConfirmedAreAudited → RecordsAreAudited
-records_are_audited law domain last order recorded end h readable =
+records_are_audited law domain last order recorded end h fits =
     let confirmed : AreConfirmed (calls_of recorded) = record { once = stand_once last.machine.calls order recorded h.headline.serial.once h.records; ended = have_ended recorded h.ended; strict = in_order recorded h.in_order; legal = given first_books recorded h.legal } in
     ap (λ bytes. verdict_of domain (lines_of bytes)) (h.end_is ∙ same_lines recorded)
-    ∙ law domain (calls_of recorded) confirmed (at_call (IsReadable domain) recorded readable)
+    ∙ law domain (calls_of recorded) confirmed (at_call (IsReadable domain) recorded (readable domain recorded h.made_for h.written fits))
     ∙ ap (λ n. Yes n) (same_count recorded)

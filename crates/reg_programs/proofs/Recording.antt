@@ -1,6 +1,6 @@
 -- The records of a machine's calls.
 use Rattle.std.proofs.Common.{◌≡◌, ◌+◌, ◌≤◌, ◌<◌, ℕ, zero, suc, true, ◌⊎◌, inl, inr, ⊎_elim, List, [], ◌∷◌, ◌++◌, take, length, get_or, Option, None, Some, Result, Ok, Err, refl, sym, ap, ◌∙◌, subst, arith}
-use Rattle.std.specs.Prelude.{OnOk, IfSome}
+use Rattle.std.specs.Prelude.{OnOk, IfSome, slice_get}
 use Rattle.std.specs.Io.KnownBytes.{Appends}
 use Rattle.std.specs.List.{AllByRecursion, flat_map}
 use Rattle.std.proofs.lemmas.Grind.{flat_map-append}
@@ -11,11 +11,11 @@ use Rattle.entry_book.specs.Book.{Book}
 use Rattle.entry_book.specs.Batches.{Batch}
 use Rattle.entry_book.specs.History.{books_after, first_books, is_committed, reply_to}
 use Rattle.entry_book.specs.Order.{Within}
-use Rattle.entry_book.proofs.Sets.{All-within}
+use Rattle.entry_book.proofs.Sets.{All-more, All-within}
 use Rattle.call_machine.specs.Calls.{Call, Stage, State, waiting, running, ready, answered, committed, conflict, call_at, first_state, told_of}
 use Rattle.call_machine.specs.Known.{Tells, TellsAnswer, TellsCall}
 use Rattle.call_machine.specs.Laws.{HoldReplies, IsOrder, IsStamped}
-use Rattle.call_machine.specs.Machine.{Runs}
+use Rattle.call_machine.specs.Machine.{AreFor, IsFor, Runs}
 use Rattle.call_machine.specs.Schedules.{Answer, At, Different, EndedBefore, GaveOut, HandedIn, Happened, Headline, IsListed, IsReplyOf, OneBatch, RunsFrom, StandsBefore, accepted}
 use Rattle.call_machine.specs.declared.call.CallAnswer.{CallAnswer}
 use Rattle.call_machine.specs.declared.call.CallAnswer.TheVariants as is
@@ -35,11 +35,12 @@ use Rattle.call_machine.proofs.Whole.{Stands, calls_are_stamped, runs_stand}
 use Rattle.reg_lines.specs.CallRecords.{record_of, record_with}
 use Rattle.reg_lines.specs.RecordLines.{record_json}
 use Rattle.reg_lines.specs.Runs.{IsRun}
+use Rattle.reg_lines.specs.Spelled.{IsWrittenBatch, IsWrittenCall}
 use Rattle.reg_lines.specs.Stream.{OutputState, Puts}
 use Rattle.reg_lines.specs.declared.printing.records.CallRecord.{CallRecord}
 use Rattle.reg_programs.specs.Answers.{as_line}
 use Rattle.reg_programs.specs.Driver.{AppendsClosed, Closes}
-use Rattle.reg_programs.specs.Recorded.{AppendsRecords, AreLegal, AreRecords, ClosesWithRecords, HasStamps, IsEnded, IsEndedAt, IsNotPast, IsRecordOf, Recorded, StampsInOrder, TakesEvent, TellsRecords, record_line}
+use Rattle.reg_programs.specs.Recorded.{AppendsRecords, AreLegal, AreRecords, ClosesWithRecords, HasStamps, IsEnded, IsEndedAt, IsNotPast, IsRecordOf, IsWritten, Recorded, StampsInOrder, TakesEvent, TellsRecords, record_line}
 use Rattle.reg_programs.specs.Schedules.{Scheduled, start}
 use Rattle.reg_programs.specs.declared.faults.RunFault.{RunFault}
 
@@ -67,7 +68,17 @@ same_length calls [] (r ∷ rs) h = absurd h
 same_length calls (n ∷ ns) [] h = absurd h
 same_length calls (n ∷ ns) (r ∷ rs) h = ap suc (same_length calls ns rs h.1)
 
+pub written_next : (records : List Recorded) (i : ℕ) (r : Recorded) → r ≡ get_or records i r → i < length records → AllByRecursion IsWritten (take i records) → IsWritten r → AllByRecursion IsWritten (take (i + 1) records)
+written_next records i r e l all w =
+    subst (AllByRecursion IsWritten) (sym (take_more records i r l)) (All-more IsWritten (take i records) (get_or records i r) all (subst IsWritten e w))
+
 -- ---- what the machine tells of a call
+
+abbrev made : Batch → ℕ → ℕ → Option ℕ → Reply → Recorded
+made batch call invoked replied reply = record { batch = batch; call = call; invoked = invoked; replied = replied; reply = reply }
+
+abbrev recorded_as : CallRecord → Recorded
+recorded_as x = made x.batch.now x.call x.invoked x.replied x.reply.now
 
 -- the answer that is told is the reply
 replied_answer : (stage : Stage) (answer : Option CallAnswer) (reply : Reply) → told_of stage ≡ Some (Replied reply) → TellsAnswer stage answer → (b : Bor Reply) × (answer ≡ Some (is.Replied b)) × (b.now ≡ reply)
@@ -82,32 +93,37 @@ replied_answer (committed r) None reply e t = absurd t
 replied_answer (committed r) (Some (is.Conflict place)) reply e t = absurd t
 replied_answer (committed r) (Some (is.Replied b)) reply e t = (b, refl, t ∙ (cc))
 
-same_line : (r : Recorded) (batch : Batch) (call invoked : ℕ) (replied : Option ℕ) (reply : Reply) → r.batch ≡ batch → r.call ≡ call → r.invoked ≡ invoked → r.replied ≡ replied → r.reply ≡ reply → record_line r ≡ as_line (record_json batch call invoked replied reply)
-same_line r batch call invoked replied reply a b c d e =
-    ap (λ x. as_line (record_json x r.call r.invoked r.replied r.reply)) a
-    ∙ (ap (λ x. as_line (record_json batch x r.invoked r.replied r.reply)) b
-    ∙ (ap (λ x. as_line (record_json batch call x r.replied r.reply)) c
-    ∙ (ap (λ x. as_line (record_json batch call invoked x r.reply)) d
-    ∙ ap (λ x. as_line (record_json batch call invoked replied x)) e)))
+same_record : (r : Recorded) (batch : Batch) (call invoked : ℕ) (replied : Option ℕ) (reply : Reply) → r.batch ≡ batch → r.call ≡ call → r.invoked ≡ invoked → r.replied ≡ replied → r.reply ≡ reply → r ≡ made batch call invoked replied reply
+same_record r batch call invoked replied reply a b c d e =
+    ap (λ x. made x r.call r.invoked r.replied r.reply) a
+    ∙ (ap (λ x. made batch x r.invoked r.replied r.reply) b
+    ∙ (ap (λ x. made batch call x r.replied r.reply) c
+    ∙ (ap (λ x. made batch call invoked x r.reply) d
+    ∙ ap (λ x. made batch call invoked replied x) e)))
 
--- what is told of a call is printed as its record
-record_told : (calls : List Call) (n : ℕ) (r : Recorded) (known : KnownCall) → IsRecordOf calls n r → Tells (call_at n calls) (Some known) → (x : CallRecord) × (record_of n known ≡ Some x) × (record_line r ≡ as_line (record_json x.batch.now x.call x.invoked x.replied x.reply.now))
+-- what is told of a call is its record
+record_told : (calls : List Call) (n : ℕ) (r : Recorded) (known : KnownCall) → IsRecordOf calls n r → Tells (call_at n calls) (Some known) → (x : CallRecord) × (record_of n known ≡ Some x) × (r ≡ recorded_as x)
 record_told calls n r known of t =
     let told : TellsCall of.call known = subst (λ o. Tells o (Some known)) of.found t in
     let answer = replied_answer of.call.stage known.answer r.reply of.holds told.answer in (
       record { batch = known.batch; call = n; invoked = known.invoked; replied = known.replied; reply = answer.0 },
       ap (λ a. record_with n known a) answer.1,
-      same_line r known.batch.now n known.invoked known.replied answer.0.now (of.batch_is ∙ sym told.batch) of.number_is (of.invoked_is ∙ sym told.invoked) (of.replied_is ∙ sym told.replied) (sym answer.2),
+      same_record r known.batch.now n known.invoked known.replied answer.0.now (of.batch_is ∙ sym told.batch) of.number_is (of.invoked_is ∙ sym told.invoked) (of.replied_is ∙ sym told.replied) (sym answer.2),
     )
 
 some_same : (a b : CallRecord) → Some a ≡ Some b → a ≡ b
 some_same a b e = cc
 
-pub told_line : (calls : List Call) (n : ℕ) (r : Recorded) (known : KnownCall) (x : CallRecord) → IsRecordOf calls n r → Tells (call_at n calls) (Some known) → Some x ≡ record_of n known → as_line (record_json x.batch.now x.call x.invoked x.replied x.reply.now) ≡ record_line r
-told_line calls n r known x of t e =
+told_same_record : (calls : List Call) (n : ℕ) (r : Recorded) (known : KnownCall) (x : CallRecord) → IsRecordOf calls n r → Tells (call_at n calls) (Some known) → Some x ≡ record_of n known → recorded_as x ≡ r
+told_same_record calls n r known x of t e =
     let told = record_told calls n r known of t in
-    let P : CallRecord → Type 0 = λ y. record_line r ≡ as_line (record_json y.batch.now y.call y.invoked y.replied y.reply.now) in
-    sym (subst P (some_same told.0 x (sym told.1 ∙ sym e)) told.2)
+    sym (told.2 ∙ ap recorded_as (some_same told.0 x (sym told.1 ∙ sym e)))
+
+pub told_line : (calls : List Call) (n : ℕ) (r : Recorded) (known : KnownCall) (x : CallRecord) → IsRecordOf calls n r → Tells (call_at n calls) (Some known) → Some x ≡ record_of n known → as_line (record_json x.batch.now x.call x.invoked x.replied x.reply.now) ≡ record_line r
+told_line calls n r known x of t e = ap record_line (told_same_record calls n r known x of t e)
+
+pub told_written : (calls : List Call) (n : ℕ) (r : Recorded) (known : KnownCall) (x : CallRecord) → IsRecordOf calls n r → Tells (call_at n calls) (Some known) → Some x ≡ record_of n known → IsWrittenBatch x.batch.now → IsWrittenCall x.call x.invoked x.replied x.reply.now → IsWritten r
+told_written calls n r known x of t e batch call = subst IsWritten (told_same_record calls n r known x of t e) (batch, call)
 
 -- ---- the records of an order
 
@@ -252,10 +268,32 @@ have_ended log s h one stamps books (n ∷ ns) (r ∷ rs) listed are legal runs 
       have_ended log s h one stamps (books_after r.batch books) ns rs (λ m w. listed m (inr w)) are.1 legal.1 rest,
     )
 
+-- ---- the trust domain of their batches
+
+all_accepted : (own : List ℕ) (events : List Event) (answers : List Answer) → AreFor own events → AllByRecursion (λ h. IsFor own h.event) (accepted events answers)
+all_accepted own [] answers m = tt
+all_accepted own (e ∷ es) [] m = tt
+all_accepted own (e ∷ es) (Ok d ∷ answers) m = (m.0, all_accepted own es answers m.1)
+all_accepted own (e ∷ es) (Err r ∷ answers) m = all_accepted own es answers m.1
+
+same_event : (g h : Happened) → Some g ≡ Some h → g ≡ h
+same_event g h e = cc
+
+at_event : (P : Happened → Type 0) (log : List Happened) (i : ℕ) (h : Happened) → AllByRecursion P log → slice_get log i ≡ Some h → P h
+at_event P [] i h all e = absurd (cc)
+at_event P (g ∷ log) zero h all e = subst P (same_event g h e) all.0
+at_event P (g ∷ log) (suc i) h all e = at_event P log i h all.1 e
+
+made_for : (own : List ℕ) (log : List Happened) → AllByRecursion (λ h. IsFor own h.event) log → (records : List Recorded) → AllByRecursion (HasStamps log) records → AllByRecursion (λ r. r.batch.domain ≡ own) records
+made_for own log all [] s = tt
+made_for own log all (r ∷ rs) s =
+    let invoked = s.0.invoked.1 in
+    (at_event (λ h. IsFor own h.event) log invoked.0 _ all invoked.2, made_for own log all rs s.1)
+
 -- ---- what the end of a run tells
 
-pub tells_records : (own : List ℕ) (last : Scheduled) (order : List ℕ) → Runs (first_state own) last.events last.answers last.machine → IsOrder last.machine order → Headline (accepted last.events last.answers) order → HoldReplies last.machine.calls first_books order → (records : List Recorded) × TellsRecords last order records (flat_map record_line records)
-tells_records own last order runs is headline held =
+pub tells_records : (own : List ℕ) (last : Scheduled) (order : List ℕ) → Runs (first_state own) last.events last.answers last.machine → AreFor own last.events → IsOrder last.machine order → Headline (accepted last.events last.answers) order → HoldReplies last.machine.calls first_books order → ((records : List Recorded) → AreRecords last.machine.calls order records → AllByRecursion IsWritten records) → (records : List Recorded) × TellsRecords own last order records (flat_map record_line records)
+tells_records own last order runs made is headline held written =
     let log = accepted last.events last.answers in
     let calls = last.machine.calls in
     let found = records_of calls first_books order held in
@@ -271,6 +309,8 @@ tells_records own last order runs is headline held =
         ended = have_ended log last.machine stands headline.one_batch stamps first_books order found.0 (λ n w. (headline.serial.listed n).0 w) found.1 found.2 headline.legal;
         legal = found.2;
         in_order = in_order log calls order found.0 found.1 stamped headline.serial.once (λ a b v w e. headline.strict a b ((headline.serial.listed a).0 v) ((headline.serial.listed b).0 w) e);
+        made_for = made_for own log (all_accepted own last.events last.answers made) found.0 stamped;
+        written = written found.0 found.1;
         end_is = refl;
       },
     )
@@ -282,7 +322,7 @@ nothing_told domain first last [] text r = r.1
 nothing_told domain first last (l ∷ lines) text r =
     r.4 ∙ (ap (λ x. x ++ r.2) r.3.0 ∙ nothing_told domain r.0 last lines r.2 r.5)
 
-records_alone : (domain seed : List ℕ) (lines : List (List ℕ)) (old new : Option (List ℕ)) → AppendsClosed (TakesEvent domain) ClosesWithRecords (start domain seed) lines old new → AppendsRecords domain seed lines old new
+records_alone : (domain seed : List ℕ) (lines : List (List ℕ)) (old new : Option (List ℕ)) → AppendsClosed (TakesEvent domain) (ClosesWithRecords domain) (start domain seed) lines old new → AppendsRecords domain seed lines old new
 records_alone domain seed lines old new a =
     let run = a.1 in
     let none = nothing_told domain (start domain seed) run.0 lines run.1 run.3 in
@@ -294,17 +334,18 @@ records_alone domain seed lines old new a =
       subst (λ (x : List ℕ). Appends old new x) text a.2,
     )
 
-pub alone : {V : Type 0} (domain seed : List ℕ) (result : Result V RunFault) (all : Option (List ℕ)) (lines : List ℕ → List (List ℕ)) (old new : Option (List ℕ)) → OnOk result (IfSome all (λ bytes. AppendsClosed (TakesEvent domain) ClosesWithRecords (start domain seed) (lines bytes) old new)) → OnOk result (IfSome all (λ bytes. AppendsRecords domain seed (lines bytes) old new))
+pub alone : {V : Type 0} (domain seed : List ℕ) (result : Result V RunFault) (all : Option (List ℕ)) (lines : List ℕ → List (List ℕ)) (old new : Option (List ℕ)) → OnOk result (IfSome all (λ bytes. AppendsClosed (TakesEvent domain) (ClosesWithRecords domain) (start domain seed) (lines bytes) old new)) → OnOk result (IfSome all (λ bytes. AppendsRecords domain seed (lines bytes) old new))
 alone domain seed (Err e) all lines old new h = tt
 alone domain seed (Ok x) None lines old new h = tt
 alone domain seed (Ok x) (Some bytes) lines old new h = records_alone domain seed (lines bytes) old new h
 
 -- the records were put behind what was put before
-pub closed_with_records : (own : List ℕ) (now : Scheduled) (m : State) (order : List ℕ) → now.machine ≡ m → Runs (first_state own) now.events now.answers now.machine → IsOrder m order → ((own : List ℕ) (events : List Event) (answers : List Answer) → Runs (first_state own) events answers m → Headline (accepted events answers) order) → ((own : List ℕ) (events : List Event) (answers : List Answer) → Runs (first_state own) events answers m → HoldReplies m.calls first_books order) → (a b : OutputState) → ((records : List Recorded) → AreRecords m.calls order records → Puts a b (flat_map record_line records)) → Closes ClosesWithRecords now a b
-closed_with_records own now m order e runs is headline held a b put =
+pub closed_with_records : (own : List ℕ) (now : Scheduled) (m : State) (order : List ℕ) → now.machine ≡ m → Runs (first_state own) now.events now.answers now.machine → AreFor own now.events → IsOrder m order → ((own : List ℕ) (events : List Event) (answers : List Answer) → Runs (first_state own) events answers m → Headline (accepted events answers) order) → ((own : List ℕ) (events : List Event) (answers : List Answer) → Runs (first_state own) events answers m → HoldReplies m.calls first_books order) → (a b : OutputState) → ((records : List Recorded) → AreRecords m.calls order records → Puts a b (flat_map record_line records)) → ((records : List Recorded) → AreRecords m.calls order records → AllByRecursion IsWritten records) → Closes (ClosesWithRecords own) now a b
+closed_with_records own now m order e runs made is headline held a b put written =
     let ran = subst (λ s. Runs (first_state own) now.events now.answers s) e runs in
-    let told = tells_records own now order runs
+    let told = tells_records own now order runs made
     (subst (λ s. IsOrder s order) (sym e) is)
     (headline own now.events now.answers ran)
-    (subst (λ (s : State). HoldReplies s.calls first_books order) (sym e) (held own now.events now.answers ran)) in
+    (subst (λ (s : State). HoldReplies s.calls first_books order) (sym e) (held own now.events now.answers ran))
+    (λ records are. written records (subst (λ (s : State). AreRecords s.calls order records) e are)) in
     (flat_map record_line told.0, (order, told.0, told.1), put told.0 (subst (λ (s : State). AreRecords s.calls order told.0) e told.1.records))

@@ -4,8 +4,9 @@ use Rattle.std.specs.Prelude.{Ok}
 use Rattle.rand_chacha.specs.ChaCha.{ChaCha}
 use Rattle.spiffe_name.specs.declared.refusals.Failure.{Failure}
 use Rattle.spiffe_name.specs.declared.refusals.Failure.TheVariants.{NoMemory, Refused}
+use Rattle.entry_book.proofs.Sets.{All-more}
 use Rattle.call_machine.specs.Calls.{State, first_state}
-use Rattle.call_machine.specs.Machine.{Runs}
+use Rattle.call_machine.specs.Machine.{AreFor, IsFor, Runs}
 use Rattle.call_machine.specs.declared.event.Event.{Event}
 use Rattle.call_machine.proofs.Runs.{event_leaves, runs_go_on}
 use Rattle.reg_lines.specs.Events.{spelled_event}
@@ -14,6 +15,7 @@ use Rattle.reg_lines.specs.Lines.{kept, IsLine}
 use Rattle.reg_lines.specs.Refusals.{failure_json, refusal_json}
 use Rattle.reg_lines.specs.declared.fault.Fault.{Fault}
 use Rattle.reg_lines.specs.declared.printing.refusal.LineRefusal.{LineRefusal}
+use Rattle.reg_lines.proofs.EventDomain.{spelled_event-domain}
 use Rattle.reg_lines.proofs.Kept.{kept_spells_event}
 use Rattle.reg_programs.specs.Answers.{as_line}
 use Rattle.reg_programs.specs.Schedules.{AnswersEvent, Applied, ScheduleKept, Scheduled, StandsFor, TakesEventLine, TakesKept, applied, not_read, passed, refused, stepped}
@@ -30,6 +32,7 @@ event_refused domain now line text machine ids NoMemory m i e t = record {
   domain_is = ap (λ (s : State). s.domain) (sym m);
   count = let k = ap (λ (s : State). s.count) m in omega arith;
   runs = λ first r. r;
+  made = λ m. m;
 }
 event_refused domain now line text machine ids (Refused fault) m i e t = record {
   next = passed now;
@@ -40,6 +43,7 @@ event_refused domain now line text machine ids (Refused fault) m i e t = record 
   domain_is = ap (λ (s : State). s.domain) (sym m);
   count = let k = ap (λ (s : State). s.count) m in omega arith;
   runs = λ first r. r;
+  made = λ m. m;
 }
 
 pub line_refused : (domain : List ℕ) (now : Scheduled) (line : List ℕ) (machine : State) (ids : ChaCha) (refusal : LineRefusal) → now.machine ≡ machine → now.ids ≡ ids → Fails refusal.failure (spelled_event domain now.ids line) → refusal.line ≡ now.lines + 1 → TakesEventLine domain now line (refusal_json refusal) machine ids
@@ -57,6 +61,7 @@ event_applied domain now line text after ids event e a =
       domain_is = left_is.domain;
       count = left_is.count;
       runs = λ first r. runs_go_on now.events now.answers first now.machine after event a.0 r a.1;
+      made = λ m. All-more (IsFor domain) now.events event m (spelled_event-domain domain now.ids ids line event e);
     }
 
 -- ---- the line of which bytes are kept
@@ -66,11 +71,12 @@ of_kept domain now line next reply is (refused fault e n r) = refused fault (sym
 of_kept domain now line next reply is (applied event ids answer machine e a n r) = applied event ids answer machine (sym (kept_spells_event domain now.ids line is) ∙ e) a n r
 of_kept domain now line next reply is (not_read n r) = not_read n r
 
-pub scheduled : (domain : List ℕ) (before after : ScheduleKept) (now : Scheduled) (bytes text : List ℕ) → StandsFor before now → TakesEventLine domain now bytes text after.machine after.ids → after.lines ≡ before.lines + 1 → TakesKept domain after now bytes text
-scheduled domain before after now bytes text s a l =
+pub scheduled : (domain : List ℕ) (before after : ScheduleKept) (now : Scheduled) (bytes text : List ℕ) → before.machine.domain ≡ domain → StandsFor before now → TakesEventLine domain now bytes text after.machine after.ids → after.lines ≡ before.lines + 1 → TakesKept domain after now bytes text
+scheduled domain before after now bytes text of s a l =
     let own : before.machine.domain ≡ after.machine.domain = sym (a.domain_is ∙ ap (λ (m : State). m.domain) s.machine) in
     let stands : StandsFor after a.next = record {
       runs = subst (λ d. Runs (first_state d) a.next.events a.next.answers a.next.machine) own (a.runs (first_state before.machine.domain) s.runs);
+      made = subst (λ d. AreFor d a.next.events) (sym of ∙ own) (a.made (subst (λ d. AreFor d now.events) of s.made));
       machine = a.machine_is;
       ids = a.ids_is;
       lines = a.lines_is ∙ (ap (λ n. n + 1) s.lines ∙ sym l);

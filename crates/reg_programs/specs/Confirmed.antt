@@ -2,7 +2,8 @@
 use Rattle.std.specs.Prelude.{◌≡◌, ℕ, List, length}
 use Rattle.std.specs.List.{AllByRecursion}
 use Rattle.reg_lines.specs.Lines.{lines_of}
-use Rattle.call_audit.specs.Confirmed.{IsReadable, RecordedCall}
+use Rattle.reg_lines.specs.Spelled.{Fits}
+use Rattle.call_audit.specs.Confirmed.{RecordedCall, text_of_call}
 use Rattle.call_audit.specs.Verdicts.{verdict_of}
 use Rattle.call_audit.specs.declared.verdict.Verdict.TheVariants.{Yes}
 use Rattle.reg_programs.specs.Recorded.{Recorded, TellsRecords}
@@ -12,7 +13,7 @@ use Rattle.reg_programs.specs.Schedules.{Scheduled}
 abbrev pub call_of : Recorded → RecordedCall
 call_of r = record { batch = r.batch; call = r.call; invoked = r.invoked; replied = r.replied; reply = r.reply }
 
--- The text that a schedule leaves in the end is audited yes, with as many calls as there are records, where each of these is of the trust domain, holds what the types of its parts can hold, and fits into a line.
+-- The text that a schedule leaves in the end is audited yes in its trust domain, with as many calls as there are records, where each of these fits into a line.
 abbrev pub RecordsAreAudited : Type 0
-RecordsAreAudited = (domain : List ℕ) (last : Scheduled) (order : List ℕ) (recorded : List Recorded) (end : List ℕ) → TellsRecords last order recorded end → AllByRecursion (λ r. IsReadable domain (call_of r)) recorded
+RecordsAreAudited = (domain : List ℕ) (last : Scheduled) (order : List ℕ) (recorded : List Recorded) (end : List ℕ) → TellsRecords domain last order recorded end → AllByRecursion (λ r. Fits (text_of_call (call_of r))) recorded
     → verdict_of domain (lines_of end) ≡ Yes (length recorded)

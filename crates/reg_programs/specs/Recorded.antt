@@ -17,6 +17,7 @@ use Rattle.call_machine.specs.declared.event.Told.TheVariants.{Replied}
 use Rattle.reg_lines.specs.Lines.{most_lines}
 use Rattle.reg_lines.specs.RecordLines.{record_json}
 use Rattle.reg_lines.specs.Runs.{IsRun, first_lines}
+use Rattle.reg_lines.specs.Spelled.{IsWrittenBatch, IsWrittenCall}
 use Rattle.reg_lines.specs.Stream.{InputState, OutputState}
 use Rattle.reg_programs.specs.Answers.{as_line}
 use Rattle.reg_programs.specs.Driver.{RunsOver}
@@ -58,6 +59,10 @@ IsEndedAt (Some n) invoked reply = invoked < n
 abbrev pub IsEnded : Recorded → Type 0
 IsEnded r = IsEndedAt r.replied r.invoked r.reply
 
+-- It is of a batch without a fault, and of what the types of its parts see to.
+abbrev pub IsWritten : Recorded → Type 0
+IsWritten r = IsWrittenBatch r.batch × IsWrittenCall r.call r.invoked r.replied r.reply
+
 -- ---- records of a machine's calls
 
 -- The stamps are numbers of accepted events: the one that handed in the batch, and the one that gave out the reply.
@@ -88,8 +93,8 @@ AreRecords calls (n ∷ ns) (r ∷ rs) = IsRecordOf calls n r × AreRecords call
 abbrev pub TakesEvent : List ℕ → Scheduled → List ℕ → Scheduled → List ℕ → Type 0
 TakesEvent domain now line next reply = (reply ≡ []) × (answer : List ℕ) × AnswersEvent domain now line next answer
 
--- The text in the end is the records of the machine's calls, a line each, in an order of which the headline holds for the events and for what they were answered. Their stamps are those of the events, each was replied after its invoke or was committed, the plain book gives them their replies in this order, and by their stamps alone it is strict.
-pub record TellsRecords (last : Scheduled) (order : List ℕ) (recorded : List Recorded) (end : List ℕ) : Type 0 where
+-- The text in the end is the records of the machine's calls, a line each, in an order of which the headline holds for the events and for what they were answered. Their stamps are those of the events, each was replied after its invoke or was committed, the plain book gives them their replies in this order, and by their stamps alone it is strict. Their batches were made for the trust domain.
+pub record TellsRecords (domain : List ℕ) (last : Scheduled) (order : List ℕ) (recorded : List Recorded) (end : List ℕ) : Type 0 where
   pub is_order : IsOrder last.machine order
   pub headline : Headline (accepted last.events last.answers) order
   pub records : AreRecords last.machine.calls order recorded
@@ -97,10 +102,12 @@ pub record TellsRecords (last : Scheduled) (order : List ℕ) (recorded : List R
   pub ended : AllByRecursion IsEnded recorded
   pub legal : AreLegal first_books recorded
   pub in_order : StampsInOrder recorded
+  pub made_for : AllByRecursion (λ r. r.batch.domain ≡ domain) recorded
+  pub written : AllByRecursion IsWritten recorded
   pub end_is : end ≡ flat_map record_line recorded
 
-abbrev pub ClosesWithRecords : Scheduled → List ℕ → Type 0
-ClosesWithRecords last end = (order : List ℕ) × (recorded : List Recorded) × TellsRecords last order recorded end
+abbrev pub ClosesWithRecords : List ℕ → Scheduled → List ℕ → Type 0
+ClosesWithRecords domain last end = (order : List ℕ) × (recorded : List Recorded) × TellsRecords domain last order recorded end
 
 -- each line may be taken in every state
 pub an_event_taken : (domain : List ℕ) (now : Scheduled) (line : List ℕ) → (next : Scheduled) × (reply : List ℕ) × TakesEvent domain now line next reply
@@ -110,9 +117,9 @@ an_event_taken domain now line =
 
 -- the lines were taken, in order, and known bytes grow by the records alone
 abbrev pub AppendsRecords : List ℕ → List ℕ → List (List ℕ) → Option (List ℕ) → Option (List ℕ) → Type 0
-AppendsRecords domain seed lines old new = (last : Scheduled) × (end : List ℕ) × IsRun (TakesEvent domain) (start domain seed) lines last [] × ClosesWithRecords last end × Appends old new end
+AppendsRecords domain seed lines old new = (last : Scheduled) × (end : List ℕ) × IsRun (TakesEvent domain) (start domain seed) lines last [] × ClosesWithRecords domain last end × Appends old new end
 
 -- What a run of the engine over an input and an output has done: it is a run of lines, and where it got to its end, the records and nothing else were written.
 pub record RunsRecord {T : Type 0} (domain seed : List ℕ) (input rest : InputState) (output out : OutputState) (result : Result T RunFault) : Type 0 where
-  pub run : RunsOver (TakesEvent domain) ClosesWithRecords ⊤ (start domain seed) input rest output out result
+  pub run : RunsOver (TakesEvent domain) (ClosesWithRecords domain) ⊤ (start domain seed) input rest output out result
   pub alone : OnOk result (IfSome input.left (λ bytes. AppendsRecords domain seed (first_lines most_lines bytes) output.written out.written))

@@ -3,7 +3,7 @@ use Rattle.std.specs.Prelude.{◌≡◌, ◌≤◌, ℕ, ◌+◌, ⊤, List, [],
 use Rattle.rand_chacha.specs.ChaCha.{ChaCha}
 use Rattle.call_machine.specs.Calls.{State, first_state}
 use Rattle.call_machine.specs.Laws.{IsOrder}
-use Rattle.call_machine.specs.Machine.{Applies, Runs}
+use Rattle.call_machine.specs.Machine.{Applies, AreFor, Runs}
 use Rattle.call_machine.specs.Schedules.{Answer, Headline, accepted}
 use Rattle.call_machine.specs.declared.event.Event.{Event}
 use Rattle.reg_lines.specs.EventAnswers.{event_json, event_refusal_json, order_json}
@@ -79,6 +79,8 @@ pub record ScheduleKept : Type 0 where
 
 pub record StandsFor (kept : ScheduleKept) (now : Scheduled) : Type 0 where
   pub runs : Runs (first_state kept.machine.domain) now.events now.answers now.machine
+  -- each batch was made for the machine's trust domain
+  pub made : AreFor kept.machine.domain now.events
   pub machine : now.machine ≡ kept.machine
   pub ids : now.ids ≡ kept.ids
   pub lines : now.lines ≡ kept.lines
@@ -108,6 +110,7 @@ pub record TakesEventLine (domain : List ℕ) (now : Scheduled) (line : List ℕ
   pub domain_is : machine.domain ≡ now.machine.domain
   pub count : machine.count ≤ now.machine.count + 1
   pub runs : (first : State) → Runs first now.events now.answers now.machine → Runs first next.events next.answers next.machine
+  pub made : AreFor domain now.events → AreFor domain next.events
 
 -- the line of which these bytes are kept was taken, whichever line it is, and what is kept of the run stands for what it has come to then
 abbrev pub TakesKept : List ℕ → ScheduleKept → Scheduled → List ℕ → List ℕ → Type 0

@@ -1,9 +1,9 @@
 //! Which records does an input of event lines leave?
 
 ghost use Rattle.std.specs.Prelude.{◌≡◌, [], List};
-ghost use Rattle.std.specs.List.{flat_map};
+ghost use Rattle.std.specs.List.{AllByRecursion, flat_map};
 ghost use Rattle.reg_lines.specs.Stream.{Puts};
-ghost use Rattle.reg_programs.specs.Recorded.{AreRecords, IsRecordOf, Recorded, RunsRecord, record_line};
+ghost use Rattle.reg_programs.specs.Recorded.{AreRecords, IsRecordOf, IsWritten, Recorded, RunsRecord, record_line};
 
 use crate::driver::{Answerer, run_lines};
 use crate::faults::RunFault;
@@ -70,7 +70,7 @@ impl Answerer for RecordRun {
 
     ghost ends = { λ _. false };
 
-    ghost closes = { λ _. ClosesWithRecords };
+    ghost closes = { ClosesWithRecords };
 
     ghost wants = { ⊤ };
 
@@ -93,8 +93,10 @@ impl Answerer for RecordRun {
 
 /// Prints the record of each of these calls, each on a line.
 fn print_records<K: Sink>(machine: &Machine, calls: &[u64], output: &mut Output<K>)
-    ensures { (records : List Recorded) → AreRecords machine.now.calls calls.now records
+    ensures printed { (records : List Recorded) → AreRecords machine.now.calls calls.now records
         → Puts output.old output.new (flat_map record_line records) }
+    ensures written { (records : List Recorded) → AreRecords machine.now.calls calls.now records
+        → AllByRecursion IsWritten records }
 {
     for call in calls {
         print_record(machine, *call, output);
@@ -103,12 +105,15 @@ fn print_records<K: Sink>(machine: &Machine, calls: &[u64], output: &mut Output<
 
 /// Prints the record of the call of this number.
 fn print_record<K: Sink>(machine: &Machine, call: u64, output: &mut Output<K>)
-    ensures { (r : Recorded) → IsRecordOf machine.now.calls call r → Puts output.old output.new (record_line r) }
+    ensures printed { (r : Recorded) → IsRecordOf machine.now.calls call r
+        → Puts output.old output.new (record_line r) }
+    ensures written { (r : Recorded) → IsRecordOf machine.now.calls call r → IsWritten r }
 {
     let Some(known) = machine.call(call) else {
         return;
     };
     if let Some(record) = CallRecord::of(call, &known) {
+        record.know_types();
         print_line(&record, output);
     }
 }

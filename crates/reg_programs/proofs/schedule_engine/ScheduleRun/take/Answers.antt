@@ -27,4 +27,4 @@ returns-clause-taken c =
     let P : ScheduleKept → Type 0 = λ k. (now : Scheduled) → StandsFor k now → TakesKept k.machine.domain after now c.args.line.now text in
     subst P c.self.view_is (λ now stands.
     subst (λ d. TakesKept d after now c.args.line.now text) (sym c.self.invariant.of_domain)
-    (scheduled run.domain before after now c.args.line.now text stands (c.take-answer.ensures.line now stands.machine stands.ids stands.lines) refl))
+    (scheduled run.domain before after now c.args.line.now text c.self.invariant.of_domain stands (c.take-answer.ensures.line now stands.machine stands.ids stands.lines) refl))
