@@ -64,15 +64,29 @@ fn overtakes_all<J: Naming, R: Wait + Clock>(
     done
 }
 
-/// The create that is held is a conflict, and its seat has then seen the one that overtook it.
-fn check_held_create<J: Naming, R: Wait + Clock + Abort>(
+/// What changes come to that are held at the gate, and their seat. Nothing is asserted of it here: those that were to overtake
+/// them may have failed.
+fn is_held<J: Naming, R: Wait + Clock>(
     rt: &R,
     alloc: Global,
     site: &Site<J>,
     mut seat: Seat<J>,
     gate: &Turnstile<R>,
+    text: &str,
+    tries: u32,
+) -> Result<(Seat<J>, String), Failed> {
+    let told = site.does(rt, alloc, &mut seat, gate, text, tries)?;
+    Ok((seat, told))
+}
+
+/// The create that was held is a conflict, and its seat has then seen the one that overtook it.
+fn check_held_create<J: Naming, R: Abort>(
+    rt: &R,
+    alloc: Global,
+    site: &Site<J>,
+    held: (Seat<J>, String),
 ) -> Result<(), Failed> {
-    let told = site.does(rt, alloc, &mut seat, gate, "create 1 n1 /web u:1 0", 1)?;
+    let (mut seat, told) = held;
     assert_eq!(rt; told.as_str(), "conflict at 1");
     assert_eq!(rt; (seat.place(), seat.calls()), (1, 1));
     let shown = "answered at 1; none; shown 2.0";
@@ -88,14 +102,14 @@ pub fn two_creates<J: Naming + Send + Sync, R: Threads + Wait + Clock + Abort + 
     let held = site.seat(rt)?;
     let free = site.seat(rt)?;
     let gate = Turnstile::new(rt, Point::AfterBegin, held.number() as u32);
-    let other = "create 2 n1 /web u:1 0";
+    let (text, other) = ("create 1 n1 /web u:1 0", "create 2 n1 /web u:1 0");
     let (held, free) = join(
         rt,
-        || check_held_create(rt, alloc, site, held, &gate),
+        || is_held(rt, alloc, site, held, &gate, text, 1),
         || overtakes_all(rt, alloc, site, free, &gate, other, 1),
     );
     free?;
-    held?;
+    check_held_create(rt, alloc, site, held?)?;
     gate.check_passes(rt, 1);
     Ok(())
 }
@@ -109,20 +123,16 @@ struct Race<'a> {
     place: u64,
 }
 
-fn check_held_update<J: Naming, R: Wait + Clock + Abort>(
+fn check_held_update<J: Naming, R: Clock + Abort>(
     rt: &R,
-    alloc: Global,
-    site: &Site<J>,
-    mut seat: Seat<J>,
+    seat: &Seat<J>,
+    told: &str,
     gate: &Turnstile<R>,
     race: &Race,
-) -> Result<(), Failed> {
-    let text = "update 1 n1 /web u:2 0";
-    let told = site.does(rt, alloc, &mut seat, gate, text, race.tries)?;
-    assert_eq!(rt; told.as_str(), race.told);
+) {
+    assert_eq!(rt; told, race.told);
     assert_eq!(rt; (seat.place(), seat.calls()), (race.place, 1));
     gate.check_passes(rt, race.tries as u64);
-    Ok(())
 }
 
 /// An update of an entry that is there, beside those that overtake it.
@@ -137,14 +147,16 @@ fn check_race<J: Naming + Send + Sync, R: Threads + Wait + Clock + Abort + Sync>
     let want = "committed at 1; entry 1.0";
     site.check_outcome(rt, alloc, &mut free, "create 1 n1 /web u:1 0", want)?;
     let gate = Turnstile::new(rt, Point::AfterBegin, held.number() as u32);
-    let (text, times) = ("update 1 n1 /web u:3 0", race.overtaken);
+    let (text, other) = ("update 1 n1 /web u:2 0", "update 1 n1 /web u:3 0");
     let (held, free) = join(
         rt,
-        || check_held_update(rt, alloc, site, held, &gate, race),
-        || overtakes_all(rt, alloc, site, free, &gate, text, times),
+        || is_held(rt, alloc, site, held, &gate, text, race.tries),
+        || overtakes_all(rt, alloc, site, free, &gate, other, race.overtaken),
     );
     free?;
-    held
+    let (seat, told) = held?;
+    check_held_update(rt, &seat, told.as_str(), &gate, race);
+    Ok(())
 }
 
 /// All tries are overtaken.
