@@ -29,6 +29,7 @@ pub struct Turnstile<'a, R: Clock> {
     seat: u32,
     came: AtomicU64,
     let_on: AtomicU64,
+    left: AtomicBool,
     gave_up: AtomicBool,
 }
 
@@ -40,13 +41,29 @@ impl<'a, R: Clock> Turnstile<'a, R> {
             seat,
             came: AtomicU64::new(0),
             let_on: AtomicU64::new(0),
+            left: AtomicBool::new(false),
             gave_up: AtomicBool::new(false),
         }
     }
 
-    /// Waits until so many came, and says whether they did.
+    /// Waits until so many came, or no more will come, and says whether they did.
     pub fn holds(&self, count: u64) -> bool {
-        comes_to(self.rt, &self.came, count)
+        for _ in 0..TURNS {
+            let left = self.left.load(Ordering::SeqCst);
+            if self.came.load(Ordering::SeqCst) >= count {
+                return true;
+            }
+            if left {
+                return false;
+            }
+            thread::sleep(self.rt, Duration::from_millis(1));
+        }
+        false
+    }
+
+    /// No more will come.
+    pub fn leaves(&self) {
+        self.left.store(true, Ordering::SeqCst);
     }
 
     /// Lets as many on in all.
@@ -95,6 +112,11 @@ impl<'a, R: Clock> Meeting<'a, R> {
             came: AtomicU64::new(0),
             gave_up: AtomicBool::new(false),
         }
+    }
+
+    /// One will not begin: nobody waits for it any longer.
+    pub fn leaves(&self) {
+        self.came.fetch_add(self.count, Ordering::SeqCst);
     }
 
     /// So many have begun, and none went on before all were met, since it had waited too long.

@@ -75,8 +75,9 @@ fn is_held<J: Naming, R: Wait + Clock>(
     text: &str,
     tries: u32,
 ) -> Result<(Seat<J>, String), Failed> {
-    let told = site.does(rt, alloc, &mut seat, gate, text, tries)?;
-    Ok((seat, told))
+    let told = site.does(rt, alloc, &mut seat, gate, text, tries);
+    gate.leaves();
+    Ok((seat, told?))
 }
 
 /// The create that was held is a conflict, and its seat has then seen the one that overtook it.
@@ -108,8 +109,9 @@ pub fn two_creates<J: Naming + Send + Sync, R: Threads + Wait + Clock + Abort + 
         || is_held(rt, alloc, site, held, &gate, text, 1),
         || overtakes_all(rt, alloc, site, free, &gate, other, 1),
     );
+    let held = held?;
     free?;
-    check_held_create(rt, alloc, site, held?)?;
+    check_held_create(rt, alloc, site, held)?;
     gate.check_passes(rt, 1);
     Ok(())
 }
@@ -153,8 +155,8 @@ fn check_race<J: Naming + Send + Sync, R: Threads + Wait + Clock + Abort + Sync>
         || is_held(rt, alloc, site, held, &gate, text, race.tries),
         || overtakes_all(rt, alloc, site, free, &gate, other, race.overtaken),
     );
-    free?;
     let (seat, told) = held?;
+    free?;
     check_held_update(rt, &seat, told.as_str(), &gate, race);
     Ok(())
 }
@@ -197,8 +199,9 @@ fn check_locked_create<J: Naming, R: Wait + Clock + Abort>(
     mut seat: Seat<J>,
     gate: &Turnstile<R>,
 ) -> Result<(), Failed> {
-    let told = site.does(rt, alloc, &mut seat, gate, "create 1 n1 /web u:1 0", 1)?;
-    assert_eq!(rt; told.as_str(), "committed at 1; entry 1.0");
+    let told = site.does(rt, alloc, &mut seat, gate, "create 1 n1 /web u:1 0", 1);
+    gate.leaves();
+    assert_eq!(rt; told?.as_str(), "committed at 1; entry 1.0");
     gate.check_passes(rt, 1);
     Ok(())
 }
@@ -246,8 +249,8 @@ pub fn under_the_lock<J: Naming + Send + Sync, R: Threads + Wait + Clock + Abort
         || check_locked_create(rt, alloc, site, held, &gate),
         || check_queries(rt, alloc, site, free, &gate),
     );
-    free?;
-    held
+    held?;
+    free
 }
 
 #[test]

@@ -102,7 +102,11 @@ fn commits<J: Naming, R: Wait + Clock + Abort>(
     gate: &Meeting<R>,
 ) -> Result<bool, Failed> {
     let text = "token 7; set_agent n1 x:1; create 1 n1 /web u:1 0";
-    let told = site.does(rt, alloc, &mut seat, gate, text, 16)?;
+    let told = site.does(rt, alloc, &mut seat, gate, text, 16);
+    if told.is_err() {
+        gate.leaves();
+    }
+    let told = told?;
     if told.as_str() == "committed at 1; agent n1 1; entry 1.0" {
         return Ok(true);
     }
