@@ -139,18 +139,14 @@ impl Desk {
         }
     }
 
-    /// Commits the work at this index, which waits no longer: what became of it, and the work. Want of memory is an error, so
-    /// that no table has to know of it.
+    /// Commits the work at this index, which waits no longer: what became of it, and the work.
     pub fn commit(&mut self, index: usize, seat: u32, call: u64) -> Result<(Commit, Work), Fail> {
         let work = self.taken(index)?;
-        match self.head.commit(seat, call, &work) {
-            Commit::NoMemory => Err(Fail::from("no memory")),
-            commit => Ok((commit, work)),
-        }
+        let commit = self.head.commit(seat, call, &work);
+        Ok((commit, work))
     }
 
     /// Commits the work at this index in two calls. Beside what became of it: was the head between the two as it had been?
-    /// Want of memory is an error.
     pub fn commit_in_two(
         &mut self,
         index: usize,
@@ -158,10 +154,7 @@ impl Desk {
         call: u64,
     ) -> Result<(Commit, bool), Fail> {
         let work = self.taken(index)?;
-        match commit_in_two(&mut self.head, seat, call, &work) {
-            (Commit::NoMemory, _) => Err(Fail::from("no memory")),
-            committed => Ok(committed),
-        }
+        Ok(commit_in_two(&mut self.head, seat, call, &work))
     }
 
     /// Drops the items of the journal but the last 64.

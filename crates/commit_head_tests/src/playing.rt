@@ -21,10 +21,18 @@ fn begins(alloc: Global, desk: &mut Desk, text: &str) -> Result<(), Fail> {
     Ok(())
 }
 
+/// What became of a work. Want of memory is an error, so that no table has to know of it.
+fn known(commit: Commit) -> Result<Commit, Fail> {
+    match commit {
+        Commit::NoMemory => Err(Fail::from("no memory")),
+        commit => Ok(commit),
+    }
+}
+
 /// What became of the work that began last, committed for seat 0.
 fn commits_last(desk: &mut Desk, call: u64) -> Result<Commit, Fail> {
     let (commit, _) = desk.commit(desk.waiting().wrapping_sub(1), 0, call)?;
-    Ok(commit)
+    known(commit)
 }
 
 /// Begins a batch and commits it at once, which has to come about.
@@ -55,7 +63,7 @@ fn commits(alloc: Global, desk: &mut Desk, text: &str) -> Result<String, Fail> {
     let (index, seat) = (number(words.as_slice(), 0)?, seat(words.as_slice())?);
     let call = number(words.as_slice(), 2)?;
     let (commit, _) = desk.commit(index as usize, seat, call)?;
-    Ok(commit_text(alloc, &commit)?)
+    Ok(commit_text(alloc, &known(commit)?)?)
 }
 
 /// The same, in two calls.
@@ -67,7 +75,7 @@ fn commits_in_two(alloc: Global, desk: &mut Desk, text: &str) -> Result<String, 
     if !same {
         return Err(Fail::from("prepare has changed the head"));
     }
-    Ok(commit_text(alloc, &commit)?)
+    Ok(commit_text(alloc, &known(commit)?)?)
 }
 
 fn number_text(alloc: Global, number: u64) -> Result<String, Fail> {
