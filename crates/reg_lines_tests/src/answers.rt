@@ -34,6 +34,14 @@ pub(crate) fn printed<T: PrintJson>(alloc: Global, value: &T) -> Result<String, 
     Ok(String::from_str(alloc, text)?)
 }
 
+/// Why a line isn't read: want of memory is told apart.
+pub(crate) fn failure_of(refusal: &LineRefusal) -> Fail {
+    match &refusal.failure {
+        Failure::NoMemory => Fail::from("no memory"),
+        Failure::Refused(_) => Fail::from("the line is refused"),
+    }
+}
+
 /// The ids of the seed of zeros.
 pub(crate) fn new_ids() -> Ids {
     Ids::of_seed([0; 32])

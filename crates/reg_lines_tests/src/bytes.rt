@@ -13,6 +13,18 @@ const TEXT: &[u8] = b"one\n\ntwo\r\nthree\nlast";
 
 const NUMBERED: &[u8] = b"1:one\n2:\n3:two\r\n4:three\n5:last";
 
+/// A writer that has room for so many bytes: it never wants memory, which its user couldn't tell from a failed device.
+fn roomy_taker(
+    alloc: Global,
+    room: usize,
+    pace: Pace,
+    trouble: Trouble,
+) -> Result<Taker, AllocError> {
+    let mut taker = Taker::new(alloc, pace, trouble);
+    taker.bytes.reserve(room)?;
+    Ok(taker)
+}
+
 /// Runs the engine over these devices.
 fn run(
     alloc: Global,
@@ -29,17 +41,20 @@ fn run(
 #[test]
 fn memory_never_fails(rt: HostRuntime) -> Result<(), Fail> {
     let mut line = Line::new(rt.alloc())?;
-    let numbered = number_text(rt.alloc(), TEXT, &mut line, 100)
-        .ok()
-        .ok_or("a failure")?;
-    assert_eq!(rt; numbered.as_slice(), NUMBERED);
-    Ok(())
+    match number_text(rt.alloc(), TEXT, &mut line, 100) {
+        Ok(numbered) => {
+            assert_eq!(rt; numbered.as_slice(), NUMBERED);
+            Ok(())
+        }
+        Err(Ended::Input) => Err(Fail::from("a failed read")),
+        Err(Ended::Output) => Err(Fail::from("no memory for the output")),
+    }
 }
 
 #[test]
 fn lines_after_the_last_one_are_left(rt: HostRuntime) -> Result<(), Fail> {
     let mut giver = Giver::new(TEXT, Pace::Byte, Trouble::NONE);
-    let mut taker = Taker::new(rt.alloc(), Pace::All, Trouble::NONE);
+    let mut taker = roomy_taker(rt.alloc(), NUMBERED.len(), Pace::All, Trouble::NONE)?;
     assert_eq!(rt; run(rt.alloc(), &mut giver, &mut taker, 2)?, Ok(()));
     assert_eq!(rt; taker.bytes.as_slice(), b"1:one\n2:\n".as_slice());
     assert_eq!(rt; giver.rest, b"two\r\nthree\nlast".as_slice());
@@ -49,7 +64,8 @@ fn lines_after_the_last_one_are_left(rt: HostRuntime) -> Result<(), Fail> {
 /// The lines are numbered though the call of this number is interrupted.
 fn is_numbered(rt: &impl Abort, alloc: Global, call: u64) -> Result<(), Fail> {
     let mut giver = Giver::new(TEXT, Pace::Byte, Trouble::interrupted_at(call));
-    let mut taker = Taker::new(alloc, Pace::Byte, Trouble::interrupted_at(call));
+    let trouble = Trouble::interrupted_at(call);
+    let mut taker = roomy_taker(alloc, NUMBERED.len(), Pace::Byte, trouble)?;
     assert_eq!(rt; run(alloc, &mut giver, &mut taker, 100)?, Ok(()));
     assert_eq!(rt; taker.bytes.as_slice(), NUMBERED, "call {call}");
     Ok(())
@@ -120,7 +136,7 @@ fn many_bytes(alloc: Global) -> Result<Vec<u8>, Fail> {
 fn comes_out(rt: &impl Abort, alloc: Global, bytes: &[u8], len: usize) -> Result<(), Fail>
     requires { 0 < len }
 {
-    let mut taker = Taker::new(alloc, Pace::All, Trouble::NONE);
+    let mut taker = roomy_taker(alloc, bytes.len(), Pace::All, Trouble::NONE)?;
     let mut output = Output::new(CountedDevice::new(&mut taker));
     for piece in bytes.chunks(len) {
         output.put(piece);
@@ -143,7 +159,7 @@ fn bytes_come_out_in_order_past_the_edge_of_the_buffer(rt: HostRuntime) -> Resul
 
 #[test]
 fn a_flush_is_a_call_of_the_device(rt: HostRuntime) -> Result<(), Fail> {
-    let mut taker = Taker::new(rt.alloc(), Pace::All, Trouble::NONE);
+    let mut taker = roomy_taker(rt.alloc(), 6, Pace::All, Trouble::NONE)?;
     let mut output = Output::new(CountedDevice::new(&mut taker));
     output.put(b"one");
     output.flush();

@@ -1,6 +1,6 @@
 //! What is printed for the record of a call, and is it read as what it tells?
 
-use crate::answers::{line_of, new_book, new_ids, printed, trust_domain};
+use crate::answers::{failure_of, line_of, new_book, new_ids, printed, trust_domain};
 use call_machine::{CallAnswer, KnownCall};
 use entry_book::{Batch, Reply};
 use plain_book::PlainBook;
@@ -37,8 +37,9 @@ fn recorded(
     line: &[u8],
     call: u64,
 ) -> Result<String, Fail> {
-    let Ok(request) = read_request(alloc, book.domain(), ids, line, call) else {
-        return Err(Fail::from("the line is refused"));
+    let request = match read_request(alloc, book.domain(), ids, line, call) {
+        Ok(request) => request,
+        Err(refusal) => return Err(failure_of(&refusal)),
     };
     let reply = book.run(&request.batch)?;
     let record = CallRecord {
@@ -118,8 +119,9 @@ fn a_record_is_printed_and_reads_as_itself(rt: HostRuntime) -> Result<(), Fail> 
 fn called(alloc: Global, text: &str) -> Result<(Batch, Reply), Fail> {
     let mut book = new_book(alloc)?;
     let line = line_of(alloc, text)?;
-    let Ok(request) = read_request(alloc, book.domain(), &mut new_ids(), &line, 1) else {
-        return Err(Fail::from("the line is refused"));
+    let request = match read_request(alloc, book.domain(), &mut new_ids(), &line, 1) {
+        Ok(request) => request,
+        Err(refusal) => return Err(failure_of(&refusal)),
     };
     let reply = book.run(&request.batch)?;
     Ok((request.batch, reply))

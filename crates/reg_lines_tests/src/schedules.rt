@@ -1,6 +1,6 @@
 //! What is printed for the lines of a schedule?
 
-use crate::answers::{line_of, new_book, new_ids, prints, trust_domain};
+use crate::answers::{failure_of, line_of, new_book, new_ids, prints, trust_domain};
 use batch_work::Status;
 use call_machine::{Decision, Done, Event, EventRefusal, Told};
 use entry_book::{Limit, Shared};
@@ -229,7 +229,7 @@ fn is_answered(rt: &impl Abort, alloc: Global, text: &str, want: &str) -> Result
     let domain = trust_domain(alloc, "ex.org")?;
     match read_event(alloc, &domain, &mut new_ids(), &line, 1) {
         Ok(event) => prints(rt, alloc, &answer(alloc, &event)?, want),
-        Err(_) => Err(Fail::from("no event")),
+        Err(refusal) => Err(failure_of(&refusal)),
     }
 }
 
