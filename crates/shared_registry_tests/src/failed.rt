@@ -31,7 +31,7 @@ fn why(failed: Failed) -> &'static str {
         Failed::NotAsked => "a batch isn't for this call",
         Failed::NoSeat => "no seat, or no memory for one",
         Failed::NotLetIn => "not let in",
-        Failed::NobodyCame => "nobody came",
+        Failed::NobodyCame => "nobody came, as where there is no memory for a thread",
         Failed::NotCommitted => "not committed",
         Failed::NotPrinted => "not printed",
     }
