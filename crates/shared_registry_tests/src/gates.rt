@@ -1,5 +1,6 @@
 //! Gates that hold batches of changes on their way, each for ten seconds and some at most.
 
+use crate::failed::Failed;
 use shared_registry::{Gate, Point};
 use std::process::Abort;
 use std::sync::atomic::{AtomicBool, AtomicU64, Ordering};
@@ -76,10 +77,13 @@ impl<'a, R: Clock> Turnstile<'a, R> {
         self.lets_on(u64::MAX);
     }
 
-    /// So many came, and none went on without leave, since it had waited too long.
-    pub fn check_passes<A: Abort>(&self, rt: &A, count: u64) {
+    /// So many came. It is an error that one went on without leave, since it had waited too long.
+    pub fn check_passes<A: Abort>(&self, rt: &A, count: u64) -> Result<(), Failed> {
+        if self.gave_up.load(Ordering::SeqCst) {
+            return Err(Failed::NobodyCame);
+        }
         assert_eq!(rt; self.came.load(Ordering::SeqCst), count);
-        assert!(rt; !self.gave_up.load(Ordering::SeqCst));
+        Ok(())
     }
 }
 
@@ -119,10 +123,13 @@ impl<'a, R: Clock> Meeting<'a, R> {
         self.came.fetch_add(self.count, Ordering::SeqCst);
     }
 
-    /// So many have begun, and none went on before all were met, since it had waited too long.
-    pub fn check_passes<A: Abort>(&self, rt: &A, count: u64) {
+    /// So many have begun. It is an error that one went on before all were met, since it had waited too long.
+    pub fn check_passes<A: Abort>(&self, rt: &A, count: u64) -> Result<(), Failed> {
+        if self.gave_up.load(Ordering::SeqCst) {
+            return Err(Failed::NobodyCame);
+        }
         assert_eq!(rt; self.came.load(Ordering::SeqCst), count);
-        assert!(rt; !self.gave_up.load(Ordering::SeqCst));
+        Ok(())
     }
 }
 

@@ -112,8 +112,7 @@ pub fn two_creates<J: Naming + Send + Sync, R: Threads + Wait + Clock + Abort + 
     let held = held?;
     free?;
     check_held_create(rt, alloc, site, held)?;
-    gate.check_passes(rt, 1);
-    Ok(())
+    gate.check_passes(rt, 1)
 }
 
 /// An update with so many tries, of which so many are overtaken by another one: what it comes to, and at which place.
@@ -131,10 +130,10 @@ fn check_held_update<J: Naming, R: Clock + Abort>(
     told: &str,
     gate: &Turnstile<R>,
     race: &Race,
-) {
+) -> Result<(), Failed> {
     assert_eq!(rt; told, race.told);
     assert_eq!(rt; (seat.place(), seat.calls()), (race.place, 1));
-    gate.check_passes(rt, race.tries as u64);
+    gate.check_passes(rt, race.tries as u64)
 }
 
 /// An update of an entry that is there, beside those that overtake it.
@@ -157,8 +156,7 @@ fn check_race<J: Naming + Send + Sync, R: Threads + Wait + Clock + Abort + Sync>
     );
     let (seat, told) = held?;
     free?;
-    check_held_update(rt, &seat, told.as_str(), &gate, race);
-    Ok(())
+    check_held_update(rt, &seat, told.as_str(), &gate, race)
 }
 
 /// All tries are overtaken.
@@ -202,8 +200,7 @@ fn check_locked_create<J: Naming, R: Wait + Clock + Abort>(
     let told = site.does(rt, alloc, &mut seat, gate, "create 1 n1 /web u:1 0", 1);
     gate.leaves();
     assert_eq!(rt; told?.as_str(), "committed at 1; entry 1.0");
-    gate.check_passes(rt, 1);
-    Ok(())
+    gate.check_passes(rt, 1)
 }
 
 /// A query is answered while another seat's batch is held under the lock.

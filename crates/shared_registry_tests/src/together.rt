@@ -140,8 +140,7 @@ pub fn one_token<J: Naming + Send + Sync, R: Threads + Wait + Clock + Abort + Sy
         &|seat: Seat<J>| -> Result<bool, Failed> { commits(rt, alloc, site, seat, &gate) },
     )?;
     check_one(rt, done)?;
-    gate.check_passes(rt, 15);
-    Ok(())
+    gate.check_passes(rt, 15)
 }
 
 #[test]
