@@ -204,7 +204,8 @@ fn told(alloc: Global, text: &str) -> Result<Told, Fail> {
     let mut book = new_book(alloc)?;
     match read_event(alloc, book.domain(), &mut new_ids(), &line, 1) {
         Ok(Event::Invoke(_, batch)) => Ok(Told::Replied(Shared::of(alloc, book.run(&batch)?)?)),
-        _ => Err(Fail::from("no batch")),
+        Ok(_) => Err(Fail::from("no batch")),
+        Err(refusal) => Err(failure_of(&refusal)),
     }
 }
 
