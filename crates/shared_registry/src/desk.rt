@@ -10,6 +10,7 @@ ghost use Rattle.shared_registry.specs.Works.{IsRead};
 use crate::commit::decide;
 use crate::history::{Front, History, Naming};
 use crate::published::{Published, opening};
+use crate::recent::Recent;
 use crate::rule::{Rule, View};
 use crate::seat::{NoEntry, Receipt, Seat};
 use batch_work::{Status, Work};
@@ -28,11 +29,12 @@ pub(crate) type WindowWriter<J> = Writer<Published, Published, View, Rule<J>>;
 #[derive(Clone, Copy, Debug, PartialEq, Eq, Drop)]
 pub struct NoSeat;
 
-/// The head, the writer, and the whole journal. Contracts see it as the journal.
+/// The head, the writer, the boards that were published last, and the whole journal. Contracts see it as the journal.
 pub(crate) struct Core<J: Naming> {
     alloc: Global,
     head: Head,
     writer: Option<WindowWriter<J>>,
+    recent: Recent,
     seats: usize,
     start: Front<J>,
     last: Front<J>,
@@ -71,6 +73,7 @@ impl<J: Naming> Core<J> {
             alloc,
             head,
             writer: Some(writer),
+            recent: Recent::none(),
             seats: 0,
             start: front.again(),
             last: front,
@@ -144,6 +147,7 @@ impl<J: Naming> Core<J> {
             seat,
             work,
         );
+        self.recent.keep(writer.published());
         match replace(&mut self.writer, Some(writer)) {
             None => {}
             Some(_other) => unreachable!(),
@@ -162,6 +166,7 @@ impl<J: Naming> Core<J> {
             alloc: _,
             head: _,
             writer,
+            recent: _,
             seats: _,
             start: _,
             last: _,

@@ -20,7 +20,7 @@
 //!
 //! - `history`: the one history, and the beginnings of it that were seen; `published` and `rule`: what readers look at, and which
 //!   rule each step over it keeps; `run`: how a batch is run on what is published; `desk` and `commit`: what lies under the lock,
-//!   and what is done there; `outcome` and `gate`.
+//!   and what is done there; `recent`: boards that are kept from readers' hands; `outcome` and `gate`.
 #![tactic(auto)]
 
 mod commit;
@@ -29,6 +29,7 @@ mod gate;
 mod history;
 mod outcome;
 mod published;
+mod recent;
 mod registry;
 mod rule;
 mod run;

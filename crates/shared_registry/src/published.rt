@@ -87,6 +87,16 @@ impl Published {
         self.board.get().counts[seat]
     }
 
+    /// How many items the journal has.
+    pub(crate) fn items(&self) -> u64 {
+        self.items
+    }
+
+    /// The board, with one more owner. The error is that no more owners can be counted.
+    pub(crate) fn board(&self) -> Result<Shared<Board>, AllocError> {
+        self.board.clone()
+    }
+
     /// The counts after one item more of this seat.
     pub(crate) fn counts_with(&self, seat: usize, item: &Item) -> [u64; 32]
         requires seat { (seat < 32) × (item.now.seat ≡ seat) }
