@@ -189,45 +189,43 @@ pub fn last_try<J: Naming + Send + Sync, R: Threads + Wait + Clock + Abort + Syn
     check_race(rt, alloc, site, &race)
 }
 
-/// The create that is held under the lock is committed.
-fn check_locked_create<J: Naming, R: Wait + Clock + Abort>(
-    rt: &R,
-    alloc: Global,
-    site: &Site<J>,
-    mut seat: Seat<J>,
-    gate: &Turnstile<R>,
-) -> Result<(), Failed> {
-    let told = site.does(rt, alloc, &mut seat, gate, "create 1 n1 /web u:1 0", 1);
-    gate.leaves();
-    assert_eq!(rt; told?.as_str(), "committed at 1; entry 1.0");
-    gate.check_passes(rt, 1)
-}
-
-/// A query is answered while another seat's batch is held under the lock.
-fn check_beside<J: Naming, R: Clock + Abort>(
-    rt: &R,
+/// What a query shows while another seat's batch is held under the lock, where that one came there.
+fn shown_beside<J: Naming, R: Clock>(
     alloc: Global,
     site: &Site<J>,
     seat: &mut Seat<J>,
     gate: &Turnstile<R>,
-) -> Result<(), Failed> {
+) -> Result<String, Failed> {
     if !gate.holds(1) {
         return Err(Failed::NobodyCame);
     }
-    site.check_answer(rt, alloc, seat, "show 1", "answered at 0; none")
+    site.asks(alloc, seat, "show 1")
 }
 
-/// The same; then the batch is let on, and once the lock is free again, what it created is there.
-fn check_queries<J: Naming, R: Wait + Clock + Abort>(
-    rt: &R,
+/// The same, and after it the seat: the batch is let on then, however the query went. Nothing is asserted of it here: the batch
+/// may have failed.
+fn looks_on<J: Naming, R: Clock>(
     alloc: Global,
     site: &Site<J>,
     mut seat: Seat<J>,
     gate: &Turnstile<R>,
-) -> Result<(), Failed> {
-    let asked = check_beside(rt, alloc, site, &mut seat, gate);
+) -> Result<(Seat<J>, String), Failed> {
+    let shown = shown_beside(alloc, site, &mut seat, gate);
     gate.opens();
-    asked?;
+    Ok((seat, shown?))
+}
+
+/// The query beside it showed nothing of the create that was held, and once that is committed, it is there.
+fn check_locked_create<J: Naming, R: Wait + Clock + Abort>(
+    rt: &R,
+    alloc: Global,
+    site: &Site<J>,
+    told: &str,
+    looked: (Seat<J>, String),
+) -> Result<(), Failed> {
+    let (mut seat, shown) = looked;
+    assert_eq!(rt; told, "committed at 1; entry 1.0");
+    assert_eq!(rt; shown.as_str(), "answered at 0; none");
     site.news(rt, &mut seat)?;
     site.check_answer(rt, alloc, &mut seat, "show 1", "answered at 1; shown 1.0")
 }
@@ -241,13 +239,15 @@ pub fn under_the_lock<J: Naming + Send + Sync, R: Threads + Wait + Clock + Abort
     let held = site.seat(rt)?;
     let free = site.seat(rt)?;
     let gate = Turnstile::new(rt, Point::BeforeCommit, held.number() as u32);
+    let text = "create 1 n1 /web u:1 0";
     let (held, free) = join(
         rt,
-        || check_locked_create(rt, alloc, site, held, &gate),
-        || check_queries(rt, alloc, site, free, &gate),
+        || is_held(rt, alloc, site, held, &gate, text, 1),
+        || looks_on(alloc, site, free, &gate),
     );
-    held?;
-    free
+    let (_, told) = held?;
+    check_locked_create(rt, alloc, site, told.as_str(), free?)?;
+    gate.check_passes(rt, 1)
 }
 
 #[test]
