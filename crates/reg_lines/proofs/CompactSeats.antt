@@ -1,11 +1,10 @@
 -- The lines of a seat's refusals are the compact texts of values.
-use Rattle.std.proofs.Common.{◌≡◌, ℕ, false, List, [], ◌∷◌, refl, ◌∙◌}
+use Rattle.std.proofs.Common.{[], ◌∷◌, refl, ◌∙◌}
 use Rattle.std.specs.Prelude.{codes, decimal}
-use Rattle.serde_json.specs.Written.{compact_text, has_float}
 use Rattle.serde_json.proofs.OnLiterals.{serde_json_on_literals}
 use Rattle.reg_lines.specs.Json.{text_json}
 use Rattle.reg_lines.specs.SeatLines.{seat_code, seat_refusal_json}
-use Rattle.reg_lines.specs.SeatValues.{SeatRefusalsAreCompact, SeatRefusalsHaveNoFloat, seat_refusal_data}
+use Rattle.reg_lines.specs.SeatValues.{SeatRefusalsAreCompact, SeatRefusalsHaveNoFloat}
 use Rattle.reg_lines.proofs.Compact.{text_json-is, left-right}
 
 pub seat_refusal_json-is : SeatRefusalsAreCompact

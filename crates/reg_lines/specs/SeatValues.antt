@@ -1,5 +1,5 @@
 -- The JSON values that the lines of a seat's refusals are, and the law that they are printed as those values' compact text.
-use Rattle.std.specs.Prelude.{◌≡◌, ℕ, false, List, codes}
+use Rattle.std.specs.Prelude.{◌≡◌, ℕ, false, codes}
 use Rattle.serde_json.specs.Data.{Data, object, string, put, no_members}
 use Rattle.serde_json.specs.Written.{compact_text, has_float}
 use Rattle.reg_lines.specs.declared.printing.seats.SeatRefusal.{SeatRefusal}

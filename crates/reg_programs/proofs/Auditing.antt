@@ -1,5 +1,5 @@
 -- What the engine `audit` comes to, line by line.
-use Rattle.std.proofs.Common.{◌≡◌, ◌+◌, ℕ, Bool, true, false, List, [], ◌∷◌, ◌++◌, length, Option, None, Some, Result, Ok, Err, refl, sym, ap, subst, ◌∙◌}
+use Rattle.std.proofs.Common.{◌≡◌, ◌+◌, ℕ, Bool, true, false, List, [], ◌∷◌, ◌++◌, length, Option, None, Some, refl, sym, ap, subst, ◌∙◌}
 use Rattle.std.specs.Prelude.{IfSome, MatchBool, is_none, is_some, not}
 use Rattle.std.specs.Io.KnownBytes.{Appends}
 use Rattle.reg_lines.specs.Lines.{kept, most_lines, IsLine}
@@ -12,7 +12,6 @@ use Rattle.call_audit.specs.declared.cause.Cause.{Cause}
 use Rattle.call_audit.specs.declared.verdict.Verdict.{Verdict}
 use Rattle.call_audit.specs.declared.verdict.Verdict.TheVariants.{Yes, No}
 use Rattle.call_audit.specs.Audits.{judged, judged_spelled}
-use Rattle.call_audit.specs.Keeps.{Keeps}
 use Rattle.call_audit.specs.Texts.{verdict_json}
 use Rattle.call_audit.specs.Verdicts.{verdict_by, verdict_of, verdict_on}
 use Rattle.reg_programs.specs.Answers.{as_line}

@@ -1,6 +1,5 @@
 -- The records of a schedule are calls that the plain book confirms, so they are audited yes.
-use Rattle.std.proofs.Common.{◌≡◌, ◌<◌, ◌≤◌, ℕ, zero, suc, true, inl, inr, List, [], ◌∷◌, ◌++◌, map, take, length, Option, None, Some, refl, sym, ap, ◌∙◌, subst, arith}
-use Rattle.std.specs.Prelude.{slice_get}
+use Rattle.std.proofs.Common.{◌≡◌, ◌≤◌, ℕ, zero, suc, inl, inr, List, [], ◌∷◌, ◌++◌, map, take, length, Option, None, Some, refl, sym, ap, ◌∙◌, subst, arith}
 use Rattle.std.specs.List.{AllByRecursion, flat_map}
 use Rattle.entry_book.specs.Book.{Book}
 use Rattle.entry_book.specs.History.{books_after, books_from, first_books, reply_to}
@@ -10,11 +9,11 @@ use Rattle.call_machine.specs.Calls.{Call}
 use Rattle.call_machine.specs.Schedules.{Different}
 use Rattle.reg_lines.specs.Lines.{lines_of}
 use Rattle.reg_lines.specs.Spelled.{Fits}
-use Rattle.call_audit.specs.Confirmed.{AreConfirmed, CallAt, CallHasEnded, CallsAreLegal, CallsAreStrict, CallsHaveEnded, CallsStandOnce, ConfirmedAreAudited, IsReadable, RecordedCall, line_of_call, text_of_call}
+use Rattle.call_audit.specs.Confirmed.{AreConfirmed, CallAt, CallHasEnded, CallsAreStrict, CallsHaveEnded, CallsStandOnce, ConfirmedAreAudited, IsReadable, RecordedCall, line_of_call, text_of_call}
 use Rattle.call_audit.specs.Verdicts.{verdict_of}
 use Rattle.call_audit.specs.declared.verdict.Verdict.TheVariants.{Yes}
 use Rattle.reg_programs.specs.Confirmed.{RecordsAreAudited, call_of}
-use Rattle.reg_programs.specs.Recorded.{AreLegal, AreRecords, IsEnded, IsEndedAt, IsNotPast, IsWritten, Recorded, StampsInOrder, record_line}
+use Rattle.reg_programs.specs.Recorded.{AreLegal, AreRecords, IsEnded, IsEndedAt, IsWritten, Recorded, StampsInOrder, record_line}
 
 abbrev calls_of : List Recorded → List RecordedCall
 calls_of rs = map call_of rs

@@ -1,8 +1,6 @@
 -- What the seat of a session has seen only grows.
-use Rattle.std.proofs.Common.{◌≡◌, ◌+◌, ◌≤◌, ℕ, List, [], ◌∷◌, refl, ap, subst, sym, ◌∙◌, arith}
+use Rattle.std.proofs.Common.{◌≡◌, ◌+◌, ℕ, List, [], ◌∷◌, refl, subst, sym, ◌∙◌, arith}
 use Rattle.entry_book.specs.Rows.{Bytes}
-use Rattle.commit_head.specs.Journals.{IsLawfulJournal}
-use Rattle.reg_lines.specs.Runs.{IsRun}
 use Rattle.reg_lines.specs.declared.reading.request.Request.{Request}
 use Rattle.shared_registry.specs.Seated.{Along, Seated}
 use Rattle.shared_registry.proofs.Prefixes.{prefix_self, prefix_trans}

@@ -20,7 +20,6 @@ use Rattle.call_machine.specs.Schedules.{Answer, At, Different, EndedBefore, Gav
 use Rattle.call_machine.specs.declared.call.CallAnswer.{CallAnswer}
 use Rattle.call_machine.specs.declared.call.CallAnswer.TheVariants as is
 use Rattle.call_machine.specs.declared.call.KnownCall.{KnownCall}
-use Rattle.call_machine.specs.declared.event.Done.{Done}
 use Rattle.call_machine.specs.declared.event.Done.TheVariants.{Answered}
 use Rattle.call_machine.specs.declared.event.Event.{Event}
 use Rattle.call_machine.specs.declared.event.Event.TheVariants.{Invoke}

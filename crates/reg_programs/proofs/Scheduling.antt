@@ -1,5 +1,5 @@
 -- What the engine `schedule` answers to one line.
-use Rattle.std.proofs.Common.{◌≡◌, ◌+◌, ◌≤◌, ℕ, List, refl, ap, subst, sym, ◌∙◌, arith}
+use Rattle.std.proofs.Common.{◌≡◌, ◌+◌, ℕ, List, refl, ap, subst, sym, ◌∙◌, arith}
 use Rattle.std.specs.Prelude.{Ok}
 use Rattle.rand_chacha.specs.ChaCha.{ChaCha}
 use Rattle.spiffe_name.specs.declared.refusals.Failure.{Failure}

@@ -1,5 +1,5 @@
 -- What a parse of the words gives, in the terms of the command line's definitions.
-use Rattle.std.proofs.Common.{Bool, ap, ap₂, codes, refl, subst, sym, ◌≡◌, ◌∙◌, inl, inr, ℕ, List, Option, Some, None, option_map, [], true}
+use Rattle.std.proofs.Common.{Bool, ap, ap₂, refl, subst, sym, ◌≡◌, ◌∙◌, inl, inr, List, Option, Some, None, option_map, [], true}
 use Rattle.std.specs.Str.{bytes_eq}
 use Rattle.std.proofs.lemmas.Slice.Eq.{bytes_eq-Decides}
 use Rattle.std.specs.Prelude.{if◌then◌else◌, Box, unwrap_or}

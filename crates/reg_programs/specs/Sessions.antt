@@ -23,7 +23,7 @@ use Rattle.shared_registry.specs.declared.outcome.Outcome.TheVariants.{Committed
 use Rattle.shared_registry.specs.declared.seat.NoAnswer.{NoAnswer}
 use Rattle.shared_registry.specs.declared.seat.NoAnswer.TheVariants as no
 use Rattle.reg_programs.specs.Answers.{as_line}
-use Rattle.reg_programs.specs.Driver.{ClosesAs, RunsOver}
+use Rattle.reg_programs.specs.Driver.{RunsOver}
 use Rattle.reg_programs.specs.declared.faults.RunFault.{RunFault}
 use Rattle.reg_programs.specs.declared.session_engine.LineAnswer.{LineAnswer}
 use Rattle.reg_programs.specs.declared.session_engine.LineAnswer.TheVariants.{Shared, Own, Conflicted, NotAnswered, NotRead}

@@ -1,11 +1,11 @@
-use Rattle.std.proofs.Common.{◌≡◌, List, ℕ, Option, None, Some, Ok, Err, OnOk, IfOk, refl, subst, sym, ap, ◌∙◌, arith}
+use Rattle.std.proofs.Common.{◌≡◌, List, ℕ, Err, IfOk, refl, subst, sym, arith}
 use Rattle.std.specs.Prelude.{⊤, IfSome}
 use Rattle.std.proofs.lemmas.Grind.{common_steps}
 use Rattle.reg_lines.specs.Lines.{most_lines}
 use Rattle.reg_lines.specs.Runs.{first_lines}
 use Rattle.call_audit.specs.Verdicts.{verdict_of}
-use Rattle.reg_programs.specs.Audited.{AnswersRecord, AuditKept, ClosesWithVerdict, RunsAudit, StandsFor, TellsVerdict, an_audit, is_over, start}
-use Rattle.reg_programs.specs.Driver.{AppendsClosed, ClosesAs, RunsOver, Steps}
+use Rattle.reg_programs.specs.Audited.{AnswersRecord, ClosesWithVerdict, StandsFor, TellsVerdict, an_audit, is_over, start}
+use Rattle.reg_programs.specs.Driver.{ClosesAs, RunsOver, Steps}
 use Rattle.reg_programs.specs.declared.faults.RunFault.TheVariants.{NoMemory}
 use Rattle.reg_programs.specs.declared.programs.Outcome.{Outcome}
 use Rattle.reg_programs.proofs.Auditing.{tells_all}

@@ -1,5 +1,5 @@
-use Rattle.std.proofs.Common.{◌≡◌, ap, refl, sym, subst, ◌∙◌}
-use Rattle.reg_programs.specs.Sessions.{AnswersRequest, LeavesSeat, RunsSession, Session, start}
+use Rattle.std.proofs.Common.{◌≡◌, ap, refl, sym, ◌∙◌}
+use Rattle.reg_programs.specs.Sessions.{AnswersRequest, LeavesSeat, Session, start}
 use Rattle.reg_programs.proofs.Driving.{RunsOver-closes}
 use Rattle.reg_programs.proofs.session_engine.session.Goals as goal
 

@@ -1,4 +1,4 @@
-use Rattle.std.proofs.Common.{◌≡◌, ◌+◌, Bool, true, false, arith, ap, refl, subst, sym, ◌∙◌}
+use Rattle.std.proofs.Common.{◌≡◌, ◌+◌, Bool, true, false, refl, subst, sym, ◌∙◌}
 use Rattle.std.specs.Prelude.{is_none, is_some}
 use Rattle.reg_programs.specs.Audited.{AnswersRecord, AuditKept, Audited, StandsFor, is_over}
 use Rattle.reg_programs.specs.Driver.{AnswersKept}
