@@ -2,7 +2,7 @@
 //!
 //! The crate has tests alone, over the public calls of `version_book`:
 //!
-//! - `worked`: the marks of small books, told by tables. `playing` plays a table, `making` reads its words.
+//! - `worked`: the marks of small books, told by tables. `playing` plays a table, `marks` makes the marks that it asks for.
 //! - `random`: long histories of random operations, beside plain lists of their rows, which `listed` has.
 //! - `running`: the writes of an operation, found by reading a version.
 #![tactic(auto)]
@@ -10,7 +10,7 @@
 #[cfg(test)]
 mod listed;
 #[cfg(test)]
-mod making;
+mod marks;
 #[cfg(test)]
 mod playing;
 #[cfg(test)]

@@ -110,7 +110,7 @@ pub fn are_hit(mark: &Mark, changes: &Changes) -> bool {
         .any(|write| is_hit(mark.kind(), write))
 }
 
-/// An entry: all that isn't the same in two entries of one number here, or in all of them.
+/// An entry: all in which two entries of one number differ here, but for hint and times to live, which come of these.
 fn entry_text(alloc: Global, entry: &Entry) -> Result<String, Fail> {
     let (number, revision) = (number_of(entry.id()), entry.revision());
     let (parent, identity) = (

@@ -1,7 +1,8 @@
 //! Versions of one history, and what they answer, told by a table.
 
-use crate::making::{batch, mark_of, number, trust_domain, word, words};
+use crate::marks::mark_of;
 use crate::running::{changes_of, next_of};
+use batch_texts::{batch, number, trust_domain, word, words};
 use entry_book::{Entry, KeptBatch};
 use std::alloc::Global;
 use std::process::Abort;
@@ -30,9 +31,12 @@ pub fn first_step(alloc: Global) -> Result<Vec<Step>, Fail> {
     Ok(steps)
 }
 
-/// The version after the batch that lines tell; nothing where the book refuses it.
-fn play(alloc: Global, version: &Version, lines: &str) -> Result<Option<Step>, Fail> {
-    let batch = batch(alloc, version, lines)?;
+/// The version after the batch that a text tells; nothing where the book refuses it.
+fn play(alloc: Global, version: &Version, text: &str) -> Result<Option<Step>, Fail> {
+    let batch = batch(alloc, text)?;
+    if batch.domain() != version.domain() {
+        return Err(Fail::from("another trust domain"));
+    }
     let Some(changes) = changes_of(alloc, version, &batch)? else {
         return Ok(None);
     };
@@ -42,12 +46,12 @@ fn play(alloc: Global, version: &Version, lines: &str) -> Result<Option<Step>, F
     Ok(Some(Step { changes, version }))
 }
 
-/// Adds the version after the batch that lines tell, where the book accepts it.
-pub fn go_on(alloc: Global, steps: &mut Vec<Step>, lines: &str) -> Result<bool, Fail> {
+/// Adds the version after the batch that a text tells, where the book accepts it.
+pub fn go_on(alloc: Global, steps: &mut Vec<Step>, text: &str) -> Result<bool, Fail> {
     let Some(last) = steps.last() else {
         return Ok(false);
     };
-    match play(alloc, &last.version, lines)? {
+    match play(alloc, &last.version, text)? {
         Some(next) => {
             steps.push(next)?;
             Ok(true)
@@ -151,14 +155,13 @@ fn plays_line(
         let got = answer(alloc, steps.as_slice(), question)?;
         assert_eq!(rt; got.as_str(), want, "{line}");
     } else if !line.is_empty() {
-        let lines = line.replace(alloc, ";", "\n")?;
-        assert!(rt; go_on(alloc, steps, lines.as_str())?, "refused: {line}");
+        assert!(rt; go_on(alloc, steps, line)?, "refused: {line}");
     }
     Ok(())
 }
 
 /// Plays a table: a question and its answer stand in a line with `=>` between them; each other line that isn't empty
-/// tells the batch that leads to the next version: its token, where it has one, and its operations, with `;` between.
+/// tells the batch that leads to the next version.
 pub fn plays(rt: &impl Abort, alloc: Global, table: &str) -> Result<(), Fail> {
     let mut steps = first_step(alloc)?;
     for line in table.lines() {

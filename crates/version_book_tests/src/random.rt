@@ -1,10 +1,9 @@
 //! Random operations on few rows: every mark reads what plain lists have, and tells whether it is unchanged.
 
-ghost use Rattle.std.specs.Prelude.{◌<◌};
-
 use crate::listed::{Listed, are_hit, read_text, reading_text};
-use crate::making::mark_of;
+use crate::marks::mark_of;
 use crate::playing::{Step, first_step, go_on};
+use batch_texts::below;
 use std::alloc::Global;
 use std::process::Abort;
 use std::test::Fail;
@@ -49,17 +48,11 @@ token 3
 token 101
 ";
 
-const NUMBERS: [&str; 6] = ["1", "2", "3", "4", "5", "6"];
-
 const PARENTS: [&str; 3] = ["/a", "/ab", "/x"];
 
 const IDENTITIES: [&str; 2] = ["/a", "/x"];
 
-const EXPIRIES: [&str; 4] = ["0", "1", "2", "3"];
-
 const DOMAINS: [&str; 6] = ["", "", "d1", "d2", "d3", "d1 d3"];
-
-const BUNDLES: [&str; 3] = ["d1", "d2", "d3"];
 
 const AGENTS: [&str; 2] = ["/spire/agent/m", "/spire/agent/n"];
 
@@ -80,45 +73,37 @@ const KINDS: [&str; 12] = [
     "drop_bundle",
 ];
 
-/// A random number below a bound.
-fn below(state: &mut u64, bound: u64) -> usize
-    requires { 0 < bound }
-    ensures { result < bound }
-{
-    *state = state
-        .wrapping_mul(6_364_136_223_846_793_005)
-        .wrapping_add(1_442_695_040_888_963_407);
-    ((*state >> 33) % bound) as usize
-}
-
-/// A random operation on an entry, of the kind.
+/// A random operation on an entry, of the kind. The entry's selector is that of its number.
 fn entry_line(alloc: Global, state: &mut u64, kind: &str) -> Result<String, Fail> {
-    let (number, parent) = (NUMBERS[below(state, 6)], PARENTS[below(state, 3)]);
-    let (identity, expiry) = (IDENTITIES[below(state, 2)], EXPIRIES[below(state, 4)]);
+    let (number, parent) = (below(state, 6) + 1, PARENTS[below(state, 3)]);
+    let (identity, expiry) = (IDENTITIES[below(state, 2)], below(state, 4));
     let domains = DOMAINS[below(state, 6)];
-    Ok(format!(in alloc; "{kind} {number} {parent} {identity} {expiry} {domains}")?)
+    Ok(format!(in alloc; "{kind} {number} {parent} {identity} u:{number} {expiry} {domains}")?)
 }
 
-/// The two words behind the kind of a random operation that isn't on one entry.
-fn words_of(state: &mut u64, kind: &str) -> (&'static str, &'static str) {
-    match kind {
-        "set_agent" | "drop_agent" => (AGENTS[below(state, 2)], NUMBERS[below(state, 2)]),
-        "prune" => (EXPIRIES[below(state, 4)], ""),
-        _ => (BUNDLES[below(state, 3)], MODES[below(state, 3)]),
-    }
+fn agent_line(alloc: Global, state: &mut u64, kind: &str) -> Result<String, Fail> {
+    let (agent, selector) = (AGENTS[below(state, 2)], below(state, 2) + 1);
+    Ok(format!(in alloc; "{kind} {agent} u:{selector}")?)
 }
 
-fn is_of_one_entry(kind: &str) -> bool {
-    matches!(kind, "create" | "update" | "delete")
+fn bundle_line(alloc: Global, state: &mut u64, kind: &str) -> Result<String, Fail> {
+    let (domain, mode) = (below(state, 3) + 1, MODES[below(state, 3)]);
+    Ok(format!(in alloc; "{kind} d{domain} {mode}")?)
+}
+
+fn prune_line(alloc: Global, state: &mut u64) -> Result<String, Fail> {
+    let moment = below(state, 4);
+    Ok(format!(in alloc; "prune {moment}")?)
 }
 
 /// A random operation of the kind.
 fn line_of(alloc: Global, state: &mut u64, kind: &str) -> Result<String, Fail> {
-    if is_of_one_entry(kind) {
-        return entry_line(alloc, state, kind);
+    match kind {
+        "create" | "update" | "delete" => entry_line(alloc, state, kind),
+        "set_agent" | "drop_agent" => agent_line(alloc, state, kind),
+        "prune" => prune_line(alloc, state),
+        _ => bundle_line(alloc, state, kind),
     }
-    let (first, second) = words_of(state, kind);
-    Ok(format!(in alloc; "{kind} {first} {second}")?)
 }
 
 /// A random operation.
@@ -133,7 +118,7 @@ fn token_line(alloc: Global, state: &mut u64) -> Result<String, Fail> {
         return Ok(String::new(alloc));
     }
     let number = below(state, 200);
-    Ok(format!(in alloc; "token {number}\n")?)
+    Ok(format!(in alloc; "token {number}; ")?)
 }
 
 /// One to four random operations, and a token or none.
@@ -141,7 +126,7 @@ fn lines(alloc: Global, state: &mut u64) -> Result<String, Fail> {
     let mut lines = token_line(alloc, state)?;
     lines.push_str(line(alloc, state)?.as_str())?;
     for _ in 0..below(state, 4) {
-        lines.push_str("\n")?;
+        lines.push_str("; ")?;
         lines.push_str(line(alloc, state)?.as_str())?;
     }
     Ok(lines)
@@ -184,7 +169,7 @@ fn history(alloc: Global, seed: u64, count: usize) -> Result<Played, Fail> {
 
 /// The operations of a batch, without its token.
 fn without_token(batch: &str) -> &str {
-    match batch.split_once("\n") {
+    match batch.split_once("; ") {
         Some((first, ops)) if first.starts_with("token") => ops,
         _ => batch,
     }
@@ -198,7 +183,7 @@ fn count_of(played: &Played, (start, end): (&str, &str), least: usize) -> usize 
         .zip(&played.batches)
         .filter(|(step, batch)| {
             let ops = without_token(batch);
-            !ops.contains('\n')
+            !ops.contains(';')
                 && ops.starts_with(start)
                 && ops.ends_with(end)
                 && step.changes.len() >= least

@@ -7,8 +7,8 @@ use std::test::Fail;
 const MOVED: &str = "
 set_bundle d1
 set_bundle d2
-create 1 /a /x 5 d1
-update 1 /b /y 9 d2
+create 1 /a /x u:1 5 d1
+update 1 /b /y u:1 9 d2
 READS 4: entry 1 => 1.1
 READS 4: group /a /x =>
 READS 4: group /a /y =>
@@ -48,11 +48,11 @@ COUNT 0 => 0 0 0 0 at 0
 const READ: &str = "
 set_bundle d1
 set_bundle d2
-create 3 /a /x 0 d2 d1
-create 2 /a /y 7 d2
-create 1 /a /z 3
-create 5 /ab /x 7
-create 4 /a/b /x 0
+create 3 /a /x u:3 0 d2 d1
+create 2 /a /y u:2 7 d2
+create 1 /a /z u:1 3
+create 5 /ab /x u:5 7
+create 4 /a/b /x u:4 0
 READS 7: users d1 => 3.0
 READS 7: users d2 => 2.0 3.0
 READS 7: users d3 =>
@@ -90,9 +90,9 @@ CLONE 7: expiring 8 => 1.0 2.0 5.0
 
 /// Agents and bundles, and whether what they read is unchanged.
 const ROWS: &str = "
-set_agent /spire/agent/m 1
+set_agent /spire/agent/m u:1
 set_bundle d1
-set_agent /spire/agent/m 1
+set_agent /spire/agent/m u:1
 set_bundle d1
 READS 2: agent /spire/agent/m => agent 1
 READS 2: agent /spire/agent/n =>
@@ -118,8 +118,8 @@ CLONE 4: bundle d1 => bundle 1
 /// What is created and then deleted again leaves all marks as they were; what is written in place doesn't.
 const UNCHANGED: &str = "
 set_bundle d1
-create 1 /a /x 4
-create 2 /a /y 6 d1
+create 1 /a /x u:1 4
+create 2 /a /y u:2 6 d1
 delete 2
 SAME 3 2: entry 2 => no
 SAME 3 2: group /a /y => no
@@ -140,7 +140,7 @@ SAME 4 2: expiring 7 => yes
 SAME 4 2: all => yes
 SAME 1 0: all => yes
 SAME 4 3: children /a => no
-update 1 /a /x 4
+update 1 /a /x u:1 4
 SAME 5 4: entry 1 => no
 SAME 5 4: group /a /x => no
 SAME 5 4: children /a => no
@@ -148,7 +148,7 @@ SAME 5 4: expiring 5 => no
 SAME 5 4: expiring 4 => yes
 SAME 5 5: entry 1 => yes
 delete 1
-create 1 /a /x 4
+create 1 /a /x u:1 4
 SAME 7 5: entry 1 => no
 SAME 7 2: children /a => no
 SAME 6 0: children /a => yes
@@ -158,9 +158,9 @@ READS 5: children /a => 1.1
 
 /// What is kept under a token has the number of its batch's own version, and stays.
 const KEPT: &str = "
-token 7;set_agent /spire/agent/m 1
+token 7; set_agent /spire/agent/m u:1
 set_bundle d1
-token 8;set_bundle d1;set_bundle d2
+token 8; set_bundle d1; set_bundle d2
 READS 0: token 7 =>
 READS 1: token 7 => 1 ops at 1
 READS 1: token 8 =>
