@@ -2,8 +2,7 @@
 
 use crate::details::{whole_committed_text, whole_text};
 use crate::playing::first_window;
-use crate::random::ended;
-use crate::running::commit;
+use crate::running::{commit, ended, let_go};
 use batch_texts::{batch_text, marks_text};
 use batch_work::{Status, Window, Work};
 use std::alloc::Global;
@@ -57,7 +56,9 @@ fn run_text(alloc: Global, work: &Work) -> Result<String, Fail> {
 /// What the batch of a text reads and comes to on the window, places aside.
 fn text_on(alloc: Global, window: &Window, text: &str) -> Result<String, Fail> {
     let work = ended(alloc, window, text)?;
-    run_text(alloc, &work)
+    let told = run_text(alloc, &work);
+    let_go(work);
+    told
 }
 
 /// Does the other work, which began on the same version, spare what this one read?
@@ -83,8 +84,9 @@ fn commits_elsewhere(
 ) -> Result<bool, Fail> {
     let other = ended(alloc, window, other)?;
     let is_spared = is_spared(work, &other, window.newest().number());
-    let is_ready = commits(window, &other)?;
-    Ok(is_ready && is_spared)
+    let is_ready = commits(window, &other);
+    let_go(other);
+    Ok(is_ready? && is_spared)
 }
 
 /// Compares the work of a batch with its run on the newest version.
@@ -108,6 +110,20 @@ fn compare(
     Ok(())
 }
 
+/// Compares the work of a batch with its run on the version after another batch.
+fn compare_beside(
+    rt: &impl Abort,
+    alloc: Global,
+    window: &mut Window,
+    work: &Work,
+    text: &str,
+    other: &str,
+    pairs: &mut Pairs,
+) -> Result<(), Fail> {
+    let is_spared = commits_elsewhere(alloc, window, work, other)?;
+    compare(rt, alloc, window, work, text, is_spared, pairs)
+}
+
 /// Runs a batch on the newest version, and on the one after another batch.
 fn pair(
     rt: &impl Abort,
@@ -118,8 +134,9 @@ fn pair(
     pairs: &mut Pairs,
 ) -> Result<(), Fail> {
     let work = ended(alloc, window, text)?;
-    let is_spared = commits_elsewhere(alloc, window, &work, other)?;
-    compare(rt, alloc, window, &work, text, is_spared, pairs)
+    let compared = compare_beside(rt, alloc, window, &work, text, other, pairs);
+    let_go(work);
+    compared
 }
 
 /// One pair of random batches.

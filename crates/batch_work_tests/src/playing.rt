@@ -1,8 +1,8 @@
 //! Batches on a window, and what their works read and come to, told by a table.
 
-use crate::running::{begun, commit, end_text, run_to_end};
+use crate::running::{commit, end_text, ended, let_go};
 use crate::versions::first;
-use batch_texts::batch;
+use batch_texts::marks_text;
 use batch_work::Window;
 use std::alloc::Global;
 use std::process::Abort;
@@ -15,22 +15,26 @@ pub fn first_window(alloc: Global) -> Result<Window, Fail> {
 
 /// The marks that a batch reads on the window.
 fn reads(alloc: Global, window: &Window, text: &str) -> Result<String, Fail> {
-    let mut work = begun(alloc, window, batch(alloc, text)?)?;
-    run_to_end(alloc, &mut work)
+    let work = ended(alloc, window, text)?;
+    let told = marks_text(alloc, work.marks());
+    let_go(work);
+    Ok(told?)
 }
 
 /// What a batch comes to on the window.
 fn comes(alloc: Global, window: &Window, text: &str) -> Result<String, Fail> {
-    let mut work = begun(alloc, window, batch(alloc, text)?)?;
-    drop(run_to_end(alloc, &mut work)?);
-    end_text(alloc, &work)
+    let work = ended(alloc, window, text)?;
+    let told = end_text(alloc, &work);
+    let_go(work);
+    told
 }
 
 /// Runs a batch, which has to become ready, and pushes the version after it.
 fn goes_on(alloc: Global, window: &mut Window, text: &str) -> Result<(), Fail> {
-    let mut work = begun(alloc, window, batch(alloc, text)?)?;
-    drop(run_to_end(alloc, &mut work)?);
-    commit(window, &work)
+    let work = ended(alloc, window, text)?;
+    let pushed = commit(window, &work);
+    let_go(work);
+    pushed
 }
 
 fn answer(alloc: Global, window: &Window, question: &str) -> Result<String, Fail> {

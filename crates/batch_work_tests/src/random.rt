@@ -5,7 +5,7 @@ ghost use Rattle.std.specs.Prelude.{◌≡◌, ◌<◌};
 use crate::details::{whole_committed_text, whole_text};
 use crate::footprints::{PlainHistory, footprint, no_history};
 use crate::playing::first_window;
-use crate::running::{begun, commit, run_to_end};
+use crate::running::{commit, ended, let_go};
 use batch_texts::{batch, batch_text, marks_text, trust_domain};
 use batch_work::{Status, Window, Work};
 use entry_book::{Batch, Reply};
@@ -104,13 +104,6 @@ fn work_text(alloc: Global, work: &Work, place: u64) -> Result<String, Fail> {
     }
 }
 
-/// The work of a batch on the window, at its end.
-pub fn ended(alloc: Global, window: &Window, text: &str) -> Result<Work, Fail> {
-    let mut work = begun(alloc, window, batch(alloc, text)?)?;
-    drop(run_to_end(alloc, &mut work)?);
-    Ok(work)
-}
-
 /// The work has read what is told by hand.
 fn reads_as_told(
     rt: &impl Abort,
@@ -128,7 +121,31 @@ fn reads_as_told(
     Ok(())
 }
 
-/// Runs a batch on both, and pushes the next version where it is ready.
+/// Holds a work against both, and pushes the next version where it is ready.
+fn holds(
+    rt: &impl Abort,
+    alloc: Global,
+    window: &mut Window,
+    book: &mut PlainBook,
+    history: &mut PlainHistory,
+    work: &Work,
+    text: &str,
+    counts: &mut Counts,
+) -> Result<(), Fail> {
+    let place = window.newest().number();
+    reads_as_told(rt, alloc, history, place, work, text, counts)?;
+    let next = place.wrapping_add(1);
+    let got = work_text(alloc, work, next)?;
+    let want = plain_text(alloc, book, work.batch())?;
+    assert_eq!(rt; got.as_str(), want.as_str(), "{text}");
+    count(counts, got.as_str());
+    if work.status() == Status::Ready {
+        commit(window, work)?;
+    }
+    Ok(())
+}
+
+/// Runs a batch on both.
 fn round(
     rt: &impl Abort,
     alloc: Global,
@@ -139,17 +156,9 @@ fn round(
     counts: &mut Counts,
 ) -> Result<(), Fail> {
     let work = ended(alloc, window, text)?;
-    let place = window.newest().number();
-    reads_as_told(rt, alloc, history, place, &work, text, counts)?;
-    let next = place.wrapping_add(1);
-    let got = work_text(alloc, &work, next)?;
-    let want = plain_text(alloc, book, work.batch())?;
-    assert_eq!(rt; got.as_str(), want.as_str(), "{text}");
-    count(counts, got.as_str());
-    if work.status() == Status::Ready {
-        commit(window, &work)?;
-    }
-    Ok(())
+    let held = holds(rt, alloc, window, book, history, &work, text, counts);
+    let_go(work);
+    held
 }
 
 /// So many random batches, one after another.

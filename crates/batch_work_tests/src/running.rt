@@ -9,7 +9,7 @@ ghost use Rattle.batch_work.specs.declared.status.Status.TheVariants as status;
 ghost use Rattle.batch_work.specs.Windows.{IsNext};
 ghost use Rattle.batch_work.specs.Working.{IsAccepted, MayBegin, status_of};
 
-use batch_texts::{add_mark, marks_text, replies_text, reply_text};
+use batch_texts::{add_mark, batch, marks_text, replies_text, reply_text};
 use batch_work::{Status, Window, Work};
 use entry_book::Batch;
 use std::alloc::{AllocError, Global};
@@ -29,14 +29,24 @@ fn may_begin(window: &Window, batch: &Batch) -> bool
     batch.domain() == window.newest().domain() && window.newest().number() <= MOST
 }
 
+/// Lets a work go. Where a function with more to prove lets one go by itself, its proof takes minutes.
+pub fn let_go(work: Work) {
+    drop(work);
+}
+
 /// A work of the batch, that has begun on the window.
 pub fn begun(alloc: Global, window: &Window, batch: Batch) -> Result<Work, Fail> {
     if !may_begin(window, &batch) {
         return Err(Fail::from("no window for this batch"));
     }
     let mut work = Work::new(alloc, batch);
-    work.begin(window)?;
-    Ok(work)
+    match work.begin(window) {
+        Ok(()) => Ok(work),
+        Err(AllocError) => {
+            let_go(work);
+            Err(Fail::from(AllocError))
+        }
+    }
 }
 
 /// One step more, and its mark behind the others; where the work doesn't run, none.
@@ -61,6 +71,18 @@ pub fn run_to_end(alloc: Global, work: &mut Work) -> Result<String, Fail> {
         return Err(Fail::from("other marks than those of the steps"));
     }
     Ok(text)
+}
+
+/// The work of the batch of a text on the window, at its end.
+pub fn ended(alloc: Global, window: &Window, text: &str) -> Result<Work, Fail> {
+    let mut work = begun(alloc, window, batch(alloc, text)?)?;
+    match run_to_end(alloc, &mut work) {
+        Ok(_) => Ok(work),
+        Err(why) => {
+            let_go(work);
+            Err(why)
+        }
+    }
 }
 
 /// What a work has come to, told as text: it is ready, with these replies, or settled with this reply.

@@ -9,7 +9,7 @@ use batch_work::{Status, Work};
 use commit_head::{Commit, Head};
 use entry_book::Batch;
 use spiffe_name::TrustDomain;
-use std::alloc::Global;
+use std::alloc::{AllocError, Global};
 use std::marker::Model;
 use std::test::Fail;
 
@@ -31,6 +31,11 @@ fn run_to_end(head: &Head, work: &mut Work) -> Result<(), Fail>
     Ok(())
 }
 
+/// Lets a work go. Where a function with more to prove lets one go by itself, its proof takes minutes.
+pub fn let_go(work: Work) {
+    drop(work);
+}
+
 /// A work of the batch, that has begun on the head.
 fn begun(alloc: Global, head: &Head, batch: Batch) -> Result<Work, Fail>
     ensures { IfOk result (λ work. BeganOn work.base head.now) }
@@ -40,9 +45,17 @@ fn begun(alloc: Global, head: &Head, batch: Batch) -> Result<Work, Fail>
         return Err(Fail::from("another trust domain"));
     }
     let mut work = Work::new(alloc, batch);
-    work.begin(window)?;
-    run_to_end(head, &mut work)?;
-    Ok(work)
+    let Ok(()) = work.begin(window) else {
+        let_go(work);
+        return Err(Fail::from(AllocError));
+    };
+    match run_to_end(head, &mut work) {
+        Ok(()) => Ok(work),
+        Err(why) => {
+            let_go(work);
+            Err(why)
+        }
+    }
 }
 
 /// May the work be handed to the head?
@@ -115,6 +128,7 @@ impl Desk {
     pub fn begin(&mut self, alloc: Global, batch: Batch) -> Result<bool, Fail> {
         let work = begun(alloc, &self.head, batch)?;
         if work.status() != Status::Ready {
+            let_go(work);
             return Ok(false);
         }
         self.works.push(work)?;
@@ -135,6 +149,7 @@ impl Desk {
         if may_commit(&self.head, &work) {
             Ok(work)
         } else {
+            let_go(work);
             Err(Fail::from("not ready"))
         }
     }
@@ -154,7 +169,9 @@ impl Desk {
         call: u64,
     ) -> Result<(Commit, bool), Fail> {
         let work = self.taken(index)?;
-        Ok(commit_in_two(&mut self.head, seat, call, &work))
+        let done = commit_in_two(&mut self.head, seat, call, &work);
+        let_go(work);
+        Ok(done)
     }
 
     /// Drops the items of the journal but the last 64.

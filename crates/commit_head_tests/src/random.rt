@@ -3,7 +3,7 @@
 
 ghost use Rattle.std.specs.Prelude.{◌≡◌};
 
-use crate::desk::Desk;
+use crate::desk::{Desk, let_go};
 use crate::playing::first_desk;
 use batch_texts::{accepted_text, batch, batch_text, below, reply_text, trust_domain};
 use batch_work::Work;
@@ -163,7 +163,9 @@ fn commits_one(
     counts: &mut Counts,
 ) -> Result<(), Fail> {
     let (commit, work) = desk.commit(index, 0, 0)?;
-    holds(rt, alloc, desk.head(), book, &commit, &work, counts)
+    let held = holds(rt, alloc, desk.head(), book, &commit, &work, counts);
+    let_go(work);
+    held
 }
 
 /// The index of one of so many works, three times of four of the one that began last: the others get old.
