@@ -6,6 +6,7 @@ pub mod Deciding
 pub mod InOrder
 pub mod Looking
 pub mod Names
+pub mod NextMarks
 pub mod Places
 pub mod Plays
 pub mod Ready

@@ -30,7 +30,7 @@ can_grow m own most b low l = record {
 same_version : (v s : State) → Some v ≡ Some s → v ≡ s
 same_version v s e = cc
 
-op_is : (ops : List Op) (n : ℕ) (x op : Op) (rest : List Op) → drop n ops ≡ op ∷ rest → x ≡ get_or ops n x → op ≡ x
+pub op_is : (ops : List Op) (n : ℕ) (x op : Op) (rest : List Op) → drop n ops ≡ op ∷ rest → x ≡ get_or ops n x → op ≡ x
 op_is [] zero x op rest h e = cc
 op_is [] (suc n) x op rest h e = cc
 op_is (y ∷ ys) zero x op rest h e = let q : y ≡ op = cc in sym q ∙ sym e

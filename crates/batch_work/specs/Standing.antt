@@ -154,13 +154,3 @@ IsRunning (stage.At n p) = ⊤
 IsRunning (stage.Read m f) = ⊤
 IsRunning (stage.Ready all) = ⊥
 IsRunning (stage.Settled reply) = ⊥
-
--- a read is to be taken down
-abbrev pub IsLooked : Stage → Type 0
-IsLooked stage.New = ⊥
-IsLooked (stage.Token k) = ⊥
-IsLooked stage.Gone = ⊥
-IsLooked (stage.At n p) = ⊥
-IsLooked (stage.Read m f) = ⊤
-IsLooked (stage.Ready all) = ⊥
-IsLooked (stage.Settled reply) = ⊥

@@ -1,13 +1,13 @@
 //! What does the next read of a work show?
 
-ghost use Rattle.std.specs.Prelude.{◌≡◌, IfOk, IfErr};
+ghost use Rattle.std.specs.Prelude.{◌≡◌, IfOk, IfErr, Some, length, slice_get};
 ghost use Rattle.std.specs.Option.{option_copied};
 ghost use Rattle.entry_book.specs.Batches.{past_place};
 ghost use Rattle.entry_book.specs.Book.{token_at};
 ghost use Rattle.entry_book.specs.History.{kept_under};
-ghost use Rattle.batch_work.specs.Standing.{AtToken, BeganOn, Going, IsLooked, IsRunning, Looked, StandsAt, base_of};
+ghost use Rattle.batch_work.specs.Standing.{AtToken, BeganOn, Going, IsRunning, Looked, StandsAt, StandsRead, base_of};
 ghost use Rattle.batch_work.specs.Windows.{book_in};
-ghost use Rattle.batch_work.specs.Working.{version_read};
+ghost use Rattle.batch_work.specs.Working.{footprint_there, version_read};
 
 use crate::advance::{advance, mark_of};
 use crate::phase::{Next, Phase};
@@ -80,35 +80,56 @@ fn look_token(begun: &Begun, batch: &Batch, token: Uuid) -> Result<Option<KeptBa
     kept_under(version, token)
 }
 
-/// Makes the next read of a work that runs: its stage is then one at which a read is to be taken down. Where that read was
-/// made before, it stays. The error is want of memory, and gives the stage back.
+/// The mark of the next read of a work that runs. The error is want of memory.
+pub(crate) fn next_mark(
+    begun: &Begun,
+    batch: &Batch,
+    course: &Course,
+    stage: &Stage,
+) -> Result<Mark, AllocError>
+    requires began { BeganOn batch.now begun.now }
+    requires stands { StandsAt stage.now batch.now (base_of begun.now) course.now.marks.items course.now.changes course.now.replies.items }
+    requires running { IsRunning stage.now }
+    ensures { IfOk result (λ mark. slice_get (footprint_there batch.now (base_of begun.now)) (length course.now.marks.items) ≡ Some mark) }
+{
+    let _ = course;
+    match stage {
+        Stage::Token(token) => Ok(Mark::token(*token)),
+        Stage::Gone => Ok(Mark::all()),
+        Stage::At(index, phase) => mark_of(&begun.server, &batch.ops()[*index], phase),
+        Stage::Read(mark, _) => mark.clone(),
+        Stage::New | Stage::Ready(_) | Stage::Settled(_) => unreachable!(),
+    }
+}
+
+/// Makes the next read of a work that runs: its mark, and what it shows. A read that was made and not taken down isn't made
+/// again. The error is want of memory, and gives the stage back.
 pub(crate) fn look(
     alloc: Global,
     begun: &Begun,
     batch: &Batch,
     course: &Course,
     stage: Stage,
-) -> Result<Stage, Stage>
+) -> Result<(Mark, Found), Stage>
     requires began { BeganOn batch.now begun.now }
     requires stands { StandsAt stage batch.now (base_of begun.now) course.now.marks.items course.now.changes course.now.replies.items }
     requires running { IsRunning stage }
-    ensures looked { IfOk result IsLooked }
-    ensures stands { IfOk result (λ looked. StandsAt looked batch.now (base_of begun.now) course.now.marks.items course.now.changes course.now.replies.items) }
+    ensures stands { IfOk result (λ read. StandsRead read.0 read.1 batch.now (base_of begun.now) course.now.marks.items course.now.changes course.now.replies.items) }
     ensures back { IfErr result (λ back. back ≡ stage) }
 {
     match stage {
         Stage::Token(token) => match look_token(begun, batch, token) {
-            Ok(kept) => Ok(Stage::Read(Mark::token(token), Found::Kept(kept))),
+            Ok(kept) => Ok((Mark::token(token), Found::Kept(kept))),
             Err(_) => Err(Stage::Token(token)),
         },
-        Stage::Gone => Ok(Stage::Read(Mark::all(), Found::Gone)),
+        Stage::Gone => Ok((Mark::all(), Found::Gone)),
         Stage::At(index, phase) => {
             match look_op(alloc, begun, batch, course, index, phase) {
-                Ok((mark, next)) => Ok(Stage::Read(mark, Found::Op(index, next))),
+                Ok((mark, next)) => Ok((mark, Found::Op(index, next))),
                 Err(phase) => Err(Stage::At(index, phase)),
             }
         }
-        Stage::Read(mark, found) => Ok(Stage::Read(mark, found)),
+        Stage::Read(mark, found) => Ok((mark, found)),
         Stage::New | Stage::Ready(_) | Stage::Settled(_) => unreachable!(),
     }
 }

@@ -13,10 +13,9 @@ use spiffe_name::SpiffeId;
 use std::alloc::{AllocError, Global};
 use std::marker::Model;
 
-/// The walk to an agent's authorised entries: it begins with the held aliases and the agent's own children, and goes on to
-/// the children of each identity that it meets, each once, the least first.
+/// Where a walk stands.
 #[derive(Drop)]
-pub(crate) struct Walk {
+struct Place {
     agent: Agent,
     /// The identities met, the agent's own ID among them, in order.
     met: Vec<Shared<SpiffeId>>,
@@ -24,6 +23,13 @@ pub(crate) struct Walk {
     waiting: Vec<Shared<SpiffeId>>,
     /// The entries found, in the order of their ids.
     found: Vec<Entry>,
+}
+
+/// The walk to an agent's authorised entries: it begins with the held aliases and the agent's own children, and goes on to
+/// the children of each identity that it meets, each once, the least first. It is one word long, since each step hands it on.
+#[derive(Drop)]
+pub(crate) struct Walk {
+    place: Box<Place>,
 }
 
 impl Model for Walk {
@@ -34,16 +40,16 @@ impl Model for Walk {
     ghost Value = { WalkState };
 
     ghost view = { λ walk. record {
-      agent = walk.agent;
-      met = walk.met.items;
-      waiting = walk.waiting.items;
-      found = walk.found.items;
+      agent = walk.place.value.agent;
+      met = walk.place.value.met.items;
+      waiting = walk.place.value.waiting.items;
+      found = walk.place.value.found.items;
     } };
 
     ghost invariant = { λ walk.
-        Ascending (λ id. id) walk.met.items
-        × Ascending (λ id. id) walk.waiting.items
-        × Ascending entry_key walk.found.items };
+        Ascending (λ id. id) walk.place.value.met.items
+        × Ascending (λ id. id) walk.place.value.waiting.items
+        × Ascending entry_key walk.place.value.found.items };
 }
 
 impl Walk {
@@ -56,11 +62,14 @@ impl Walk {
     {
         let mut met = Vec::new(alloc);
         met.push(agent.id.clone()?)?;
-        Ok(Walk {
+        let place = Place {
             agent,
             met,
             waiting: Vec::new(alloc),
             found: Vec::new(alloc),
+        };
+        Ok(Walk {
+            place: Box::new(alloc, place)?,
         })
     }
 
@@ -70,10 +79,16 @@ impl Walk {
         ensures err { OnErr result (self.new ≡ self.old) }
     {
         let arrivals = arrivals_of(alloc, entries)?;
-        self.met.reserve(arrivals.len())?;
-        self.waiting.reserve(arrivals.len())?;
-        self.found.reserve(arrivals.len())?;
-        put_arrivals(&mut self.met, &mut self.waiting, &mut self.found, arrivals);
+        let place = &mut *self.place;
+        place.met.reserve(arrivals.len())?;
+        place.waiting.reserve(arrivals.len())?;
+        place.found.reserve(arrivals.len())?;
+        put_arrivals(
+            &mut place.met,
+            &mut place.waiting,
+            &mut place.found,
+            arrivals,
+        );
         Ok(())
     }
 
@@ -81,8 +96,9 @@ impl Walk {
     pub(crate) fn ends_with(&self, entries: &[Entry]) -> bool
         ensures { result ≡ is_over (walked entries.now self.now) }
     {
-        match self.waiting.as_slice() {
-            [] => are_met(self.met.as_slice(), entries),
+        let place = &*self.place;
+        match place.waiting.as_slice() {
+            [] => are_met(place.met.as_slice(), entries),
             [_, ..] => false,
         }
     }
@@ -94,24 +110,24 @@ impl Walk {
             (self.old.waiting ≡ least ∷ self.new.waiting)
             × (self.new ≡ record self.old { waiting = self.new.waiting })) }
     {
-        if self.waiting.is_empty() {
+        if self.place.waiting.is_empty() {
             return None;
         }
-        Some(self.waiting.remove(0))
+        Some(self.place.waiting.remove(0))
     }
 
     /// The agent whose entries are looked for.
     pub(crate) fn agent(&self) -> &Agent
         ensures { result.now ≡ self.now.agent }
     {
-        &self.agent
+        &self.place.agent
     }
 
     /// The entries found, in the order of their ids. Takes no memory.
     pub(crate) fn into_found(self) -> Vec<Entry>
         ensures { result.items ≡ self.found }
     {
-        let Walk { found, .. } = self;
+        let Place { found, .. } = Box::into_inner(self.place);
         found
     }
 }
@@ -121,11 +137,14 @@ impl Clone for Walk {
     ghost is_clone = { λ original copy. copy ≡ original };
 
     fn clone(&self) -> Result<Walk, AllocError> {
+        let place = Place {
+            agent: self.place.agent.clone()?,
+            met: self.place.met.clone()?,
+            waiting: self.place.waiting.clone()?,
+            found: self.place.found.clone()?,
+        };
         Ok(Walk {
-            agent: self.agent.clone()?,
-            met: self.met.clone()?,
-            waiting: self.waiting.clone()?,
-            found: self.found.clone()?,
+            place: Box::new(*Box::allocator(&self.place), place)?,
         })
     }
 }

@@ -1,12 +1,11 @@
 //! How far is a batch, and what does its next read do?
 
-ghost use Rattle.std.specs.Prelude.{◌≡◌, ◌++◌, ◌∷◌, [], ◌+◌, ◌≤◌, IfOk, IfSome, Some, None, length, slice_get, vec_capacity, vec_len};
+ghost use Rattle.std.specs.Prelude.{◌≡◌, ◌++◌, ◌∷◌, [], ◌+◌, ◌≤◌, IfOk, IfSome, Some, None, true, false, length, vec_capacity, vec_len};
 ghost use Rattle.version_book.specs.declared.mark.MarkKind.{MarkKind};
 ghost use Rattle.batch_work.specs.Standing.{BeganOn, IsRunning, StandsAt, StandsRead, base_of};
-ghost use Rattle.batch_work.specs.Working.{footprint_there};
 
 use crate::begin::{begun_on, first_stage};
-use crate::look::look;
+use crate::look::{look, next_mark};
 use crate::stage::{Begun, Course, Found, Stage};
 use crate::status::Status;
 use crate::take::take_down;
@@ -17,56 +16,6 @@ use std::marker::Model;
 use std::mem::replace;
 use version_book::{Changes, Mark, Version};
 
-/// Takes down a read that was made: the stage after it, and twice the mark, to keep and to answer. Where memory is refused
-/// there is no mark, and the read is still to be taken down.
-fn taken(
-    alloc: Global,
-    begun: &Begun,
-    batch: &Batch,
-    course: &mut Course,
-    mark: Mark,
-    found: Found,
-) -> (Stage, Option<(Mark, Mark)>)
-    requires began { BeganOn batch.now begun.now }
-    requires stands { StandsRead mark found batch.now (base_of begun.now) course.old.marks.items course.old.changes course.old.replies.items }
-    ensures stays { result.1 ≡ None → StandsAt result.0 batch.now (base_of begun.now) course.old.marks.items course.new.changes course.new.replies.items }
-    ensures stepped { IfSome result.1 (λ marks. StandsAt result.0 batch.now (base_of begun.now) (course.old.marks.items ++ marks.0 ∷ []) course.new.changes course.new.replies.items) }
-    ensures read { IfSome result.1 (λ marks. slice_get (footprint_there batch.now (base_of begun.now)) (length course.old.marks.items) ≡ Some marks.1) }
-    ensures marks { course.new.marks ≡ course.old.marks }
-{
-    let Ok(answer) = mark.clone() else {
-        return (Stage::Read(mark, found), None);
-    };
-    match take_down(alloc, begun, batch, course, &mark, found) {
-        Ok(stage) => (stage, Some((mark, answer))),
-        Err(found) => (Stage::Read(mark, found), None),
-    }
-}
-
-/// Makes the next read of a work that runs, and takes it down: the stage after it, and twice the mark, to keep and to answer.
-/// Where memory is refused there is no mark, and the same read is to be made, or to be taken down.
-fn stepped(
-    alloc: Global,
-    begun: &Begun,
-    batch: &Batch,
-    course: &mut Course,
-    stage: Stage,
-) -> (Stage, Option<(Mark, Mark)>)
-    requires began { BeganOn batch.now begun.now }
-    requires stands { StandsAt stage batch.now (base_of begun.now) course.old.marks.items course.old.changes course.old.replies.items }
-    requires running { IsRunning stage }
-    ensures stays { result.1 ≡ None → StandsAt result.0 batch.now (base_of begun.now) course.old.marks.items course.new.changes course.new.replies.items }
-    ensures stepped { IfSome result.1 (λ marks. StandsAt result.0 batch.now (base_of begun.now) (course.old.marks.items ++ marks.0 ∷ []) course.new.changes course.new.replies.items) }
-    ensures read { IfSome result.1 (λ marks. slice_get (footprint_there batch.now (base_of begun.now)) (length course.old.marks.items) ≡ Some marks.1) }
-    ensures marks { course.new.marks ≡ course.old.marks }
-{
-    match look(alloc, begun, batch, course, stage) {
-        Ok(Stage::Read(mark, found)) => taken(alloc, begun, batch, course, mark, found),
-        Ok(_) => unreachable!(),
-        Err(stage) => (stage, None),
-    }
-}
-
 /// One mark more, for which there is room.
 fn push_reserved(marks: &mut Vec<Mark>, mark: Mark)
     requires room { vec_len marks.old + 1 ≤ vec_capacity marks.old }
@@ -75,6 +24,55 @@ fn push_reserved(marks: &mut Vec<Mark>, mark: Mark)
     let Ok(()) = marks.push(mark) else {
         unreachable!()
     };
+}
+
+/// Takes down a read that was made, and keeps its mark, for which there is room: the stage after it, and true. Where memory
+/// is refused the read is still to be taken down.
+fn taken(
+    alloc: Global,
+    begun: &Begun,
+    batch: &Batch,
+    course: &mut Course,
+    mark: Mark,
+    found: Found,
+) -> (Stage, bool)
+    requires began { BeganOn batch.now begun.now }
+    requires room { vec_len course.old.marks + 1 ≤ vec_capacity course.old.marks }
+    requires stands { StandsRead mark found batch.now (base_of begun.now) course.old.marks.items course.old.changes course.old.replies.items }
+    ensures stands { StandsAt result.0 batch.now (base_of begun.now) course.new.marks.items course.new.changes course.new.replies.items }
+    ensures kept { result.1 ≡ true → length course.new.marks.items ≡ length course.old.marks.items + 1 }
+    ensures stays { result.1 ≡ false → course.new.marks.items ≡ course.old.marks.items }
+{
+    match take_down(alloc, begun, batch, course, &mark, found) {
+        Ok(stage) => {
+            push_reserved(&mut course.marks, mark);
+            (stage, true)
+        }
+        Err(found) => (Stage::Read(mark, found), false),
+    }
+}
+
+/// Makes the next read of a work that runs, takes it down, and keeps its mark, for which there is room: the stage after it,
+/// and true. Where memory is refused the same read is to be made, or to be taken down.
+fn stepped(
+    alloc: Global,
+    begun: &Begun,
+    batch: &Batch,
+    course: &mut Course,
+    stage: Stage,
+) -> (Stage, bool)
+    requires began { BeganOn batch.now begun.now }
+    requires room { vec_len course.old.marks + 1 ≤ vec_capacity course.old.marks }
+    requires stands { StandsAt stage batch.now (base_of begun.now) course.old.marks.items course.old.changes course.old.replies.items }
+    requires running { IsRunning stage }
+    ensures stands { StandsAt result.0 batch.now (base_of begun.now) course.new.marks.items course.new.changes course.new.replies.items }
+    ensures kept { result.1 ≡ true → length course.new.marks.items ≡ length course.old.marks.items + 1 }
+    ensures stays { result.1 ≡ false → course.new.marks.items ≡ course.old.marks.items }
+{
+    match look(alloc, begun, batch, course, stage) {
+        Ok((mark, found)) => taken(alloc, begun, batch, course, mark, found),
+        Err(stage) => (stage, false),
+    }
 }
 
 /// Lets a stage go that has passed.
@@ -152,11 +150,21 @@ impl Work {
         Ok(())
     }
 
-    /// Makes the next read, and answers its mark. After the last read of an operation its writes are seen by the later ones. The
-    /// error is want of memory, and nothing has changed then.
-    pub fn step(&mut self) -> Result<Mark, AllocError>
+    /// The mark of the read that the next step makes. The error is want of memory.
+    pub fn next_mark(&self) -> Result<Mark, AllocError>
+        requires running { status_of self.now ≡ Status.Running }
+        ensures { IfOk result (IsNextRead self.now) }
+    {
+        let Some(begun) = &self.begun else {
+            unreachable!()
+        };
+        next_mark(begun, &self.batch, &self.course, &self.stage)
+    }
+
+    /// Makes the next read; its mark is then the last of `marks`. After the last read of an operation its writes are seen by
+    /// the later ones. The error is want of memory, and nothing has changed then.
+    pub fn step(&mut self) -> Result<(), AllocError>
         requires running { status_of self.old ≡ Status.Running }
-        ensures read { IfOk result (IsNextRead self.old) }
         ensures stepped { OnOk result (self.new ≡ record self.old { steps = self.old.steps + 1 }) }
         ensures err { OnErr result (self.new ≡ self.old) }
     {
@@ -165,13 +173,9 @@ impl Work {
         };
         self.course.marks.reserve(1)?;
         let stage = replace(&mut self.stage, Stage::New);
-        let (stage, marks) = stepped(self.alloc, begun, &self.batch, &mut self.course, stage);
+        let (stage, is_made) = stepped(self.alloc, begun, &self.batch, &mut self.course, stage);
         let_go(replace(&mut self.stage, stage));
-        let Some((mark, answer)) = marks else {
-            return Err(AllocError);
-        };
-        push_reserved(&mut self.course.marks, mark);
-        Ok(answer)
+        if is_made { Ok(()) } else { Err(AllocError) }
     }
 
     /// What the work waits for. Takes no memory.

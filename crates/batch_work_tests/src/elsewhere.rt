@@ -2,7 +2,7 @@
 
 use crate::details::{whole_committed_text, whole_text};
 use crate::playing::first_window;
-use crate::running::{commit, ended, let_go};
+use crate::running::{commit, ended};
 use batch_texts::{batch_text, marks_text};
 use batch_work::{Status, Window, Work};
 use std::alloc::Global;
@@ -57,7 +57,7 @@ fn run_text(alloc: Global, work: &Work) -> Result<String, Fail> {
 fn text_on(alloc: Global, window: &Window, text: &str) -> Result<String, Fail> {
     let work = ended(alloc, window, text)?;
     let told = run_text(alloc, &work);
-    let_go(work);
+    drop(work);
     told
 }
 
@@ -85,7 +85,7 @@ fn commits_elsewhere(
     let other = ended(alloc, window, other)?;
     let is_spared = is_spared(work, &other, window.newest().number());
     let is_ready = commits(window, &other);
-    let_go(other);
+    drop(other);
     Ok(is_ready? && is_spared)
 }
 
@@ -135,7 +135,7 @@ fn pair(
 ) -> Result<(), Fail> {
     let work = ended(alloc, window, text)?;
     let compared = compare_beside(rt, alloc, window, &work, text, other, pairs);
-    let_go(work);
+    drop(work);
     compared
 }
 

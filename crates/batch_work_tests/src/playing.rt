@@ -1,6 +1,6 @@
 //! Batches on a window, and what their works read and come to, told by a table.
 
-use crate::running::{commit, end_text, ended, let_go};
+use crate::running::{commit, end_text, ended};
 use crate::versions::first;
 use batch_texts::marks_text;
 use batch_work::Window;
@@ -17,7 +17,7 @@ pub fn first_window(alloc: Global) -> Result<Window, Fail> {
 fn reads(alloc: Global, window: &Window, text: &str) -> Result<String, Fail> {
     let work = ended(alloc, window, text)?;
     let told = marks_text(alloc, work.marks());
-    let_go(work);
+    drop(work);
     Ok(told?)
 }
 
@@ -25,7 +25,7 @@ fn reads(alloc: Global, window: &Window, text: &str) -> Result<String, Fail> {
 fn comes(alloc: Global, window: &Window, text: &str) -> Result<String, Fail> {
     let work = ended(alloc, window, text)?;
     let told = end_text(alloc, &work);
-    let_go(work);
+    drop(work);
     told
 }
 
@@ -33,7 +33,7 @@ fn comes(alloc: Global, window: &Window, text: &str) -> Result<String, Fail> {
 fn goes_on(alloc: Global, window: &mut Window, text: &str) -> Result<(), Fail> {
     let work = ended(alloc, window, text)?;
     let pushed = commit(window, &work);
-    let_go(work);
+    drop(work);
     pushed
 }
 

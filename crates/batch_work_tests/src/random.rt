@@ -5,7 +5,7 @@ ghost use Rattle.std.specs.Prelude.{◌≡◌, ◌<◌};
 use crate::details::{whole_committed_text, whole_text};
 use crate::footprints::{PlainHistory, footprint, no_history};
 use crate::playing::first_window;
-use crate::running::{commit, ended, let_go};
+use crate::running::{commit, ended};
 use batch_texts::{batch, batch_text, marks_text, trust_domain};
 use batch_work::{Status, Window, Work};
 use entry_book::{Batch, Reply};
@@ -157,7 +157,7 @@ fn round(
 ) -> Result<(), Fail> {
     let work = ended(alloc, window, text)?;
     let held = holds(rt, alloc, window, book, history, &work, text, counts);
-    let_go(work);
+    drop(work);
     held
 }
 

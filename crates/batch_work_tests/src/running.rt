@@ -29,11 +29,6 @@ fn may_begin(window: &Window, batch: &Batch) -> bool
     batch.domain() == window.newest().domain() && window.newest().number() <= MOST
 }
 
-/// Lets a work go. Where a function with more to prove lets one go by itself, its proof takes minutes.
-pub fn let_go(work: Work) {
-    drop(work);
-}
-
 /// A work of the batch, that has begun on the window.
 pub fn begun(alloc: Global, window: &Window, batch: Batch) -> Result<Work, Fail> {
     if !may_begin(window, &batch) {
@@ -43,7 +38,7 @@ pub fn begun(alloc: Global, window: &Window, batch: Batch) -> Result<Work, Fail>
     match work.begin(window) {
         Ok(()) => Ok(work),
         Err(AllocError) => {
-            let_go(work);
+            drop(work);
             Err(Fail::from(AllocError))
         }
     }
@@ -54,7 +49,8 @@ fn step(alloc: Global, work: &mut Work, text: &mut String) -> Result<bool, Fail>
     if work.status() != Status::Running {
         return Ok(false);
     }
-    let mark = work.step()?;
+    let mark = work.next_mark()?;
+    work.step()?;
     add_mark(alloc, text, &mark)?;
     Ok(true)
 }
@@ -79,7 +75,7 @@ pub fn ended(alloc: Global, window: &Window, text: &str) -> Result<Work, Fail> {
     match run_to_end(alloc, &mut work) {
         Ok(_) => Ok(work),
         Err(why) => {
-            let_go(work);
+            drop(work);
             Err(why)
         }
     }

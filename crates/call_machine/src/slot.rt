@@ -194,7 +194,10 @@ impl Slot {
         let Ok(batch) = self.work.batch().clone() else {
             return Err(EventRefusal::NoMemory);
         };
-        let Ok(mark) = self.work.step() else {
+        let Ok(mark) = self.work.next_mark() else {
+            return Err(EventRefusal::NoMemory);
+        };
+        let Ok(()) = self.work.step() else {
             return Err(EventRefusal::NoMemory);
         };
         self.let_go(alloc, batch);

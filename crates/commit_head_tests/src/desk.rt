@@ -26,14 +26,9 @@ fn run_to_end(head: &Head, work: &mut Work) -> Result<(), Fail>
         if work.status() != Status::Running {
             break;
         }
-        drop(work.step()?);
+        work.step()?;
     }
     Ok(())
-}
-
-/// Lets a work go. Where a function with more to prove lets one go by itself, its proof takes minutes.
-pub fn let_go(work: Work) {
-    drop(work);
 }
 
 /// A work of the batch, that has begun on the head.
@@ -46,13 +41,13 @@ fn begun(alloc: Global, head: &Head, batch: Batch) -> Result<Work, Fail>
     }
     let mut work = Work::new(alloc, batch);
     let Ok(()) = work.begin(window) else {
-        let_go(work);
+        drop(work);
         return Err(Fail::from(AllocError));
     };
     match run_to_end(head, &mut work) {
         Ok(()) => Ok(work),
         Err(why) => {
-            let_go(work);
+            drop(work);
             Err(why)
         }
     }
@@ -128,7 +123,7 @@ impl Desk {
     pub fn begin(&mut self, alloc: Global, batch: Batch) -> Result<bool, Fail> {
         let work = begun(alloc, &self.head, batch)?;
         if work.status() != Status::Ready {
-            let_go(work);
+            drop(work);
             return Ok(false);
         }
         self.works.push(work)?;
@@ -149,7 +144,7 @@ impl Desk {
         if may_commit(&self.head, &work) {
             Ok(work)
         } else {
-            let_go(work);
+            drop(work);
             Err(Fail::from("not ready"))
         }
     }
@@ -170,7 +165,7 @@ impl Desk {
     ) -> Result<(Commit, bool), Fail> {
         let work = self.taken(index)?;
         let done = commit_in_two(&mut self.head, seat, call, &work);
-        let_go(work);
+        drop(work);
         Ok(done)
     }
 

@@ -1,6 +1,6 @@
 //! Histories on a desk, told by a table.
 
-use crate::desk::{Desk, let_go};
+use crate::desk::Desk;
 use crate::telling::{commit_text, item_text};
 use batch_texts::{batch, number, trust_domain, word, words};
 use commit_head::Commit;
@@ -32,7 +32,7 @@ fn known(commit: Commit) -> Result<Commit, Fail> {
 /// What became of the work that began last, committed for seat 0.
 fn commits_last(desk: &mut Desk, call: u64) -> Result<Commit, Fail> {
     let (commit, work) = desk.commit(desk.waiting().wrapping_sub(1), 0, call)?;
-    let_go(work);
+    drop(work);
     known(commit)
 }
 
@@ -64,7 +64,7 @@ fn commits(alloc: Global, desk: &mut Desk, text: &str) -> Result<String, Fail> {
     let (index, seat) = (number(words.as_slice(), 0)?, seat(words.as_slice())?);
     let call = number(words.as_slice(), 2)?;
     let (commit, work) = desk.commit(index as usize, seat, call)?;
-    let_go(work);
+    drop(work);
     Ok(commit_text(alloc, &known(commit)?)?)
 }
 

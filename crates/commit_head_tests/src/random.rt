@@ -3,7 +3,7 @@
 
 ghost use Rattle.std.specs.Prelude.{◌≡◌};
 
-use crate::desk::{Desk, let_go};
+use crate::desk::Desk;
 use crate::playing::first_desk;
 use batch_texts::{accepted_text, batch, batch_text, below, reply_text, trust_domain};
 use batch_work::Work;
@@ -164,7 +164,7 @@ fn commits_one(
 ) -> Result<(), Fail> {
     let (commit, work) = desk.commit(index, 0, 0)?;
     let held = holds(rt, alloc, desk.head(), book, &commit, &work, counts);
-    let_go(work);
+    drop(work);
     held
 }
 

@@ -34,7 +34,7 @@ pub(crate) fn run_to_end(page: &Published, work: &mut Work) -> Result<(), AllocE
         if work.status() != Status::Running {
             return Ok(());
         }
-        drop(work.step()?);
+        work.step()?;
     }
     unreachable!()
 }
