@@ -7,7 +7,7 @@ ghost use Rattle.version_shelf.specs.Pages.{rows_from};
 
 use crate::count::{Count, compared};
 use crate::page::{append, put};
-use crate::search::place;
+use crate::search::{place, place_near};
 use crate::shared_row::SharedRow;
 use std::alloc::{AllocError, Global};
 
@@ -33,6 +33,22 @@ pub(crate) fn split<'a, K: Ord, V>(
     ensures counted { (count.old ≤ count.new) × (count.new ≤ count.old + 9) }
 {
     rows.split_at(place(rows, key, count))
+}
+
+/// As [`split`], where the key's place is most often the first one.
+fn split_near<'a, K: Ord, V>(
+    rows: &'a [SharedRow<K, V>],
+    key: &K,
+    count: &mut Count,
+) -> (&'a [SharedRow<K, V>], &'a [SharedRow<K, V>])
+    requires order { IsInOrder K.cmp rows.now }
+    requires size { length rows.now ≤ 32 }
+    requires room { count.old + 10 < 2 ^ 64 }
+    ensures below { result.0.now ≡ rows_below K.cmp rows.now key.now }
+    ensures others { result.1.now ≡ rows_from K.cmp rows.now key.now }
+    ensures counted { (count.old ≤ count.new) × (count.new ≤ count.old + 10) }
+{
+    rows.split_at(place_near(rows, key, count))
 }
 
 /// Cuts the rows at a key.
@@ -73,12 +89,12 @@ pub(crate) fn between<'a, K: Ord, V>(
 ) -> &'a [SharedRow<K, V>]
     requires order { IsInOrder K.cmp rows.now }
     requires size { length rows.now ≤ 32 }
-    requires room { count.old + 18 < 2 ^ 64 }
+    requires room { count.old + 19 < 2 ^ 64 }
     ensures rows { result.now ≡ rows_between K.cmp rows.now lo.now hi.now }
-    ensures counted { (count.old ≤ count.new) × (count.new ≤ count.old + 18) }
+    ensures counted { (count.old ≤ count.new) × (count.new ≤ count.old + 19) }
 {
     let (_, from) = split(rows, lo, count);
-    split(from, hi, count).0
+    split_near(from, hi, count).0
 }
 
 /// The rows below a row, the row, and the rows above it.

@@ -69,6 +69,19 @@ pub(crate) fn place<K, T: Sought<K>>(parts: &[T], key: &K, count: &mut Count) ->
     from
 }
 
+/// The place of the key, of which most are the first one: it is looked at before the others.
+pub(crate) fn place_near<K, T: Sought<K>>(parts: &[T], key: &K, count: &mut Count) -> usize
+    requires size { length parts.now < 512 }
+    requires room { count.old + 10 < 2 ^ 64 }
+    ensures place { IsPlace (T.below key.now) parts.now result }
+    ensures counted { (count.old ≤ count.new) × (count.new ≤ count.old + 10) }
+{
+    if !parts.is_empty() && !parts[0].is_below(key, count) {
+        return 0;
+    }
+    place(parts, key, count)
+}
+
 /// The parts, without the last one.
 fn all_but_last<T>(parts: &[T]) -> &[T]
     ensures { result.now ≡ take (length parts.now - 1) parts.now }
@@ -88,6 +101,7 @@ pub(crate) struct Cut<'a, T> {
     pub(crate) above: &'a [Page<T>],
 }
 
+/// Cuts the pages at the key's place.
 pub(crate) fn cut_at<'a, K, T: Sought<K>>(
     pages: &'a [Page<T>],
     key: &K,
@@ -100,7 +114,33 @@ pub(crate) fn cut_at<'a, K, T: Sought<K>>(
     ensures key { CutsAt (T.below key.now) result.below.now result.at.now result.above.now }
     ensures counted { (count.old ≤ count.new) × (count.new ≤ count.old + 9) }
 {
-    let (below, from) = pages.split_at(place(all_but_last(pages), key, count));
+    cut_at_place(pages, key, place(all_but_last(pages), key, count))
+}
+
+/// As [`cut_at`], where the key's place is most often the first one.
+pub(crate) fn cut_near<'a, K, T: Sought<K>>(
+    pages: &'a [Page<T>],
+    key: &K,
+    count: &mut Count,
+) -> Cut<'a, T>
+    requires pages { ArePages T.least pages.now }
+    requires size { length pages.now ≤ 512 }
+    requires room { count.old + 10 < 2 ^ 64 }
+    ensures cuts { Cuts T.least pages.now result.below.now result.at.now result.above.now }
+    ensures key { CutsAt (T.below key.now) result.below.now result.at.now result.above.now }
+    ensures counted { (count.old ≤ count.new) × (count.new ≤ count.old + 10) }
+{
+    cut_at_place(pages, key, place_near(all_but_last(pages), key, count))
+}
+
+fn cut_at_place<'a, K, T: Sought<K>>(pages: &'a [Page<T>], key: &K, place: usize) -> Cut<'a, T>
+    requires pages { ArePages T.least pages.now }
+    requires place { IsPlace (ends (T.below key.now)) (take (length pages.now - 1) pages.now) place }
+    ensures cuts { Cuts T.least pages.now result.below.now result.at.now result.above.now }
+    ensures key { CutsAt (T.below key.now) result.below.now result.at.now result.above.now }
+{
+    let _ = key;
+    let (below, from) = pages.split_at(place);
     match from.split_first() {
         Some((page, above)) => Cut {
             below,

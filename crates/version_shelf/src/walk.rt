@@ -7,7 +7,7 @@ ghost use Rattle.version_shelf.specs.Pages.{ArePages, AreWalkPages, flatten, lea
 use crate::count::Count;
 use crate::leaf::{between, split};
 use crate::page::{Leaf, Middle};
-use crate::search::cut_at;
+use crate::search::{cut_at, cut_near};
 use crate::shared_row::SharedRow;
 
 /// What is left of a walk: rows, the leaves after them, the middles after these, and the leaves and rows of the page in
@@ -77,14 +77,14 @@ pub(crate) fn walk_between<'a, K: Ord, V>(
     requires middles { ArePages least_leaves middles.now }
     requires leaves { ArePages least_rows (flatten middles.now) }
     requires size { length middles.now ≤ most_middles }
-    requires room { count.old + 54 < 2 ^ 64 }
+    requires room { count.old + 57 < 2 ^ 64 }
     ensures pages { AreWalkPages result.leaves.now result.middles.now result.last_leaves.now }
     ensures rows { walk_rows result.rest.now result.leaves.now result.middles.now result.last_leaves.now result.last.now ≡ rows_between K.cmp (flatten (flatten middles.now)) lo.now hi.now }
-    ensures counted { (count.old ≤ count.new) × (count.new ≤ count.old + 54) }
+    ensures counted { (count.old ≤ count.new) × (count.new ≤ count.old + 57) }
 {
     let start = cut_at(middles, lo, count);
     let (_, from) = middles.split_at(start.below.len());
-    let end = cut_at(from, hi, count);
+    let end = cut_near(from, hi, count);
     match end.below.split_first() {
         None => walk_in_middle(end.at, lo, hi, count),
         Some((_, middles)) => {
@@ -111,14 +111,14 @@ fn walk_in_middle<'a, K: Ord, V>(
     requires order { IsInOrder K.cmp (flatten leaves.now) }
     requires leaves { ArePages least_rows leaves.now }
     requires size { length leaves.now ≤ least_leaves + least_leaves }
-    requires room { count.old + 36 < 2 ^ 64 }
+    requires room { count.old + 38 < 2 ^ 64 }
     ensures pages { AreWalkPages result.leaves.now result.middles.now result.last_leaves.now }
     ensures rows { walk_rows result.rest.now result.leaves.now result.middles.now result.last_leaves.now result.last.now ≡ rows_between K.cmp (flatten leaves.now) lo.now hi.now }
-    ensures counted { (count.old ≤ count.new) × (count.new ≤ count.old + 36) }
+    ensures counted { (count.old ≤ count.new) × (count.new ≤ count.old + 38) }
 {
     let start = cut_at(leaves, lo, count);
     let (_, from) = leaves.split_at(start.below.len());
-    let end = cut_at(from, hi, count);
+    let end = cut_near(from, hi, count);
     match end.below.split_first() {
         None => Walk {
             rest: between(end.at, lo, hi, count),

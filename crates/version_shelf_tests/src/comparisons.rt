@@ -37,7 +37,7 @@ fn assert_reads_are_cheap<'a>(rt: &impl Abort, shelf: &CountedShelf<'a>, counts:
             let walk = shelf.range(lo, hi);
             let made = counts.comparisons();
             assert!(rt;
-                made <= 2 * log2 + 2,
+                made <= 2 * log2 + 3,
                 "range: {made} at {value} of {rows} rows"
             );
             assert!(rt; walk.count() <= rows);

@@ -1,7 +1,6 @@
-use Rattle.std.proofs.Common.{◌∙◌, ap}
-use Rattle.std.proofs.Common.{◌≡◌, ◌++◌, ◌∷◌}
+use Rattle.std.proofs.Common.{◌≡◌, ◌-◌, ◌++◌, ◌∷◌, length, take, refl, ap, ◌∙◌}
 use Rattle.version_shelf.proofs.Cutting.{cuts_of, cuts_at}
-use Rattle.version_shelf.proofs.search.cut_at.Goals as goal
+use Rattle.version_shelf.proofs.search.cut_at_place.Goals as goal
 
 -- the pages before the place, the one at it, and the rest
 parts : (g : _) (c : goal.After-parts g) → c.args.pages.now ≡ c.split_at.result.0.now ++ c.in-Some.page.now ∷ c.in-Some.above.now
@@ -14,4 +13,4 @@ returns-in-Some-clause-cuts g c =
     rw (c.parts.ensures, all) (cuts_of g.T.Sought.least c.split_at.result.0.now c.in-Some.page.now c.in-Some.above.now pages)
 
 pub returns-in-Some-clause-key : goal.returns-in-Some-clause-key
-returns-in-Some-clause-key g c = rw c.parts.ensures (cuts_at _ c.args.pages.now c.all_but_last.result.now c.split_at.result.0.now c.place.result c.in-Some.page.now c.in-Some.above.now c.all_but_last.ensures c.place.ensures.place c.split_at.ensures.front c.split_at.ensures.front_len (parts g c))
+returns-in-Some-clause-key g c = rw c.parts.ensures (cuts_at _ c.args.pages.now (take (length c.args.pages.now - 1) c.args.pages.now) c.split_at.result.0.now c.args.place c.in-Some.page.now c.in-Some.above.now refl c.requires.place c.split_at.ensures.front c.split_at.ensures.front_len (parts g c))
