@@ -22,7 +22,8 @@ use std::{io, thread};
 /// its connections one after another. Creates that come without an id get the ids of the seed, those of connection j the ones
 /// of its stream j. The trust domain is lent to the sessions, and `kept` is the same one for the registry to keep.
 ///
-/// Nothing is known of what a connection carries; a session over a device whose bytes are known has a contract.
+/// Nothing is known of what a connection carries; a session over a device whose bytes are known has a contract. It waits for
+/// connections and for what they carry, and nothing is promised of its end.
 pub fn serve<
     J: Naming + Send + Sync,
     R: Threads + Wait + Clock + Print + Net<Listener = TcpListener, Stream = TcpStream> + Sync,
@@ -113,7 +114,8 @@ fn tell<R: Print>(rt: &R, address: SocketAddr) -> io::Result<()> {
 }
 
 /// Starts a worker with one of the seats for each queue, accepts the connections, and returns when all workers have ended.
-/// Where no thread is to be had for a worker, memory is said to be wanting, and no connection is accepted.
+/// Where no thread is to be had for a worker, memory is said to be wanting, and no connection is accepted. It waits for
+/// connections and for what they carry, and nothing is promised of its end.
 pub fn serve_connections<J: Naming + Send + Sync, R: Threads + Wait + Clock + Sync>(
     rt: &R,
     alloc: Global,

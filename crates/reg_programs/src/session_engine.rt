@@ -20,7 +20,8 @@ use std::sync::Wait;
 /// Answers each line of the input through the seat, in order, and hands the seat back. Creates that come without an id get the
 /// ids, in order.
 ///
-/// The replies are out before each read that may wait, and at the end.
+/// The replies are out before each read that may wait, and at the end. It waits for the input, and for the registry's lock, and
+/// nothing is promised of its end.
 pub fn session<J: Naming, R: Wait, S: Source, K: Sink>(
     rt: &R,
     alloc: Global,
@@ -208,7 +209,7 @@ fn call<J: Naming, R: Wait>(
 {
     let Request { batch, tries } = request;
     if batch.is_query() {
-        match registry.query(seat, &batch) {
+        match registry.query(seat, batch) {
             Ok(reply) => LineAnswer::Shared(seat.calls(), reply),
             Err(why) => not_answered(line, why),
         }

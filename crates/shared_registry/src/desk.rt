@@ -1,6 +1,7 @@
 //! What lies under the lock?
 
 ghost use Rattle.std.specs.Prelude.{◌≡◌, [], IfOk, MatchResult};
+ghost use mathlib.Core.List.{IsPrefix};
 ghost use Rattle.batch_work.specs.Working.{status_of};
 ghost use Rattle.shared_registry.specs.Outcomes.{IsDecided};
 ghost use Rattle.shared_registry.specs.Seated.{Goes};
@@ -25,7 +26,7 @@ use std::sync::Wait;
 /// The writer of what is published.
 pub(crate) type WindowWriter<J> = Writer<Published, Published, View, Rule<J>>;
 
-/// There are 32 seats already, or no reader was given.
+/// There are 32 seats already, no reader was given, or no more owners of what is published can be counted.
 #[derive(Clone, Copy, Debug, PartialEq, Eq, Drop)]
 pub struct NoSeat;
 
@@ -108,6 +109,7 @@ impl<J: Naming> Core<J> {
         ensures same { self.new ≡ self.old }
         ensures goes { Goes seat.old seat.new }
         ensures own { seat.new.own ≡ seat.old.own }
+        ensures heard { IfOk result (λ _. IsPrefix seat.old.told seat.new.seen) }
         ensures seen { MatchResult result (λ r. (r ≡ seat.new.seen) × (r ≡ self.old)) (λ _. seat.new.seen ≡ seat.old.seen) }
     {
         let Some(writer) = &self.writer else {

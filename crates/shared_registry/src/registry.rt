@@ -112,7 +112,8 @@ impl<J: Naming> Registry<J> {
     }
 
     /// A seat for one more caller, which has seen and made nothing. There are 32 of them, and none may be had where no reader
-    /// is given.
+    /// is given, or no more owners of what is published can be counted. It waits for the lock, and nothing is promised of when
+    /// that is had.
     pub fn seat<R: Wait>(&self, rt: &R) -> Result<Seat<J>, NoSeat>
         ensures { IfOk result (λ s. (s.seen ≡ []) × (s.told ≡ []) × (s.own ≡ []) × (s.calls ≡ 0)) }
     {
@@ -123,11 +124,11 @@ impl<J: Naming> Registry<J> {
     }
 
     /// The answer to a query, on the books of what the seat has then seen. It waits for nobody.
-    pub fn query(&self, seat: &mut Seat<J>, batch: &Batch) -> Result<Shared<Reply>, NoAnswer>
+    pub fn query(&self, seat: &mut Seat<J>, batch: Batch) -> Result<Shared<Reply>, NoAnswer>
         requires has_calls { seat.old.calls < 2 ^ 48 }
-        requires query { is_query batch.now.ops ≡ true }
-        requires domain { batch.now.domain ≡ J.domain }
-        ensures answer { IfOk result (λ reply. reply ≡ reply_to batch.now (books_of (batches_of seat.new.seen))) }
+        requires query { is_query batch.ops ≡ true }
+        requires domain { batch.domain ≡ J.domain }
+        ensures answer { IfOk result (λ reply. reply ≡ reply_to batch (books_of (batches_of seat.new.seen))) }
         ensures entered { MatchResult result (λ _. Entered J.domain seat.old seat.new) (λ _. Stays J.domain seat.old seat.new) }
         ensures own { seat.new.own ≡ seat.old.own }
     {
@@ -228,10 +229,12 @@ impl<J: Naming> Registry<J> {
         }
     }
 
-    /// The seat has then seen every item so far, and the receipt says so.
+    /// The seat has then seen every item so far, those that it was told of among them, and the receipt says so. It waits for the
+    /// lock, and nothing is promised of when that is had.
     pub fn news<R: Wait>(&self, rt: &R, seat: &mut Seat<J>) -> Result<Receipt<J>, NoEntry>
         ensures goes { Goes seat.old seat.new }
         ensures own { seat.new.own ≡ seat.old.own }
+        ensures heard { IfOk result (λ _. IsPrefix seat.old.told seat.new.seen) }
         ensures receipt { MatchResult result (λ r. r ≡ seat.new.seen) (λ _. seat.new.seen ≡ seat.old.seen) }
     {
         let mut core = self.core.lock(rt);
@@ -240,7 +243,7 @@ impl<J: Naming> Registry<J> {
         receipt
     }
 
-    /// How many items of the journal are kept.
+    /// How many items of the journal are kept. It waits for the lock, and nothing is promised of when that is had.
     pub fn kept<R: Wait>(&self, rt: &R) -> u64 {
         let core = self.core.lock(rt);
         let kept = core.kept();
@@ -248,7 +251,8 @@ impl<J: Naming> Registry<J> {
         kept
     }
 
-    /// Ends the registry, whose writer can't be let go otherwise.
+    /// Ends the registry, whose writer can't be let go otherwise. It waits for the readers that are inside, and nothing is
+    /// promised of its end.
     pub fn close<R: Wait>(self, rt: &R) {
         let Registry {
             alloc: _,

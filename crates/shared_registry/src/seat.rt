@@ -151,14 +151,18 @@ impl<J: Naming> Seat<J> {
         }
     }
 
-    /// Does what is published fit what it has seen: its place, and the count of its commits?
+    /// Does what is published fit what it has seen and was told of, and the count of its commits?
     pub(crate) fn fits(&self, published: &Published) -> bool
         requires { IsOf J.history J.domain published.now }
         ensures seen { IsTrue result → IsPrefix self.now.seen published.now.journal }
+        ensures told { IsTrue result → IsPrefix self.now.told published.now.journal }
         ensures own { IsTrue result → calls_of self.now.number published.now.journal ≡ self.now.own }
     {
         let front: Front<J> = published.front();
-        if published.count(self.number) != self.count || !self.seen.begins(&front) {
+        if published.count(self.number) != self.count
+            || !self.seen.begins(&front)
+            || !self.told.begins(&front)
+        {
             return false;
         }
         true
@@ -234,11 +238,11 @@ impl<J: Naming> Seat<J> {
     }
 
     /// The answer to a query, on the books of what is then seen. It waits for nobody.
-    pub fn query(&mut self, batch: &Batch) -> Result<Shared<Reply>, NoAnswer>
+    pub fn query(&mut self, batch: Batch) -> Result<Shared<Reply>, NoAnswer>
         requires has_calls { self.old.calls < 2 ^ 48 }
-        requires query { is_query batch.now.ops ≡ true }
-        requires domain { batch.now.domain ≡ J.domain }
-        ensures answer { IfOk result (λ reply. reply ≡ reply_to batch.now (books_of (batches_of self.new.seen))) }
+        requires query { is_query batch.ops ≡ true }
+        requires domain { batch.domain ≡ J.domain }
+        ensures answer { IfOk result (λ reply. reply ≡ reply_to batch (books_of (batches_of self.new.seen))) }
         ensures entered { MatchResult result (λ _. Entered J.domain self.old self.new) (λ _. Stays J.domain self.old self.new) }
         ensures own { self.new.own ≡ self.old.own }
     {
@@ -333,15 +337,15 @@ fn find<J: Naming>(
 }
 
 /// What a query is answered on what is published. The error is want of memory.
-fn answered(alloc: Global, page: &Published, batch: &Batch) -> Result<Shared<Reply>, AllocError>
-    requires query { is_query batch.now.ops ≡ true }
-    requires domain { batch.now.domain ≡ page.now.window.newest.domain }
-    ensures { IfOk result (λ reply. reply ≡ reply_to batch.now (books_of (batches_of page.now.journal))) }
+fn answered(alloc: Global, page: &Published, batch: Batch) -> Result<Shared<Reply>, AllocError>
+    requires query { is_query batch.ops ≡ true }
+    requires domain { batch.domain ≡ page.now.window.newest.domain }
+    ensures { IfOk result (λ reply. reply ≡ reply_to batch (books_of (batches_of page.now.journal))) }
 {
-    let mut work = begun(alloc, page, batch.clone()?)?;
+    let _ = batch.ops();
+    let mut work = begun(alloc, page, batch)?;
     run_to_end(page, &mut work)?;
     let _ = page.window();
-    let _ = batch.ops();
     let Some(reply) = work.into_reply() else {
         unreachable!()
     };

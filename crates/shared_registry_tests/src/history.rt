@@ -98,7 +98,7 @@ fn tells<J: Naming, R: Wait>(
     tries: u32,
 ) -> Result<Told, Failed> {
     if batch.is_query() {
-        let reply = site.query(seat, &batch)?;
+        let reply = site.query(seat, batch)?;
         return told_by_reply(alloc, reply.get());
     }
     let outcome = site.submit(rt, seat, &OpenGate, batch, tries)?;

@@ -84,8 +84,8 @@ fn check_news<J: Naming, R: Wait + Abort>(
     Ok(receipt)
 }
 
-/// One that learnt of it sees it at its first query.
-fn check_learnt<J: Naming, R: Wait + Abort>(
+/// One that learnt of it sees it at its first query; neither call has anything to wait with.
+fn check_learnt<J: Naming, R: Abort>(
     rt: &R,
     alloc: Global,
     site: &Site<J>,
@@ -95,6 +95,19 @@ fn check_learnt<J: Naming, R: Wait + Abort>(
     seat.learn(receipt);
     assert_eq!(rt; seat.place(), 0);
     check_shown(rt, alloc, site, &mut seat)
+}
+
+/// One that learnt of it has seen it after news, too.
+fn check_news_learnt<J: Naming, R: Wait + Abort>(
+    rt: &R,
+    site: &Site<J>,
+    mut seat: Seat<J>,
+    receipt: &Receipt<J>,
+) -> Result<(), Failed> {
+    seat.learn(receipt);
+    site.news(rt, &mut seat)?;
+    assert_eq!(rt; seat.place(), 1);
+    Ok(())
 }
 
 fn creates<J: Naming, R: Wait + Abort>(
@@ -116,10 +129,12 @@ pub fn new_seats<J: Naming, R: Wait + Abort>(
     let asking = site.seat(rt)?;
     let hearing = site.seat(rt)?;
     let learning = site.seat(rt)?;
+    let learning_more = site.seat(rt)?;
     creates(rt, alloc, site)?;
     check_first_query(rt, alloc, site, asking)?;
     let receipt = check_news(rt, alloc, site, hearing)?;
-    check_learnt(rt, alloc, site, learning, &receipt)
+    check_learnt(rt, alloc, site, learning, &receipt)?;
+    check_news_learnt(rt, site, learning_more, &receipt)
 }
 
 fn check_new<J: Naming, R: Abort>(rt: &R, seats: &[Seat<J>]) {

@@ -75,7 +75,7 @@ impl<J: Naming> Site<J> {
     }
 
     /// The answer to a query.
-    pub fn query(&self, seat: &mut Seat<J>, batch: &Batch) -> Result<Shared<Reply>, Failed> {
+    pub fn query(&self, seat: &mut Seat<J>, batch: Batch) -> Result<Shared<Reply>, Failed> {
         if batch.domain() != &self.domain || !batch.is_query() || !seat.has_calls() {
             return Err(Failed::NotAsked);
         }
@@ -100,7 +100,7 @@ impl<J: Naming> Site<J> {
     /// The answer to the query that a text tells, as text.
     pub fn asks(&self, alloc: Global, seat: &mut Seat<J>, text: &str) -> Result<String, Failed> {
         let batch = batch(alloc, text)?;
-        let reply = self.query(seat, &batch)?;
+        let reply = self.query(seat, batch)?;
         Ok(reply_text(alloc, reply.get())?)
     }
 

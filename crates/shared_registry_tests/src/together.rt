@@ -13,7 +13,7 @@ use std::test::Fail;
 use std::thread::{Threads, map_vec};
 use std::time::Clock;
 
-/// Creates this entry under the seat's own parent, and says at which place.
+/// Creates this entry under a parent of its own, and says at which place.
 pub fn creates<J: Naming, R: Wait + Abort>(
     rt: &R,
     alloc: Global,
@@ -21,8 +21,7 @@ pub fn creates<J: Naming, R: Wait + Abort>(
     seat: &mut Seat<J>,
     entry: u64,
 ) -> Result<u64, Failed> {
-    let parent = seat.number();
-    let text = format!(in alloc; "create {entry} n{parent} /web u:{entry} 0")?;
+    let text = format!(in alloc; "create {entry} n{entry} /web u:{entry} 0")?;
     let told = site.does(rt, alloc, seat, &OpenGate, text.as_str(), 1)?;
     let place = seat.place();
     let want = format!(in alloc; "committed at {place}; entry {entry}.0")?;

@@ -3,13 +3,13 @@ use Rattle.reg_programs.specs.Sessions.{no_reply, outcome_json, submitted}
 use Rattle.shared_registry.specs.Outcomes.{IsSubmitted}
 use Rattle.reg_programs.proofs.session_engine.call.Goals as goal
 
-pub returns-then-is_query : goal.returns-then-is_query
-returns-then-is_query g c = record {
+pub returns-in-Err : goal.returns-in-Err
+returns-in-Err g c = record {
   answers = no_reply c.in-Err.why (sym c.is_query.ensures.query ∙ c.if-is_query.true) c.in-Err.ensures.entered c.in-Err.ensures.own c.not_answered.ensures;
 }
 
-pub returns : goal.returns
-returns g c =
+pub returns-else-is_query : goal.returns-else-is_query
+returns-else-is_query g c =
     let told = c.outcome_of.ensures ∙ ap (λ (n : ℕ). outcome_json n c.args.line c.submit-outcome.result) c.calls-else-is_query.ensures in
     let made = subst (λ (n : ℕ). IsSubmitted c.args.seat.now c.submit-outcome.new.seat c.args.request.batch n c.submit-outcome.result) c.count.ensures.value c.submit-outcome.ensures.answer in
     record {

@@ -1,4 +1,4 @@
-use Rattle.std.proofs.Common.{◌≡◌, ◌∙◌, subst}
+use Rattle.std.proofs.Common.{◌≡◌, subst}
 use Rattle.entry_book.specs.History.{books_of, reply_to}
 use Rattle.commit_head.specs.Journals.{batches_of}
 use Rattle.shared_registry.proofs.Answered.{answer_is}
@@ -6,5 +6,5 @@ use Rattle.shared_registry.proofs.seat.answered.Goals as goal
 
 pub returns : goal.returns
 returns c =
-    let same = c.in_ok-work.ensures.begun.batch_is ∙ c.in_ok-clone.ensures.cases in
+    let same = c.in_ok-work.ensures.begun.batch_is in
     subst (λ b. c.in-Some.reply ≡ reply_to b (books_of (batches_of c.args.page.now.journal))) same (answer_is _ _ _ _ c.in_ok-run_to_end.ensures c.window.ensures.journal c.in-Some.ensures.answer)
