@@ -3,7 +3,7 @@
 use crate::marks::mark_of;
 use crate::running::{changes_of, next_of};
 use batch_texts::{batch, number, trust_domain, word, words};
-use entry_book::{Entry, KeptBatch};
+use entry_book::{Agent, Bundle, Entry, KeptBatch};
 use std::alloc::Global;
 use std::process::Abort;
 use std::test::Fail;
@@ -73,34 +73,56 @@ fn kept_text(alloc: Global, kept: &KeptBatch) -> Result<String, Fail> {
     Ok(format!(in alloc; " {ops} ops at {place}")?)
 }
 
-/// What a version reads at a mark, row by row: an agent is told as the count of its selectors, a bundle as its sequence.
-fn told(alloc: Global, version: &Version, mark: &Mark) -> Result<String, Fail> {
-    let reading = version.read(mark)?;
+/// Rows one by one: an agent is told as the count of its selectors, a bundle as its sequence.
+fn rows_text(
+    alloc: Global,
+    entries: &[Entry],
+    agents: &[Agent],
+    bundles: &[Bundle],
+    tokens: &[KeptBatch],
+) -> Result<String, Fail> {
     let mut text = String::new(alloc);
-    for row in reading.entries() {
+    for row in entries {
         text.push_str(entry(alloc, row)?.as_str())?;
     }
-    for agent in reading.agents() {
+    for agent in agents {
         let count = agent.selectors.get().len();
         text.push_str(format!(in alloc; " agent {count}")?.as_str())?;
     }
-    for bundle in reading.bundles() {
+    for bundle in bundles {
         let sequence = bundle.sequence;
         text.push_str(format!(in alloc; " bundle {sequence}")?.as_str())?;
     }
-    for kept in reading.tokens() {
+    for kept in tokens {
         text.push_str(kept_text(alloc, kept)?.as_str())?;
     }
     Ok(text)
 }
 
-/// The same of the version's clone at the mark's clone, which has to name the same.
+/// What a version reads at a mark.
+fn told(alloc: Global, version: &Version, mark: &Mark) -> Result<String, Fail> {
+    let reading = version.read(mark)?;
+    let (entries, agents) = (reading.entries(), reading.agents());
+    rows_text(alloc, entries, agents, reading.bundles(), reading.tokens())
+}
+
+/// The same of the version's clone at the mark's clone, which has to name the same, by rows that are handed over.
 fn told_by_clone(alloc: Global, version: &Version, mark: &Mark) -> Result<String, Fail> {
     let (copy, copied_mark) = (version.clone()?, mark.clone()?);
     if copied_mark.kind().clone()? != *mark.kind() {
         return Err(Fail::from("a clone that names something else"));
     }
-    told(alloc, &copy, &copied_mark)
+    let entries = copy.read(&copied_mark)?.into_entries();
+    let agents = copy.read(&copied_mark)?.into_agents();
+    let bundles = copy.read(&copied_mark)?.into_bundles();
+    let tokens = copy.read(&copied_mark)?.into_tokens();
+    rows_text(
+        alloc,
+        entries.as_slice(),
+        agents.as_slice(),
+        bundles.as_slice(),
+        tokens.as_slice(),
+    )
 }
 
 fn told_count(alloc: Global, version: &Version) -> Result<String, Fail> {
