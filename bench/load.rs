@@ -5,8 +5,8 @@
 //!
 //! A request is a line of the input; for Redis its words are parted by single spaces. Each connection has a thread, which sends as
 //! many requests at once as DEPTH says and then waits for all their replies. After a fifth of a second to warm up it measures, and
-//! prints a line of numbers: requests, seconds, the latencies at the 50th and the 99th percentile (nanoseconds from the send of a
-//! request to the read that brought the end of its reply), the processor time of the server of that PID and of this program
+//! prints a line of numbers: requests, seconds, the latencies at the 50th, the 99th and the 99.9th percentile (nanoseconds from the send
+//! of a request to the read that brought the end of its reply), the processor time of the server of that PID and of this program
 //! (nanoseconds), bytes of replies, and how many replies weren't a good one.
 
 use std::io::{self, BufRead, Read, Write};
@@ -243,11 +243,12 @@ fn measure(shared: &Shared, streams: Vec<TcpStream>, length: Duration, pid: &str
         latencies.sort_unstable();
         let bad: u64 = counts.iter().map(|it| it.bad.load(Relaxed)).sum();
         println!(
-            "{} {} {} {} {} {} {} {}",
+            "{} {} {} {} {} {} {} {} {}",
             end.requests - begin.requests,
             (end.at - begin.at).as_secs_f64(),
             percentile(&latencies, 0.5),
             percentile(&latencies, 0.99),
+            percentile(&latencies, 0.999),
             end.server - begin.server,
             end.own - begin.own,
             end.bytes - begin.bytes,

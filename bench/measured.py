@@ -75,23 +75,28 @@ def in_turn(runs, jobs):
     return found
 
 
-def show_beside(found):
-    """A table of what was measured: for each job the smallest and the median of its runs, in microseconds of processor, and for
-    each but the first what part of them the first one's are."""
-    first, *others = found
-    print(f"{'':20}{'':>7}" + "".join(f"{name:>26}" for name in found) + "".join(f"{f'{first} / {name}':>26}" for name in others))
-    heading = ""
-    for key in found[first][0]:
-        if key[0] != heading:
-            heading = key[0]
-            print(heading)
-        both = {}
-        for name, runs in found.items():
-            times = [run[key][1] for run in runs if key in run]
-            both[name] = (min(times), statistics.median(times)) if times else None
-        line = f"{key[1]:20}{key[2]:>7}"
-        line += "".join(f"{both[name][0]:13.2f}{both[name][1]:13.2f}" if both[name] else f"{'':26}" for name in found)
-        for name in others:
-            if both[name] and all(both[name]):
-                line += "".join(f"{one / other:13.2f}" for one, other in zip(both[first], both[name]))
-        print(line.rstrip())
+def spent(runs, key):
+    """The smallest and the median of these runs, in microseconds of processor; nothing where no such thing was measured."""
+    times = [run[key][1] for run in runs if key in run]
+    return [min(times), statistics.median(times)] if times else []
+
+
+def table_line(cells):
+    return f"| {' | '.join(map(str, cells))} |"
+
+
+def table_head(titles, names=(), pairs=()):
+    """The first lines of a table as the documents have it: these titles, the names of what is measured, and pairs of names."""
+    titles = [*titles, *names, *(f"{one} / {other}" for one, other in pairs)]
+    return f"{table_line(titles)}\n{'|---' * len(titles)}|"
+
+
+def table_row(cells, found, pairs=()):
+    """A line of such a table: these cells, the numbers found for each name, and for each pair of names their ratios."""
+    numbers = [", ".join(map(told, found[name])) for name in found]
+    ratios = [", ".join(f"{one / other:.2f}" for one, other in zip(found[first], found[second]) if other) for first, second in pairs]
+    return table_line([*cells, *numbers, *ratios])
+
+
+def told(number):
+    return f"{number:,.0f}" if number >= 100 else f"{number:.1f}" if number >= 10 else f"{number:.2f}"

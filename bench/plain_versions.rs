@@ -1,98 +1,142 @@
 //! What bench/versions.rattle does, as an ordinary, unverified Rust program does it: `std` alone, for bench/versions.
 //!
-//! A version has four ordered maps, whose rows stand in sorted pages. Versions share rows and pages; a page that no other
-//! version has is changed in place. The words and the lines that are printed are those of bench/versions.rattle, but that
-//! nothing is asked about what is unchanged, nor about agents, bundles and tokens.
+//! A version has four ordered maps, whose rows stand in trees of sorted pages. Versions share rows and pages; a page that no
+//! other version has is changed in place. The words and the lines that are printed are those of bench/versions.rattle, but that
+//! nothing is asked about what is unchanged, nor about agents, bundles and tokens. With a number of entries alone as its word
+//! it commits as bench/head.rattle does (plain_heads.rs), for bench/head.
 
+mod plain_heads;
+
+use std::mem;
 use std::sync::Arc;
 use std::time::{Duration, Instant};
 
 const IDENTITIES: u64 = 1024;
 const EXPIRIES: u64 = 1_000_000;
-const MOST_PARTS: usize = 128;
+const MOST_PARTS: usize = 32;
 
 // ---- ordered maps whose old versions stay
 
-type Page<K, V> = Vec<Arc<(K, V)>>;
-
-struct Shelf<K, V> {
-    pages: Arc<Vec<Arc<Page<K, V>>>>,
-    len: usize,
+/// Rows in order, or pages in order, each with a key: none of its rows is above that, and all rows of later pages are. The
+/// last page's key isn't looked at.
+#[derive(Clone)]
+enum Page<K, V> {
+    Rows(Vec<Arc<(K, V)>>),
+    Pages(Vec<(K, Arc<Page<K, V>>)>),
 }
 
-impl<K, V> Clone for Shelf<K, V> {
-    fn clone(&self) -> Self {
-        Shelf {
-            pages: self.pages.clone(),
-            len: self.len,
+/// The place of the page, among these, to which a key belongs.
+fn place<K: Ord, V>(pages: &[(K, Arc<Page<K, V>>)], key: &K) -> usize {
+    pages[..pages.len() - 1].partition_point(|(last, _)| last < key)
+}
+
+/// The upper half of what has become too long.
+fn upper_half<T>(parts: &mut Vec<T>) -> Option<Vec<T>> {
+    (parts.len() > MOST_PARTS).then(|| parts.split_off(parts.len() / 2))
+}
+
+impl<K: Ord + Clone, V: Clone> Page<K, V> {
+    fn get(&self, key: &K) -> Option<&V> {
+        match self {
+            Page::Rows(rows) => rows.binary_search_by(|row| row.0.cmp(key)).ok().map(|at| &rows[at].1),
+            Page::Pages(pages) => pages[place(pages, key)].1.get(key),
+        }
+    }
+
+    /// A page that becomes too long keeps its lower half. The answer is then that half's last key, and the page behind it.
+    fn put(&mut self, key: K, value: V) -> Option<(K, Page<K, V>)> {
+        match self {
+            Page::Rows(rows) => {
+                let row = Arc::new((key, value));
+                match rows.binary_search_by(|other| other.0.cmp(&row.0)) {
+                    Ok(at) => rows[at] = row,
+                    Err(at) => rows.insert(at, row),
+                }
+                let upper = upper_half(rows)?;
+                Some((rows.last()?.0.clone(), Page::Rows(upper)))
+            }
+            Page::Pages(pages) => {
+                let at = place(pages, &key);
+                let (last, page) = &mut pages[at];
+                let (middle, next) = Arc::make_mut(page).put(key, value)?;
+                let last = mem::replace(last, middle);
+                pages.insert(at + 1, (last, Arc::new(next)));
+                let upper = upper_half(pages)?;
+                Some((pages.last()?.0.clone(), Page::Pages(upper)))
+            }
+        }
+    }
+
+    /// Answers whether nothing is left.
+    fn remove(&mut self, key: &K) -> bool {
+        match self {
+            Page::Rows(rows) => {
+                if let Ok(at) = rows.binary_search_by(|row| row.0.cmp(key)) {
+                    rows.remove(at);
+                }
+                rows.is_empty()
+            }
+            Page::Pages(pages) => {
+                let at = place(pages, key);
+                if Arc::make_mut(&mut pages[at].1).remove(key) {
+                    pages.remove(at);
+                }
+                pages.is_empty()
+            }
+        }
+    }
+
+    /// Visits the rows from `lo` on and before `hi`, where there are such bounds.
+    fn visit<'a>(&'a self, lo: Option<&K>, hi: Option<&K>, to: &mut impl FnMut(&'a V)) {
+        match self {
+            Page::Rows(rows) => {
+                let first = lo.map_or(0, |lo| rows.partition_point(|row| row.0 < *lo));
+                let end = hi.map_or(rows.len(), |hi| rows.partition_point(|row| row.0 < *hi));
+                rows[first..end].iter().for_each(|row| to(&row.1));
+            }
+            Page::Pages(pages) => {
+                let first = lo.map_or(0, |lo| place(pages, lo));
+                let last = hi.map_or(pages.len() - 1, |hi| place(pages, hi));
+                for at in first..=last {
+                    pages[at].1.visit(lo.filter(|_| at == first), hi.filter(|_| at == last), to);
+                }
+            }
         }
     }
 }
 
-impl<K: Ord, V> Shelf<K, V> {
+#[derive(Clone)]
+struct Shelf<K, V> {
+    root: Arc<Page<K, V>>,
+}
+
+impl<K: Ord + Clone, V: Clone> Shelf<K, V> {
     fn new() -> Self {
         Shelf {
-            pages: Arc::new(Vec::new()),
-            len: 0,
-        }
-    }
-
-    /// The page of a key, and the key's place there.
-    fn place(&self, key: &K) -> (usize, Result<usize, usize>) {
-        let is_below = |page: &Arc<Page<K, V>>| page.last().is_some_and(|row| row.0 < *key);
-        let page = self.pages.partition_point(is_below);
-        let page = page.min(self.pages.len().saturating_sub(1));
-        match self.pages.get(page) {
-            Some(rows) => (page, rows.binary_search_by(|row| row.0.cmp(key))),
-            None => (0, Err(0)),
+            root: Arc::new(Page::Rows(Vec::new())),
         }
     }
 
     fn get(&self, key: &K) -> Option<&V> {
-        match self.place(key) {
-            (page, Ok(at)) => Some(&self.pages[page][at].1),
-            _ => None,
-        }
+        self.root.get(key)
     }
 
     fn put(&mut self, key: K, value: V) {
-        let (page, place) = self.place(&key);
-        let pages = Arc::make_mut(&mut self.pages);
-        if pages.is_empty() {
-            pages.push(Arc::new(Vec::new()));
-        }
-        let rows = Arc::make_mut(&mut pages[page]);
-        match place {
-            Ok(at) => rows[at] = Arc::new((key, value)),
-            Err(at) => {
-                rows.insert(at, Arc::new((key, value)));
-                self.len += 1;
-            }
-        }
-        if rows.len() > MOST_PARTS {
-            let others = rows.split_off(rows.len() / 2);
-            pages.insert(page + 1, Arc::new(others));
+        if let Some((middle, next)) = Arc::make_mut(&mut self.root).put(key, value) {
+            let pages = vec![(middle.clone(), self.root.clone()), (middle, Arc::new(next))];
+            self.root = Arc::new(Page::Pages(pages));
         }
     }
 
     fn remove(&mut self, key: &K) {
-        if let (page, Ok(at)) = self.place(key) {
-            let pages = Arc::make_mut(&mut self.pages);
-            let rows = Arc::make_mut(&mut pages[page]);
-            rows.remove(at);
-            self.len -= 1;
-            if rows.is_empty() {
-                pages.remove(page);
-            }
+        if Arc::make_mut(&mut self.root).remove(key) {
+            *self = Shelf::new();
         }
     }
 
-    /// The rows from `lo` on and before `hi`.
-    fn range<'a>(&'a self, lo: &K, hi: &'a K) -> impl Iterator<Item = &'a V> {
-        let (page, place) = self.place(lo);
-        let (Ok(at) | Err(at)) = place;
-        let rows = self.pages.get(page..).unwrap_or(&[]).iter().flat_map(|rows| rows.iter());
-        rows.skip(at).take_while(move |row| row.0 < *hi).map(|row| &row.1)
+    /// Visits the rows from `lo` on and before `hi`.
+    fn visit<'a>(&'a self, lo: &K, hi: &K, mut to: impl FnMut(&'a V)) {
+        self.root.visit(Some(lo), Some(hi), &mut to);
     }
 }
 
@@ -192,11 +236,21 @@ impl Version {
         }
         next
     }
+
+    fn without(&self, ids: &[u128]) -> Version {
+        let mut next = self.clone();
+        next.number += 1;
+        for id in ids {
+            next.remove(*id);
+        }
+        next
+    }
 }
 
-/// These entries, in the order of their ids.
-fn in_order<'a>(rows: impl Iterator<Item = &'a Row>) -> Vec<Entry> {
-    let mut found: Vec<Entry> = rows.map(|row| row.entry.clone()).collect();
+/// The entries between two keys, in the order of their ids.
+fn in_order<K: Ord + Clone>(index: &Shelf<K, Row>, (lo, hi): &(K, K)) -> Vec<Entry> {
+    let mut found = Vec::new();
+    index.visit(lo, hi, |row| found.push(row.entry.clone()));
     found.sort_by_key(|entry| entry.given.id);
     found
 }
@@ -219,7 +273,8 @@ struct Job {
     batch: usize,
     parents: u64,
     times: u64,
-    plain: bool,
+    has_domains: bool,
+    has_expiries: bool,
     kept: u64,
 }
 
@@ -246,8 +301,8 @@ fn entry_of(job: &Job, number: u64, revision: u64) -> Entry {
         parent: parent_of(job, number),
         identity: identity_of(number),
         _selectors: vec![format!("unix:uid:{number}")],
-        domains: if job.plain { Vec::new() } else { vec!["b.org".into()] },
-        expiry: if job.plain { 0 } else { 1 + scattered(number) % EXPIRIES },
+        domains: if job.has_domains { vec!["b.org".into()] } else { Vec::new() },
+        expiry: if job.has_expiries { 1 + scattered(number) % EXPIRIES } else { 0 },
     };
     Entry {
         given: Arc::new(given),
@@ -297,18 +352,20 @@ fn time_reads(job: &Job, version: &Version) {
     let number = job.entries / 2;
     let (parent, identity) = (parent_of(job, number), identity_of(number));
     let few = job.times * 100;
-    let between = |(lo, hi): (GroupKey, GroupKey)| move |version: &Version| in_order(version.groups.range(&lo, &hi));
     time_read(version, "entry", few, |version| {
         version.entries.get(&id_of(number)).map(|row| row.entry.clone()).into_iter().collect()
     });
-    time_read(version, "group", few, between(group_bounds(Some(&parent), Some(&identity))));
-    time_read(version, "children", few, between(group_bounds(Some(&parent), None)));
+    let bounds = group_bounds(Some(&parent), Some(&identity));
+    time_read(version, "group", few, |version| in_order(&version.groups, &bounds));
+    let bounds = group_bounds(Some(&parent), None);
+    time_read(version, "children", few, |version| in_order(&version.groups, &bounds));
     let domain: Arc<str> = "b.org".into();
-    let (lo, hi) = ((domain.clone(), KeyPart::Start), (domain, KeyPart::End));
-    time_read(version, "users", job.times, |version| in_order(version.users.range(&lo, &hi)));
-    let (lo, hi) = ((1, KeyPart::Start), (1 + EXPIRIES / 2, KeyPart::Start));
-    time_read(version, "expiring", job.times, |version| in_order(version.expiries.range(&lo, &hi)));
-    time_read(version, "all", job.times, between(group_bounds(None, None)));
+    let bounds = ((domain.clone(), KeyPart::Start), (domain, KeyPart::End));
+    time_read(version, "users", job.times, |version| in_order(&version.users, &bounds));
+    let bounds = ((1, KeyPart::Start), (1 + EXPIRIES / 2, KeyPart::Start));
+    time_read(version, "expiring", job.times, |version| in_order(&version.expiries, &bounds));
+    let bounds = group_bounds(None, None);
+    time_read(version, "all", job.times, |version| in_order(&version.groups, &bounds));
 }
 
 fn measure(job: &Job) {
@@ -316,10 +373,10 @@ fn measure(job: &Job) {
     let (most, last) = entries.split_at(entries.len().saturating_sub(job.batch));
     let since = started();
     let before = filled(job, most);
-    tell(&since, "fill", before.entries.len, most.chunks(job.batch.max(1)).count() as u64);
+    tell(&since, "fill", most.len(), most.chunks(job.batch.max(1)).count() as u64);
     let since = started();
     let version = before.after(last);
-    tell(&since, "last-batch", version.entries.len, 1);
+    tell(&since, "last-batch", entries.len(), 1);
     println!("== read");
     time_reads(job, &version);
 }
@@ -391,22 +448,27 @@ fn weigh(job: &Job) {
     println!("bytes {} {one} {}", kept.len(), bytes_in_use() - before);
 }
 
+fn run(job: &Job) {
+    if job.kept > 0 {
+        weigh(job);
+    } else {
+        measure(job);
+    }
+}
+
 fn main() {
     let numbers: Vec<u64> = std::env::args().skip(1).map(|word| word.parse().expect("a number")).collect();
-    let [entries, batch, parents, times, plain, kept] = numbers[..] else {
-        panic!("six numbers are wanted");
-    };
-    let job = Job {
-        entries,
-        batch: batch as usize,
-        parents,
-        times,
-        plain: plain != 0,
-        kept,
-    };
-    if job.kept > 0 {
-        weigh(&job);
-    } else {
-        measure(&job);
+    match numbers[..] {
+        [entries] => plain_heads::measure(entries),
+        [entries, batch, parents, times, plain, kept] => run(&Job {
+            entries,
+            batch: batch as usize,
+            parents,
+            times,
+            has_domains: plain == 0,
+            has_expiries: plain == 0,
+            kept,
+        }),
+        _ => panic!("one number or six are wanted"),
     }
 }
