@@ -5,8 +5,7 @@ use Rattle.entry_book.specs.declared.reply.Outcome.TheVariants.{Committed}
 use Rattle.entry_book.specs.declared.reply.Reply.{Reply}
 use Rattle.entry_book.specs.Rows.{Bytes}
 use Rattle.entry_book.specs.Batches.{Batch, IsMadeFor}
-use Rattle.entry_book.specs.History.{verdict, adds, first_books, CommitAll}
-use Rattle.entry_book.specs.Worked.{replies_from}
+use Rattle.entry_book.specs.History.{verdict, adds, first_books, CommitAll, replies_from}
 use Rattle.version_book.specs.CommittedRows.{State, book_of, no_rows}
 use Rattle.version_book.specs.History.{state_with, writes_of}
 use Rattle.commit_head.specs.declared.item.Item.{Item}

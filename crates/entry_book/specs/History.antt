@@ -141,6 +141,11 @@ abbrev pub books_from : List Book → List Batch → List Book
 books_from books [] = books
 books_from books (batch ∷ batches) = books_from (books_after batch books) batches
 
+-- the reply to each of these batches, run one after another on a list of books
+abbrev pub replies_from : List Book → List Batch → List Reply
+replies_from books [] = []
+replies_from books (batch ∷ batches) = reply_to batch books ∷ replies_from (books_after batch books) batches
+
 -- each batch is committed on the books that the ones before it left
 abbrev pub CommitAll : List Book → List Batch → Type 0
 CommitAll books [] = ⊤

@@ -19,7 +19,7 @@ use Rattle.entry_book.specs.Rows.{Bytes, Entry, given_of}
 use Rattle.entry_book.specs.Book.{Book}
 use Rattle.entry_book.specs.Authorised.{authorised}
 use Rattle.entry_book.specs.Batches.{Batch}
-use Rattle.entry_book.specs.History.{reply_to, books_after, first_books}
+use Rattle.entry_book.specs.History.{first_books, replies_from}
 
 abbrev pub server : Bytes
 server = server_text (codes "ex.org")
@@ -98,10 +98,6 @@ abbrev pub AliasOfAnother : Type 0
 AliasOfAnother = authorised server (agent (x1 ∷ [])) (record { entries = aliased; agents = agent (x1 ∷ []) ∷ other_agent ∷ []; bundles = []; tokens = [] }) ≡ []
 
 -- ---- batches, run one after another
-
-abbrev pub replies_from : List Book → List Batch → List Reply
-replies_from books [] = []
-replies_from books (batch ∷ batches) = reply_to batch books ∷ replies_from (books_after batch books) batches
 
 abbrev pub batch_of : List Op → Batch
 batch_of ops = record { domain = codes "ex.org"; ops = ops; after = 0; token = None }

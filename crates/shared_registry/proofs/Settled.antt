@@ -15,9 +15,8 @@ use Rattle.entry_book.specs.Book.{Book, token_at}
 use Rattle.entry_book.specs.SameOps.{ops_eq}
 use Rattle.entry_book.specs.Runs.{RunResult, run}
 use Rattle.entry_book.specs.Batches.{Batch, IsMadeFor, is_query, past_place}
-use Rattle.entry_book.specs.History.{Leads as Led, Verdict, adds, adds_within, answers, book_for, books_after, books_from, books_of, first_books, is_committed, kept_under, last_book, place_of, refuses, repeats, reply_to, reply_with, verdict, verdict_again, verdict_on, verdict_over, verdict_run, verdict_when}
+use Rattle.entry_book.specs.History.{Leads as Led, Verdict, adds, adds_within, answers, book_for, books_after, books_from, books_of, first_books, is_committed, kept_under, last_book, place_of, refuses, repeats, reply_to, reply_with, verdict, verdict_again, verdict_on, verdict_over, verdict_run, verdict_when, replies_from}
 use Rattle.entry_book.specs.Tokens.{token_key}
-use Rattle.entry_book.specs.Worked.{replies_from}
 use Rattle.entry_book.proofs.Keys.{at_row}
 use Rattle.entry_book.proofs.KeptBatches.{kept_committed}
 use Rattle.entry_book.proofs.OfVerdict.{of_verdict}

@@ -14,8 +14,7 @@ use Rattle.entry_book.specs.Writes.{after}
 use Rattle.entry_book.specs.Batches.{Batch, IsMadeFor, is_query, past_place}
 use Rattle.entry_book.specs.Runs.{RunResult, run}
 use Rattle.entry_book.specs.Limits.{limit_passed}
-use Rattle.entry_book.specs.History.{Verdict, refuses, answers, adds, repeats, adds_within, batch_writes, book_for, verdict, verdict_run, verdict_when, last_book, last_or, place_of, books_with, books_after, books_from, commits, reply_to, reply_with, is_committed, CommitAll}
-use Rattle.entry_book.specs.Worked.{replies_from}
+use Rattle.entry_book.specs.History.{Verdict, refuses, answers, adds, repeats, adds_within, batch_writes, book_for, verdict, verdict_run, verdict_when, last_book, last_or, place_of, books_with, books_after, books_from, commits, reply_to, reply_with, is_committed, CommitAll, replies_from}
 use Rattle.version_book.specs.CommittedRows.{State, book_of}
 use Rattle.version_book.specs.History.{Commits, Follows, IsLast, state_with, writes_at, writes_in, writes_of}
 use Rattle.version_book.specs.Laws.{BookAtPlace, BooksJoin, BooksLead, CommitsJoin, FollowsOne, FollowsParts, RepliesCount, RepliesFollow, RepliesJoin}

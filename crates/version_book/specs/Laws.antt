@@ -11,8 +11,7 @@ use Rattle.entry_book.specs.Runs.{RunEffect, run}
 use Rattle.entry_book.specs.Limits.{limit_passed}
 use Rattle.entry_book.specs.Lawful.{Lawful}
 use Rattle.entry_book.specs.Laws.{IsWithinLimits}
-use Rattle.entry_book.specs.History.{last_book, place_of, batch_writes, kept_under, books_from, CommitAll}
-use Rattle.entry_book.specs.Worked.{replies_from}
+use Rattle.entry_book.specs.History.{last_book, place_of, batch_writes, kept_under, books_from, CommitAll, replies_from}
 use Rattle.version_book.specs.declared.mark.MarkKind.{MarkKind}
 use Rattle.version_book.specs.declared.mark.MarkKind.TheVariants as mark
 use Rattle.version_book.specs.declared.committed_row.CommittedRow.{CommittedRow}
