@@ -27,36 +27,51 @@ fn found(window: &Window, number: u64) -> Option<u64> {
     window.book(number).map(|version| version.number())
 }
 
+/// The window has the version of this number.
+fn has(rt: &impl Abort, window: &Window, number: u64) {
+    assert_eq!(rt; found(window, number), Some(number));
+}
+
+/// The window has no version of this number.
+fn lacks(rt: &impl Abort, window: &Window, number: u64) {
+    assert_eq!(rt; found(window, number), None);
+}
+
+/// The newest version of the window has this number.
+fn ends_at(rt: &impl Abort, window: &Window, number: u64) {
+    assert_eq!(rt; window.newest().number(), number);
+}
+
 #[test]
 fn a_window_has_the_last_64_versions(rt: HostRuntime) -> Result<(), Fail> {
     let window = window_up_to(rt.alloc(), 70)?;
-    assert_eq!(rt; window.newest().number(), 70);
+    ends_at(&rt, &window, 70);
     for number in 0..7 {
-        assert_eq!(rt; found(&window, number), None);
+        lacks(&rt, &window, number);
     }
     for number in 7..71 {
-        assert_eq!(rt; found(&window, number), Some(number));
+        has(&rt, &window, number);
     }
-    assert_eq!(rt; found(&window, 71), None);
+    lacks(&rt, &window, 71);
     Ok(())
 }
 
 #[test]
 fn a_window_lets_nothing_go_until_it_has_64(rt: HostRuntime) -> Result<(), Fail> {
     let mut window = window_up_to(rt.alloc(), 63)?;
-    assert_eq!(rt; found(&window, 0), Some(0));
+    has(&rt, &window, 0);
     go_on(rt.alloc(), &mut window)?;
-    assert_eq!(rt; found(&window, 0), None);
-    assert_eq!(rt; found(&window, 1), Some(1));
+    lacks(&rt, &window, 0);
+    has(&rt, &window, 1);
     Ok(())
 }
 
 #[test]
 fn a_window_begins_with_one_version(rt: HostRuntime) -> Result<(), Fail> {
     let window = window_up_to(rt.alloc(), 0)?;
-    assert_eq!(rt; window.newest().number(), 0);
-    assert_eq!(rt; found(&window, 0), Some(0));
-    assert_eq!(rt; found(&window, 1), None);
+    ends_at(&rt, &window, 0);
+    has(&rt, &window, 0);
+    lacks(&rt, &window, 1);
     Ok(())
 }
 
@@ -65,9 +80,9 @@ fn a_copy_stays_while_its_owner_goes_on(rt: HostRuntime) -> Result<(), Fail> {
     let mut window = window_up_to(rt.alloc(), 64)?;
     let copy = window.clone()?;
     go_on(rt.alloc(), &mut window)?;
-    assert_eq!(rt; found(&copy, 1), Some(1));
-    assert_eq!(rt; found(&copy, 65), None);
-    assert_eq!(rt; found(&window, 1), None);
-    assert_eq!(rt; found(&window, 65), Some(65));
+    has(&rt, &copy, 1);
+    lacks(&rt, &copy, 65);
+    lacks(&rt, &window, 1);
+    has(&rt, &window, 65);
     Ok(())
 }
