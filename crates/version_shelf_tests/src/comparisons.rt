@@ -3,6 +3,7 @@
 ghost use Rattle.std.specs.Prelude.{◌≤◌};
 
 use crate::counted_keys::{CountedKey, Counts};
+use crate::wanted::{holds, is_at_most, is_number};
 use std::process::Abort;
 use std::test::Fail;
 use version_shelf::Shelf;
@@ -24,24 +25,22 @@ fn log2_rounded_up(rows: usize) -> u64
 fn assert_reads_are_cheap<'a>(rt: &impl Abort, shelf: &CountedShelf<'a>, counts: &'a Counts) {
     let rows = shelf.len();
     let log2 = log2_rounded_up(rows);
-    assert!(rt; shelf.has_room());
-    assert_eq!(rt; counts.comparisons(), 0, "len and has_room");
+    holds(rt, shelf.has_room(), "has_room");
+    is_number(rt, counts.comparisons(), 0, "len and has_room");
     for value in 0..2 * rows as u64 + 1 {
         let key = counts.number(value);
-        assert_eq!(rt; shelf.get(&key).is_some(), value % 2 == 1);
+        let is_found = shelf.get(&key).is_some();
+        holds(rt, is_found == (value % 2 == 1), "get");
         let made = counts.comparisons();
-        assert!(rt; made <= log2 + 2, "get: {made} at {value} of {rows} rows");
-        assert_eq!(rt; made > 0, rows > 0);
+        is_at_most(rt, made, log2 + 2, "comparisons of get");
+        holds(rt, (made > 0) == (rows > 0), "comparisons of get, or none");
         let lo = counts.number(value / 2);
         for (lo, hi) in [(&lo, &key), (&key, &lo)] {
             let walk = shelf.range(lo, hi);
             let made = counts.comparisons();
-            assert!(rt;
-                made <= 2 * log2 + 3,
-                "range: {made} at {value} of {rows} rows"
-            );
-            assert!(rt; walk.count() <= rows);
-            assert_eq!(rt; counts.comparisons(), 0, "rows of a range");
+            is_at_most(rt, made, 2 * log2 + 3, "comparisons of range");
+            is_at_most(rt, walk.count() as u64, rows as u64, "rows of a range");
+            is_number(rt, counts.comparisons(), 0, "comparisons of a range's rows");
         }
     }
 }
@@ -55,21 +54,18 @@ fn assert_changes_are_cheap<'a>(
     let rows = shelf.len();
     let log2 = log2_rounded_up(rows);
     let same = shelf.clone()?;
-    assert_eq!(rt; same.len(), rows);
-    assert_eq!(rt; counts.comparisons(), 0, "clone");
+    is_number(rt, same.len() as u64, rows as u64, "clone");
+    is_number(rt, counts.comparisons(), 0, "comparisons of clone");
     for value in 0..2 * rows as u64 + 1 {
-        assert!(rt; shelf.has_room());
+        holds(rt, shelf.has_room(), "has_room");
         let more = shelf.with(counts.number(value), counts.number(0))?;
-        let made = counts.comparisons();
-        assert!(rt; made <= log2 + 2, "with: {made} at {value} of {rows} rows");
-        assert_eq!(rt; more.len(), rows + usize::from(value % 2 == 0));
+        is_at_most(rt, counts.comparisons(), log2 + 2, "comparisons of with");
+        let is_new = u64::from(value % 2 == 0);
+        is_number(rt, more.len() as u64, rows as u64 + is_new, "with");
         let fewer = shelf.without(&counts.number(value))?;
-        let made = counts.comparisons();
-        assert!(rt;
-            made <= log2 + 2,
-            "without: {made} at {value} of {rows} rows"
-        );
-        assert_eq!(rt; fewer.len() + usize::from(value % 2 == 1), rows);
+        is_at_most(rt, counts.comparisons(), log2 + 2, "comparisons of without");
+        let is_gone = u64::from(value % 2 == 1);
+        is_number(rt, fewer.len() as u64 + is_gone, rows as u64, "without");
     }
     Ok(())
 }
@@ -81,10 +77,10 @@ fn calls_compare_no_more_than_the_head_says_and_copy_nothing(rt: HostRuntime) ->
     for row in 0..70 {
         assert_reads_are_cheap(&rt, &shelf, &counts);
         assert_changes_are_cheap(&rt, &shelf, &counts)?;
-        assert!(rt; shelf.has_room());
+        holds(&rt, shelf.has_room(), "has_room");
         shelf = shelf.with(counts.number(2 * row + 1), counts.number(row))?;
         counts.comparisons();
     }
-    assert_eq!(rt; counts.copies(), 0);
+    is_number(&rt, counts.copies(), 0, "copies");
     Ok(())
 }

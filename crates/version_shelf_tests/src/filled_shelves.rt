@@ -4,6 +4,7 @@
 ghost use Rattle.std.specs.Prelude.{◌<◌};
 
 use crate::counted_keys::{CountedKey, Counts};
+use crate::wanted::{holds, is_at_most, is_number};
 use std::alloc::Global;
 use std::process::Abort;
 use std::test::Fail;
@@ -45,9 +46,17 @@ fn assert_found<'a>(
     let mut count = Count::new();
     counts.comparisons();
     let found = shelf.find(&counts.number(key), &mut count);
-    assert_eq!(rt; found.map(|found| found.value()), value);
-    assert_eq!(rt; count.number(), counts.comparisons());
-    assert!(rt; count.number() <= 32);
+    let found = found.map(|found| found.value());
+    holds(rt, found == value, "the value that is found");
+    is_number(rt, count.number(), counts.comparisons(), "count of find");
+    is_at_most(rt, count.number(), 32, "count of find");
+}
+
+/// A change has put this many rows and pages into new pages: some, but not too many, and it has copied nothing.
+fn assert_change(rt: &impl Abort, count: u64, counts: &Counts) {
+    is_at_most(rt, 1, count, "least count of a change");
+    is_at_most(rt, count, 1_024, "count of a change");
+    is_number(rt, counts.copies(), 0, "copies");
 }
 
 /// The shelf with the key, whose value is the turn.
@@ -59,10 +68,9 @@ fn with_key<'a>(
     turn: u64,
 ) -> Result<CountedShelf<'a>, Fail> {
     let mut count = Count::new();
-    assert!(rt; shelf.has_room());
+    holds(rt, shelf.has_room(), "has_room");
     let more = shelf.with_counted(counts.number(key), counts.number(turn), &mut count)?;
-    assert!(rt; 0 < count.number() && count.number() <= 1_024);
-    assert_eq!(rt; counts.copies(), 0);
+    assert_change(rt, count.number(), counts);
     Ok(more)
 }
 
@@ -75,8 +83,7 @@ fn without_key<'a>(
 ) -> Result<CountedShelf<'a>, Fail> {
     let mut count = Count::new();
     let fewer = shelf.without_counted(&counts.number(key), &mut count)?;
-    assert!(rt; 0 < count.number() && count.number() <= 1_024);
-    assert_eq!(rt; counts.copies(), 0);
+    assert_change(rt, count.number(), counts);
     Ok(fewer)
 }
 
@@ -88,7 +95,7 @@ fn assert_turns<'a>(
     order: Order,
     turns: u64,
 ) {
-    assert_eq!(rt; shelf.len() as u64, turns);
+    is_number(rt, shelf.len() as u64, turns, "len");
     for turn in 0..ROWS {
         let value = if turn < turns { Some(turn) } else { None };
         assert_found(rt, shelf, counts, order.key(turn), value);
@@ -96,11 +103,11 @@ fn assert_turns<'a>(
     let mut last = None;
     let mut rows = 0_u64;
     for (key, _) in shelf.range(&counts.number(0), &counts.number(ROWS)) {
-        assert!(rt; last < Some(key.value()));
+        holds(rt, last < Some(key.value()), "rising keys");
         last = Some(key.value());
         rows = rows.wrapping_add(1);
     }
-    assert_eq!(rt; rows, turns);
+    is_number(rt, rows, turns, "rows of the whole range");
 }
 
 /// Fills a shelf in one order and empties it in another, and looks at old ones then.

@@ -1,6 +1,7 @@
 //! Shelves at the kinds of key and value that the versions of a book have.
 
 use crate::keys::{IdText, Part, SharedNumber};
+use crate::wanted::{holds, is_number, is_text};
 use std::alloc::{AllocError, Global};
 use std::process::Abort;
 use std::test::Fail;
@@ -15,27 +16,47 @@ fn id(alloc: Global, text: &str) -> Result<Part<IdText>, AllocError> {
 fn three_ids(rt: &impl Abort, alloc: Global) -> Result<Ids, AllocError> {
     let mut ids = Shelf::new(alloc);
     for (text, number) in [("spiffe://a/m", 1), ("spiffe://b", 2), ("spiffe://a", 3)] {
-        assert!(rt; ids.has_room());
+        holds(rt, ids.has_room(), "has_room");
         ids = ids.with(id(alloc, text)?, number)?;
     }
     Ok(ids)
 }
 
+/// How many rows stand from one bound to the other, and the text and the value of each.
+fn told(alloc: Global, ids: &Ids, lo: &Part<IdText>, hi: &Part<IdText>) -> Result<String, Fail> {
+    let count = ids.range(lo, hi).count();
+    let mut text = format!(in alloc; "{count}:")?;
+    for (key, value) in ids.range(lo, hi) {
+        let Part::At(id) = key else {
+            return Err(Fail::from("a mark in a row"));
+        };
+        let row = format!(in alloc; " {} {value}", id.as_str())?;
+        text.push_str(row.as_str())?;
+    }
+    Ok(text)
+}
+
 /// The rows from one bound to the other are these.
-fn assert_ids(
+fn has_between(
     rt: &impl Abort,
+    alloc: Global,
     ids: &Ids,
     (lo, hi): (&Part<IdText>, &Part<IdText>),
-    expected: &[(&str, u64)],
-) {
-    assert_eq!(rt; ids.range(lo, hi).count(), expected.len());
-    for ((key, value), (text, number)) in ids.range(lo, hi).zip(expected) {
-        let Part::At(id) = key else {
-            panic!(rt; "a mark in a row");
-        };
-        assert_eq!(rt; id.as_str(), *text);
-        assert_eq!(rt; *value, *number);
-    }
+    want: &str,
+) -> Result<(), Fail> {
+    let got = told(alloc, ids, lo, hi)?;
+    is_text(rt, got.as_str(), want, "rows");
+    Ok(())
+}
+
+/// These are all rows.
+fn has_all(rt: &impl Abort, alloc: Global, ids: &Ids, want: &str) -> Result<(), Fail> {
+    has_between(rt, alloc, ids, (&Part::Start, &Part::End), want)
+}
+
+/// The number at the key is this one.
+fn has_at(rt: &impl Abort, ids: &Ids, key: &Part<IdText>, want: Option<u64>) {
+    holds(rt, ids.get(key).copied() == want, "get");
 }
 
 #[test]
@@ -44,14 +65,15 @@ fn start_and_end_stand_around_every_id(rt: HostRuntime) -> Result<(), Fail> {
     let ids = three_ids(&rt, alloc)?;
     let (a, b) = (id(alloc, "spiffe://a")?, id(alloc, "spiffe://b")?);
     let (start, end) = (Part::Start, Part::End);
-    let three = [("spiffe://a", 3), ("spiffe://a/m", 1), ("spiffe://b", 2)];
-    assert_ids(&rt, &ids, (&start, &end), &three);
-    assert_ids(&rt, &ids, (&a, &b), &three[..2]);
-    assert_ids(&rt, &ids, (&b, &end), &three[2..]);
-    assert_ids(&rt, &ids, (&b, &a), &[]);
-    assert_eq!(rt; ids.len(), 3);
-    assert_eq!(rt; ids.get(&a).copied(), Some(3));
-    assert_eq!(rt; ids.get(&start).copied(), None);
+    let three = "3: spiffe://a 3 spiffe://a/m 1 spiffe://b 2";
+    has_between(&rt, alloc, &ids, (&start, &end), three)?;
+    let two = "2: spiffe://a 3 spiffe://a/m 1";
+    has_between(&rt, alloc, &ids, (&a, &b), two)?;
+    has_between(&rt, alloc, &ids, (&b, &end), "1: spiffe://b 2")?;
+    has_between(&rt, alloc, &ids, (&b, &a), "0:")?;
+    is_number(&rt, ids.len() as u64, 3, "len");
+    has_at(&rt, &ids, &a, Some(3));
+    has_at(&rt, &ids, &start, None);
     Ok(())
 }
 
@@ -60,30 +82,18 @@ fn the_old_shelf_stays(rt: HostRuntime) -> Result<(), Fail> {
     let alloc = rt.alloc();
     let ids = three_ids(&rt, alloc)?;
     let (a, b) = (id(alloc, "spiffe://a")?, id(alloc, "spiffe://b")?);
-    let all = (&Part::Start, &Part::End);
-    assert!(rt; ids.has_room());
+    holds(&rt, ids.has_room(), "has_room");
     let changed = ids.with(b, 4)?;
     let fewer = ids.without(&a)?;
-    assert_ids(
-        &rt,
-        &changed,
-        all,
-        &[("spiffe://a", 3), ("spiffe://a/m", 1), ("spiffe://b", 4)],
-    );
-    assert_ids(&rt, &fewer, all, &[("spiffe://a/m", 1), ("spiffe://b", 2)]);
-    assert_ids(
-        &rt,
-        &fewer.without(&a)?,
-        all,
-        &[("spiffe://a/m", 1), ("spiffe://b", 2)],
-    );
-    assert_ids(
-        &rt,
-        &ids.clone()?,
-        all,
-        &[("spiffe://a", 3), ("spiffe://a/m", 1), ("spiffe://b", 2)],
-    );
-    Ok(())
+    let three = "3: spiffe://a 3 spiffe://a/m 1 spiffe://b 4";
+    has_all(&rt, alloc, &changed, three)?;
+    let two = "2: spiffe://a/m 1 spiffe://b 2";
+    has_all(&rt, alloc, &fewer, two)?;
+    let again = fewer.without(&a)?;
+    has_all(&rt, alloc, &again, two)?;
+    let old = ids.clone()?;
+    let three = "3: spiffe://a 3 spiffe://a/m 1 spiffe://b 2";
+    has_all(&rt, alloc, &old, three)
 }
 
 type Members = Shelf<(IdText, Part<IdText>, Part<u128>), SharedNumber>;
@@ -104,25 +114,40 @@ fn numbers_of(
         .collect(alloc)
 }
 
+/// The members with this one, whose value is its number.
+fn with_member(
+    rt: &impl Abort,
+    alloc: Global,
+    members: &Members,
+    (parent, identity): (&str, &str),
+    number: u64,
+) -> Result<Members, AllocError> {
+    let member = Part::At(u128::from(number));
+    let key = (IdText::of(alloc, parent)?, id(alloc, identity)?, member);
+    holds(rt, members.has_room(), "has_room");
+    members.with(key, SharedNumber::of(alloc, number)?)
+}
+
 #[test]
 fn a_group_is_a_range(rt: HostRuntime) -> Result<(), Fail> {
     let alloc = rt.alloc();
     let mut members = Shelf::new(alloc);
     for (parent, identity, number) in [("p", "j", 8), ("p", "i", 9), ("q", "i", 1), ("p", "i", 2)] {
-        assert!(rt; members.has_room());
-        let member = Part::At(u128::from(number));
-        let key = (IdText::of(alloc, parent)?, id(alloc, identity)?, member);
-        members = members.with(key, SharedNumber::of(alloc, number)?)?;
+        members = with_member(&rt, alloc, &members, (parent, identity), number)?;
     }
     let (lo, hi) = ((id(alloc, "i")?, Part::Start), (id(alloc, "i")?, Part::End));
-    assert_eq!(rt;
-        numbers_of(alloc, &members, "p", lo, hi)?.as_slice(),
-        [2, 9].as_slice()
+    let of_identity = numbers_of(alloc, &members, "p", lo, hi)?;
+    holds(
+        &rt,
+        of_identity.as_slice() == [2, 9].as_slice(),
+        "members of an identity",
     );
     let (lo, hi) = ((Part::Start, Part::Start), (Part::End, Part::Start));
-    assert_eq!(rt;
-        numbers_of(alloc, &members, "p", lo, hi)?.as_slice(),
-        [2, 9, 8].as_slice()
+    let of_parent = numbers_of(alloc, &members, "p", lo, hi)?;
+    holds(
+        &rt,
+        of_parent.as_slice() == [2, 9, 8].as_slice(),
+        "members of a parent",
     );
     Ok(())
 }

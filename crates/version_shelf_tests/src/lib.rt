@@ -9,6 +9,7 @@
 //! - `filled_shelves`: shelves of many pages, filled and emptied in several orders.
 //! - `keys`: keys and values for these tests.
 //! - `counted_keys`: keys whose comparisons and copies are counted.
+//! - `wanted`: what a test wants to see.
 #![tactic(auto)]
 
 #[cfg(test)]
@@ -25,3 +26,5 @@ mod keys;
 mod kinds_of_keys;
 #[cfg(test)]
 mod random_changes;
+#[cfg(test)]
+mod wanted;

@@ -2,6 +2,7 @@
 
 ghost use Rattle.std.specs.Prelude.{◌<◌};
 
+use crate::wanted::{holds, is_number};
 use std::process::Abort;
 use std::test::Fail;
 use version_shelf::Shelf;
@@ -30,22 +31,19 @@ impl Draws {
 fn assert_same(rt: &impl Abort, shelf: &Shelf<u64, u64>, list: &[Option<u64>], lo: u64, hi: u64) {
     let mut rows = shelf.range(&lo, &hi);
     for (key, value) in (0..KEYS).zip(list) {
-        assert_eq!(rt; shelf.get(&key).copied(), *value);
+        let found = shelf.get(&key).copied();
+        holds(rt, found == *value, "get");
         let Some(value) = value else {
             continue;
         };
         if lo <= key && key < hi {
-            assert_eq!(rt;
-                rows.next().map(|row| (*row.0, *row.1)),
-                Some((key, *value))
-            );
+            let row = rows.next().map(|row| (*row.0, *row.1));
+            holds(rt, row == Some((key, *value)), "the next row");
         }
     }
-    assert_eq!(rt;
-        shelf.len(),
-        list.iter().filter(|value| value.is_some()).count()
-    );
-    assert!(rt; rows.next().is_none(), "a row too many");
+    let count = list.iter().filter(|value| value.is_some()).count();
+    is_number(rt, shelf.len() as u64, count as u64, "len");
+    holds(rt, rows.next().is_none(), "no row too many");
 }
 
 #[test]
@@ -61,7 +59,7 @@ fn a_thousand_random_changes_are_those_of_a_plain_list(rt: HostRuntime) -> Resul
             .get_mut(key as usize)
             .expect(&rt, "a place for each key");
         if draws.below(3) > 0 {
-            assert!(rt; shelf.has_room());
+            holds(&rt, shelf.has_room(), "has_room");
             shelf = shelf.with(key, turn)?;
             *place = Some(turn);
         } else {
@@ -78,6 +76,6 @@ fn a_thousand_random_changes_are_those_of_a_plain_list(rt: HostRuntime) -> Resul
         assert_same(&rt, old, list, *lo, *hi);
         assert_same(&rt, old, list, 0, KEYS);
     }
-    assert_eq!(rt; kept.len(), 100);
+    is_number(&rt, kept.len() as u64, 100, "shelves that were kept");
     Ok(())
 }
