@@ -13,13 +13,28 @@ fn id(alloc: Global, text: &str) -> Result<Part<IdText>, AllocError> {
     Ok(Part::At(IdText::of(alloc, text)?))
 }
 
+/// The IDs with this one.
+fn with_id(
+    rt: &impl Abort,
+    alloc: Global,
+    ids: &Ids,
+    text: &str,
+    number: u64,
+) -> Result<Ids, AllocError> {
+    let key = id(alloc, text)?;
+    holds(rt, ids.has_room(), "has_room");
+    ids.with(key, number)
+}
+
+fn without_id(alloc: Global, ids: &Ids, text: &str) -> Result<Ids, AllocError> {
+    let key = id(alloc, text)?;
+    ids.without(&key)
+}
+
 fn three_ids(rt: &impl Abort, alloc: Global) -> Result<Ids, AllocError> {
-    let mut ids = Shelf::new(alloc);
-    for (text, number) in [("spiffe://a/m", 1), ("spiffe://b", 2), ("spiffe://a", 3)] {
-        holds(rt, ids.has_room(), "has_room");
-        ids = ids.with(id(alloc, text)?, number)?;
-    }
-    Ok(ids)
+    let ids = with_id(rt, alloc, &Shelf::new(alloc), "spiffe://a/m", 1)?;
+    let ids = with_id(rt, alloc, &ids, "spiffe://b", 2)?;
+    with_id(rt, alloc, &ids, "spiffe://a", 3)
 }
 
 /// How many rows stand from one bound to the other, and the text and the value of each.
@@ -81,15 +96,13 @@ fn start_and_end_stand_around_every_id(rt: HostRuntime) -> Result<(), Fail> {
 fn the_old_shelf_stays(rt: HostRuntime) -> Result<(), Fail> {
     let alloc = rt.alloc();
     let ids = three_ids(&rt, alloc)?;
-    let (a, b) = (id(alloc, "spiffe://a")?, id(alloc, "spiffe://b")?);
-    holds(&rt, ids.has_room(), "has_room");
-    let changed = ids.with(b, 4)?;
-    let fewer = ids.without(&a)?;
+    let changed = with_id(&rt, alloc, &ids, "spiffe://b", 4)?;
     let three = "3: spiffe://a 3 spiffe://a/m 1 spiffe://b 4";
     has_all(&rt, alloc, &changed, three)?;
+    let fewer = without_id(alloc, &ids, "spiffe://a")?;
     let two = "2: spiffe://a/m 1 spiffe://b 2";
     has_all(&rt, alloc, &fewer, two)?;
-    let again = fewer.without(&a)?;
+    let again = without_id(alloc, &fewer, "spiffe://a")?;
     has_all(&rt, alloc, &again, two)?;
     let old = ids.clone()?;
     let three = "3: spiffe://a 3 spiffe://a/m 1 spiffe://b 2";
