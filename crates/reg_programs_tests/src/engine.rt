@@ -3,6 +3,7 @@
 ghost use Rattle.std.specs.Prelude.{◌≡◌, IfOk, None};
 
 use crate::sessions::answers_alone;
+use crate::wanted::{holds, is_text, is_written};
 use reg_lines::{CountedDevice, Input, Output};
 use reg_programs::{Outcome, RunFault, Settings, plain, run_settings};
 use serde_json::Value;
@@ -56,7 +57,7 @@ pub fn answers_with(
     let ended = run_with(alloc, domain, seed, &mut giver, &mut taker)?;
     let answers = compact_bytes(rt, alloc, ended, taker)?;
     let alone = answers_alone(rt, alloc, domain, seed, bytes)?;
-    assert_eq!(rt; str::from_utf8(&alone)?, str::from_utf8(&answers)?);
+    is_written(rt, &alone, str::from_utf8(&answers)?);
     Ok(answers)
 }
 
@@ -68,7 +69,7 @@ pub fn answers_of_words(
     bytes: &[u8],
 ) -> Result<Vec<u8>, Fail> {
     let (outcome, answers) = told_of_words(rt, alloc, words, bytes)?;
-    assert_eq!(rt; outcome, Outcome::Done);
+    holds(rt, outcome == Outcome::Done, "the run ended otherwise");
     Ok(answers)
 }
 
@@ -165,7 +166,7 @@ pub fn are_played(rt: &impl Abort, alloc: Global, text: &str) -> Result<(), Fail
     let table = Table::of(alloc, text)?;
     let words = ["regd", "schedule", "--domain", "ex.org"];
     let got = answers_of_words(rt, alloc, &words, table.asked.as_bytes())?;
-    assert_eq!(rt; str::from_utf8(&got)?, table.wanted.as_str());
+    is_written(rt, &got, table.wanted.as_str());
     Ok(())
 }
 
@@ -179,7 +180,7 @@ pub fn are_answered_with(
 ) -> Result<(), Fail> {
     let table = Table::of(alloc, text)?;
     let got = answers_with(rt, alloc, domain, seed, table.asked.as_bytes())?;
-    assert_eq!(rt; str::from_utf8(&got)?, table.wanted.as_str());
+    is_written(rt, &got, table.wanted.as_str());
     Ok(())
 }
 
@@ -187,7 +188,7 @@ pub fn are_answered_with(
 fn are_compact(rt: &impl Abort, alloc: Global, lines: &str) -> Result<(), Fail> {
     for line in lines.lines() {
         let value = Value::from_str(alloc, line)?;
-        assert_eq!(rt; value.to_string(alloc)?.as_str(), line);
+        is_text(rt, value.to_string(alloc)?.as_str(), line, "compact");
     }
     Ok(())
 }

@@ -2,6 +2,7 @@
 //! seeds.
 
 use crate::engine::{FIRST_SEED, Table, answers_of_words, are_answered, are_answered_with};
+use crate::wanted::is_written;
 use std::test::Fail;
 
 /// The first id of the seed of zeros; then the forms in which an id is read.
@@ -86,6 +87,6 @@ fn words_give_the_domain_and_the_seed_of_a_run(rt: HostRuntime) -> Result<(), Fa
     ];
     let table = Table::of(rt.alloc(), OF_WORDS)?;
     let got = answers_of_words(&rt, rt.alloc(), &words, table.asked.as_bytes())?;
-    assert_eq!(rt; str::from_utf8(&got)?, table.wanted.as_str());
+    is_written(&rt, &got, table.wanted.as_str());
     Ok(())
 }

@@ -6,6 +6,7 @@
 //! - `engine`: runs of the engines over memory, told by tables. On it stand `story`, `operations`, `refusals`, `ids`, `limits`,
 //!   `pages`, `places`, `tokens`, `runs` (request lines), `schedules` (event lines), `records` and `audits` (recorded calls).
 //! - `sessions`: the lines of one connection over memory; `serving`: a server over TCP, both ends in one process.
+//! - `wanted`: what a test wants to see.
 #![tactic(auto)]
 
 #[cfg(test)]
@@ -40,3 +41,5 @@ mod sessions;
 mod story;
 #[cfg(test)]
 mod tokens;
+#[cfg(test)]
+mod wanted;

@@ -1,6 +1,7 @@
 //! A book at its limits, filled by request lines.
 
 use crate::engine::answers;
+use crate::wanted::is_written;
 use std::alloc::Global;
 use std::process::Abort;
 use std::sync::Wait;
@@ -81,7 +82,7 @@ fn ends_with(
 ) -> Result<(), Fail> {
     let bytes = answers(rt, alloc, filling.asked.as_bytes())?;
     let from = bytes.len().saturating_sub(wanted.len());
-    assert_eq!(rt; str::from_utf8(bytes.as_slice().split_at(from).1)?, wanted);
+    is_written(rt, bytes.as_slice().split_at(from).1, wanted);
     Ok(())
 }
 

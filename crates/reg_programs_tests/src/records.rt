@@ -2,6 +2,7 @@
 
 use crate::engine::{FIRST_SEED, Table, answers_of_words};
 use crate::schedules::OUT_OF_TURN;
+use crate::wanted::{ends_at_a_failure, holds, is_written};
 use reg_lines::{CountedDevice, Input, Output};
 use reg_programs::{RunFault, record_schedule};
 use spiffe_name::TrustDomain;
@@ -14,7 +15,7 @@ use test_devices::{Giver, Pace, Taker, Trouble};
 fn are_recorded(rt: &impl Abort, alloc: Global, events: &str, records: &str) -> Result<(), Fail> {
     let words = ["regd", "schedule", "--domain", "ex.org", "--record"];
     let got = answers_of_words(rt, alloc, &words, events.as_bytes())?;
-    assert_eq!(rt; str::from_utf8(&got)?, records);
+    is_written(rt, &got, records);
     Ok(())
 }
 
@@ -196,13 +197,20 @@ fn fail_each_read(rt: &impl Abort, alloc: Global, from: Pace) -> Result<(), Fail
         let mut giver = Giver::new(UNREPLIED_EVENTS.as_bytes(), from, trouble);
         let mut taker = Taker::new(alloc, Pace::All, Trouble::NONE);
         let ended = play(alloc, &mut giver, &mut taker)?;
-        if giver.calls < call {
-            assert_eq!(rt; ended, Ok(()));
-            assert_eq!(rt; taker.bytes.as_slice(), UNREPLIED_RECORDS.as_bytes());
+        let (calls, written) = (giver.calls, taker.bytes.as_slice());
+        ends_at_a_failure(
+            rt,
+            call,
+            calls,
+            ended,
+            RunFault::Input,
+            written,
+            UNREPLIED_RECORDS,
+        );
+        if calls < call {
             return Ok(());
         }
-        assert_eq!(rt; ended, Err(RunFault::Input), "{from:?} {call}");
-        assert!(rt; taker.bytes.is_empty());
+        holds(rt, written.is_empty(), "nothing is written");
     }
     Err(Fail::from("too many reads"))
 }
@@ -213,17 +221,19 @@ fn fail_each_write(rt: &impl Abort, alloc: Global, to: Pace) -> Result<(), Fail>
         let mut giver = Giver::new(UNREPLIED_EVENTS.as_bytes(), Pace::All, Trouble::NONE);
         let mut taker = Taker::new(alloc, to, Trouble::failing_at(call));
         let ended = play(alloc, &mut giver, &mut taker)?;
-        if taker.calls < call {
-            assert_eq!(rt; ended, Ok(()));
-            assert_eq!(rt; taker.bytes.as_slice(), UNREPLIED_RECORDS.as_bytes());
+        let (calls, written) = (taker.calls, taker.bytes.as_slice());
+        ends_at_a_failure(
+            rt,
+            call,
+            calls,
+            ended,
+            RunFault::Output,
+            written,
+            UNREPLIED_RECORDS,
+        );
+        if calls < call {
             return Ok(());
         }
-        assert_eq!(rt; ended, Err(RunFault::Output), "{to:?} {call}");
-        assert!(rt;
-            UNREPLIED_RECORDS
-                .as_bytes()
-                .starts_with(taker.bytes.as_slice())
-        );
     }
     Err(Fail::from("too many writes"))
 }

@@ -1,6 +1,7 @@
 //! Lines that are refused, and what they leave: no call number is taken, and the book stays.
 
 use crate::engine::{FIRST_SEED, answers, answers_with, are_answered, are_answered_with, padded};
+use crate::wanted::{holds, is_written};
 use std::alloc::Global;
 use std::process::Abort;
 use std::sync::Wait;
@@ -162,10 +163,7 @@ fn empty_long_good_and_cut_lines(rt: HostRuntime) -> Result<(), Fail> {
 {"call":1,"place":0,"replies":[{"entry":null}],"result":"answered"}
 {"code":"L3","line":4}
 "#;
-    assert_eq!(rt;
-        answers(&rt, rt.alloc(), &bytes)?.as_slice(),
-        wanted.as_bytes()
-    );
+    is_written(&rt, &answers(&rt, rt.alloc(), &bytes)?, wanted);
     Ok(())
 }
 
@@ -178,10 +176,7 @@ fn bytes_that_are_no_text(rt: HostRuntime) -> Result<(), Fail> {
 {"call":1,"place":0,"replies":[{"entry":null}],"result":"answered"}
 {"code":"L3","line":3}
 "#;
-    assert_eq!(rt;
-        answers(&rt, rt.alloc(), &bytes)?.as_slice(),
-        wanted.as_bytes()
-    );
+    is_written(&rt, &answers(&rt, rt.alloc(), &bytes)?, wanted);
     Ok(())
 }
 
@@ -220,7 +215,7 @@ fn ids_at_their_limits(rt: HostRuntime) -> Result<(), Fail> {
         let mut parent = Vec::from_slice(rt.alloc(), front.as_bytes())?;
         parent.resize(front.len().saturating_add(count), letter)?;
         let got = children_of(&rt, rt.alloc(), str::from_utf8(&parent)?)?;
-        assert_eq!(rt; got.as_slice(), wanted.as_bytes(), "{front} {count}");
+        is_written(&rt, &got, wanted);
     }
     Ok(())
 }
@@ -260,24 +255,25 @@ fn one_bundle_too_many(rt: HostRuntime) -> Result<(), Fail> {
 {"call":18,"place":17,"replies":[{"bundle":{"domain":"new","sequence":0,"text":""}},{"deleted":[],"dissociated":[]},{"bundle":null}],"result":"committed"}
 {"call":19,"place":18,"replies":[{"entry":{"domains":[],"expiry":0,"hint":"","id":"bdd219b8-a08d-4d1a-a836-efcc8b770dc7","identity":"spiffe://ex.org/web","parent":"spiffe://ex.org/spire/agent/n1","revision":0,"selectors":["u:1"]}}],"result":"committed"}
 "#;
-    assert!(rt; str::from_utf8(&got)?.ends_with(wanted));
+    holds(
+        &rt,
+        str::from_utf8(&got)?.ends_with(wanted),
+        "one bundle too many",
+    );
     Ok(())
 }
 
 #[test]
 fn lists_too_deep_and_lines_too_long(rt: HostRuntime) -> Result<(), Fail> {
-    assert_eq!(rt; answers(&rt, rt.alloc(), b"")?.len(), 0);
+    is_written(&rt, &answers(&rt, rt.alloc(), b"")?, "");
     let mut deep = Vec::new(rt.alloc());
     for depth in [128, 127] {
         deep.resize(deep.len().saturating_add(depth), b'[')?;
         deep.resize(deep.len().saturating_add(depth), b']')?;
         deep.push(b'\n')?;
     }
-    let wanted = b"{\"code\":\"L2\",\"line\":1}\n{\"code\":\"L4\",\"line\":2}\n";
-    assert_eq!(rt;
-        answers(&rt, rt.alloc(), &deep)?.as_slice(),
-        wanted.as_slice()
-    );
+    let wanted = "{\"code\":\"L2\",\"line\":1}\n{\"code\":\"L4\",\"line\":2}\n";
+    is_written(&rt, &answers(&rt, rt.alloc(), &deep)?, wanted);
     for (len, end, wanted) in [
         (1_048_576, "\n", SHOWN),
         (1_048_577, "\n", r#"{"code":"L1","line":1}"#),
@@ -287,11 +283,7 @@ fn lists_too_deep_and_lines_too_long(rt: HostRuntime) -> Result<(), Fail> {
         let line = padded(rt.alloc(), SHOW, len, end)?;
         let mut wanted = String::from_str(rt.alloc(), wanted)?;
         wanted.push('\n')?;
-        assert_eq!(rt;
-            answers(&rt, rt.alloc(), &line)?.as_slice(),
-            wanted.as_bytes(),
-            "{len} {end:?}"
-        );
+        is_written(&rt, &answers(&rt, rt.alloc(), &line)?, wanted.as_str());
     }
     Ok(())
 }
@@ -301,11 +293,7 @@ fn each_beginning_of_a_line_is_refused_as_truncated(rt: HostRuntime) -> Result<(
     let first = SHOW.as_bytes();
     for len in 1..first.len().saturating_add(1) {
         let bytes = answers(&rt, rt.alloc(), first.split_at(len.min(first.len())).0)?;
-        assert_eq!(rt;
-            bytes.as_slice(),
-            b"{\"code\":\"L3\",\"line\":1}\n".as_slice(),
-            "{len}"
-        );
+        is_written(&rt, &bytes, "{\"code\":\"L3\",\"line\":1}\n");
     }
     Ok(())
 }

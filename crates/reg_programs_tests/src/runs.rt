@@ -1,6 +1,7 @@
 //! Whole runs of the engine over memory, and over devices that are slow or fail.
 
 use crate::engine::{Table, are_answered, run};
+use crate::wanted::{ends_at_a_failure, holds, is_written};
 use reg_programs::RunFault;
 use std::alloc::Global;
 use std::process::Abort;
@@ -43,12 +44,9 @@ fn slow_devices_change_nothing(rt: HostRuntime) -> Result<(), Fail> {
         for to in Pace::EACH {
             let mut giver = Giver::new(table.asked.as_bytes(), from, Trouble::NONE);
             let mut taker = Taker::new(rt.alloc(), to, Trouble::NONE);
-            assert_eq!(rt; run(rt.alloc(), &mut giver, &mut taker)?, Ok(()));
-            assert_eq!(rt;
-                taker.bytes.as_slice(),
-                table.wanted.as_bytes(),
-                "{from:?} {to:?}"
-            );
+            let ended = run(rt.alloc(), &mut giver, &mut taker)?;
+            holds(&rt, ended.is_ok(), "slow devices");
+            is_written(&rt, &taker.bytes, table.wanted.as_str());
         }
     }
     Ok(())
@@ -81,17 +79,26 @@ fn each_failing_read_ends_the_run(rt: HostRuntime) -> Result<(), Fail> {
             let mut giver = Giver::new(table.asked.as_bytes(), pace, trouble);
             let mut taker = Taker::new(rt.alloc(), Pace::All, Trouble::NONE);
             let ended = run(rt.alloc(), &mut giver, &mut taker)?;
-            if giver.calls < call {
-                assert_eq!(rt; ended, Ok(()));
-                assert_eq!(rt; taker.bytes.as_slice(), table.wanted.as_bytes());
+            let (calls, written, wanted) = (
+                giver.calls,
+                taker.bytes.as_slice(),
+                table.wanted.as_str(),
+            );
+            ends_at_a_failure(&rt, call, calls, ended, RunFault::Input, written, wanted);
+            if calls < call {
                 break;
             }
-            assert_eq!(rt; ended, Err(RunFault::Input), "{pace:?} {call}");
-            let out = taker.bytes.as_slice();
             let lines = lines_read(table.asked.as_str(), &giver);
-            assert_eq!(rt; count_of_lines(out), lines, "{pace:?} {call}");
-            assert!(rt; out.is_empty() || out.ends_with(b"\n"), "{pace:?} {call}");
-            assert!(rt; table.wanted.as_bytes().starts_with(out));
+            holds(
+                &rt,
+                count_of_lines(written) == lines,
+                "a line for each that was read",
+            );
+            holds(
+                &rt,
+                written.is_empty() || written.ends_with(b"\n"),
+                "whole lines",
+            );
         }
     }
     Ok(())
@@ -110,14 +117,12 @@ fn fail_each_write(
         let mut giver = Giver::new(table.asked.as_bytes(), from, Trouble::NONE);
         let mut taker = Taker::new(alloc, to, Trouble::failing_at(call));
         let ended = run(alloc, &mut giver, &mut taker)?;
-        if taker.calls < call {
-            assert_eq!(rt; ended, Ok(()));
-            assert_eq!(rt; taker.bytes.as_slice(), table.wanted.as_bytes());
+        let (calls, written, wanted) = (taker.calls, taker.bytes.as_slice(), table.wanted.as_str());
+        ends_at_a_failure(rt, call, calls, ended, RunFault::Output, written, wanted);
+        if calls < call {
             return Ok(());
         }
-        assert_eq!(rt; ended, Err(RunFault::Output), "{from:?} {to:?} {call}");
-        assert_eq!(rt; taker.calls, call);
-        assert!(rt; table.wanted.as_bytes().starts_with(taker.bytes.as_slice()));
+        holds(rt, calls == call, "nothing is written behind a failure");
     }
     Err(Fail::from("too many calls"))
 }
@@ -138,12 +143,18 @@ fn replies_are_out_before_the_next_read_and_not_line_by_line(rt: HostRuntime) ->
     // a terminal gives a line at a time, and gets a flush before each read: there are four lines and the end
     let mut giver = Giver::new(table.asked.as_bytes(), Pace::Line, Trouble::NONE);
     let mut taker = Taker::new(rt.alloc(), Pace::All, Trouble::NONE);
-    assert_eq!(rt; run(rt.alloc(), &mut giver, &mut taker)?, Ok(()));
-    assert_eq!(rt; (giver.calls, taker.calls, taker.flushes), (5, 10, 6));
+    let ended = run(rt.alloc(), &mut giver, &mut taker)?;
+    let calls = (giver.calls, taker.calls, taker.flushes);
+    holds(&rt, ended.is_ok() && calls == (5, 10, 6), "line by line");
     // a file gives all lines at once, and gets their replies at once
     let mut giver = Giver::new(table.asked.as_bytes(), Pace::All, Trouble::NONE);
     let mut taker = Taker::new(rt.alloc(), Pace::All, Trouble::NONE);
-    assert_eq!(rt; run(rt.alloc(), &mut giver, &mut taker)?, Ok(()));
-    assert_eq!(rt; (giver.calls, taker.calls, taker.flushes), (2, 4, 3));
+    let ended = run(rt.alloc(), &mut giver, &mut taker)?;
+    let calls = (giver.calls, taker.calls, taker.flushes);
+    holds(
+        &rt,
+        ended.is_ok() && calls == (2, 4, 3),
+        "all lines at once",
+    );
     Ok(())
 }

@@ -1,6 +1,7 @@
 //! Event lines, their answers, and the order line behind them.
 
 use crate::engine::{FIRST_SEED, Table, are_played};
+use crate::wanted::{ends_at_a_failure, holds};
 use reg_lines::{CountedDevice, Input, Output};
 use reg_programs::{RunFault, schedule};
 use spiffe_name::TrustDomain;
@@ -336,14 +337,12 @@ fn fail_each_read(rt: &impl Abort, alloc: Global, table: &Table, from: Pace) -> 
         let mut giver = Giver::new(table.asked.as_bytes(), from, trouble);
         let mut taker = Taker::new(alloc, Pace::All, Trouble::NONE);
         let ended = play(alloc, &mut giver, &mut taker)?;
-        if giver.calls < call {
-            assert_eq!(rt; ended, Ok(()));
-            assert_eq!(rt; taker.bytes.as_slice(), table.wanted.as_bytes());
+        let (calls, written, wanted) = (giver.calls, taker.bytes.as_slice(), table.wanted.as_str());
+        ends_at_a_failure(rt, call, calls, ended, RunFault::Input, written, wanted);
+        if calls < call {
             return Ok(());
         }
-        assert_eq!(rt; ended, Err(RunFault::Input), "{from:?} {call}");
-        assert_eq!(rt; giver.calls, call);
-        assert!(rt; table.wanted.as_bytes().starts_with(taker.bytes.as_slice()));
+        holds(rt, calls == call, "nothing is read behind a failure");
     }
     Err(Fail::from("too many reads"))
 }
@@ -354,14 +353,12 @@ fn fail_each_write(rt: &impl Abort, alloc: Global, table: &Table, to: Pace) -> R
         let mut giver = Giver::new(table.asked.as_bytes(), Pace::Line, Trouble::NONE);
         let mut taker = Taker::new(alloc, to, Trouble::failing_at(call));
         let ended = play(alloc, &mut giver, &mut taker)?;
-        if taker.calls < call {
-            assert_eq!(rt; ended, Ok(()));
-            assert_eq!(rt; taker.bytes.as_slice(), table.wanted.as_bytes());
+        let (calls, written, wanted) = (taker.calls, taker.bytes.as_slice(), table.wanted.as_str());
+        ends_at_a_failure(rt, call, calls, ended, RunFault::Output, written, wanted);
+        if calls < call {
             return Ok(());
         }
-        assert_eq!(rt; ended, Err(RunFault::Output), "{to:?} {call}");
-        assert_eq!(rt; taker.calls, call);
-        assert!(rt; table.wanted.as_bytes().starts_with(taker.bytes.as_slice()));
+        holds(rt, calls == call, "nothing is written behind a failure");
     }
     Err(Fail::from("too many writes"))
 }

@@ -2,6 +2,7 @@
 
 ghost use Rattle.std.specs.Prelude.{◌≡◌, ◌<◌, length, vec_len};
 
+use crate::wanted::is_text;
 use reg_programs::{Queue, queues_of, seats_of, serve_connections};
 use shared_registry::{Naming, Opened, Registry, Seat};
 use spiffe_name::TrustDomain;
@@ -200,14 +201,14 @@ fn both<
 fn a_second_connection_sees_what_the_first_one_made(rt: HostRuntime) -> Result<(), Fail> {
     let answers = answered(&rt, rt.alloc(), 2, Callers::OneAfterAnother)?;
     let want = format!(in rt.alloc(); "{FIRST_ANSWERS}{ANSWER}")?;
-    assert_eq!(rt; answers.as_str(), want.as_str());
+    is_text(&rt, answers.as_str(), want.as_str(), "all answers");
     Ok(())
 }
 
 #[test]
 fn a_silent_connection_keeps_no_other_waiting(rt: HostRuntime) -> Result<(), Fail> {
     let answers = answered(&rt, rt.alloc(), 2, Callers::SilentFirst)?;
-    assert_eq!(rt; answers.as_str(), FIRST_ANSWERS);
+    is_text(&rt, answers.as_str(), FIRST_ANSWERS, "the first answers");
     Ok(())
 }
 
@@ -217,6 +218,6 @@ fn a_connection_that_is_cut_inside_a_line_ends_none_but_itself(
 ) -> Result<(), Fail> {
     let answers = answered(&rt, rt.alloc(), 1, Callers::CutInsideLine)?;
     let want = format!(in rt.alloc(); "{{\"code\":\"L3\",\"line\":1}}\n{FIRST_ANSWERS}")?;
-    assert_eq!(rt; answers.as_str(), want.as_str());
+    is_text(&rt, answers.as_str(), want.as_str(), "all answers");
     Ok(())
 }

@@ -3,6 +3,7 @@
 ghost use Rattle.std.specs.Prelude.{◌≡◌};
 
 use crate::engine::{FIRST_SEED, Table};
+use crate::wanted::{ends_at_a_failure, holds};
 use reg_lines::{CountedDevice, Ids, Input, Output};
 use reg_programs::{RunFault, session};
 use shared_registry::{Naming, Opened, Registry};
@@ -109,15 +110,16 @@ fn each_failing_read_ends_the_session(rt: HostRuntime) -> Result<(), Fail> {
             &mut giver,
             &mut taker,
         )?;
-        let out = taker.bytes.as_slice();
-        assert!(rt; table.wanted.as_bytes().starts_with(out), "{call}");
-        assert!(rt; out.is_empty() || out.ends_with(b"\n"), "{call}");
-        if giver.calls < call {
-            assert_eq!(rt; ended, Ok(()));
-            assert_eq!(rt; out, table.wanted.as_bytes());
+        let (calls, written, wanted) = (giver.calls, taker.bytes.as_slice(), table.wanted.as_str());
+        ends_at_a_failure(&rt, call, calls, ended, RunFault::Input, written, wanted);
+        holds(
+            &rt,
+            written.is_empty() || written.ends_with(b"\n"),
+            "whole lines",
+        );
+        if calls < call {
             return Ok(());
         }
-        assert_eq!(rt; ended, Err(RunFault::Input), "{call}");
     }
     Err(Fail::from("too many calls"))
 }
@@ -129,14 +131,11 @@ fn fail_each_write(rt: &(impl Abort + Wait), alloc: Global, to: Pace) -> Result<
         let mut giver = Giver::new(table.asked.as_bytes(), Pace::All, Trouble::NONE);
         let mut taker = Taker::new(alloc, to, Trouble::failing_at(call));
         let ended = run_alone(rt, alloc, "ex.org", FIRST_SEED, &mut giver, &mut taker)?;
-        let out = taker.bytes.as_slice();
-        assert!(rt; table.wanted.as_bytes().starts_with(out), "{call}");
-        if taker.calls < call {
-            assert_eq!(rt; ended, Ok(()));
-            assert_eq!(rt; out, table.wanted.as_bytes());
+        let (calls, written, wanted) = (taker.calls, taker.bytes.as_slice(), table.wanted.as_str());
+        ends_at_a_failure(rt, call, calls, ended, RunFault::Output, written, wanted);
+        if calls < call {
             return Ok(());
         }
-        assert_eq!(rt; ended, Err(RunFault::Output), "{call}");
     }
     Err(Fail::from("too many calls"))
 }
