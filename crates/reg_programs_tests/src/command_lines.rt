@@ -207,6 +207,14 @@ fn the_first_fault_of_a_server_is_told(rt: HostRuntime) -> Result<(), Fail> {
     )
 }
 
+/// Adds what is told of an end, as a line that a dot ends.
+fn add_end(alloc: Global, all: &mut String, ended: Ended) -> Result<(), Fail> {
+    let told = told_of(alloc, ended)?;
+    all.push_str(told.as_str())?;
+    all.push_str(".\n")?;
+    Ok(())
+}
+
 #[test]
 fn each_end_has_its_status_and_its_text(rt: HostRuntime) -> Result<(), Fail> {
     let ends = [
@@ -223,8 +231,7 @@ fn each_end_has_its_status_and_its_text(rt: HostRuntime) -> Result<(), Fail> {
     ];
     let mut all = String::new(rt.alloc());
     for answered in ends {
-        all.push_str(told_of(rt.alloc(), Ended::of(answered))?.as_str())?;
-        all.push_str(".\n")?;
+        add_end(rt.alloc(), &mut all, Ended::of(answered))?;
     }
     let want = "\
 0 .
@@ -254,8 +261,7 @@ fn each_end_of_a_server_has_its_status_and_its_text(rt: HostRuntime) -> Result<(
     ];
     let mut all = String::new(rt.alloc());
     for served in ends {
-        all.push_str(told_of(rt.alloc(), Ended::of_server(served))?.as_str())?;
-        all.push_str(".\n")?;
+        add_end(rt.alloc(), &mut all, Ended::of_server(served))?;
     }
     let want = "\
 0 .
