@@ -6,6 +6,7 @@
 //! - `selectors`: selectors.
 //! - `selector_sets`: sets of selectors.
 //! - `long_texts`: the long texts that these tests read.
+//! - `wanted`: what a test wants to see.
 #![tactic(auto)]
 
 #[cfg(test)]
@@ -16,3 +17,5 @@ mod long_texts;
 mod selector_sets;
 #[cfg(test)]
 mod selectors;
+#[cfg(test)]
+mod wanted;
