@@ -1,230 +1,259 @@
 //! Which lists of operations are a batch, at each boundary.
 
-use crate::making::{
-    BARE, FOREIGN, N1, SERVER, WEB, agent, domain, domains, id, new_entry, selectors, text, uuid,
-};
-use crate::pages::page;
-use entry_book::{Batch, BatchRefusal, DropMode, NewEntry, Op, Sequence, Shared};
+use crate::told_ops::{op, ops};
+use crate::wanted::{holds, is_number, is_text};
+use entry_book::{Batch, BatchRefusal, Op, Sequence};
 use spiffe_name::{Failure, TrustDomain};
 use std::alloc::Global;
 use std::process::Abort;
 use std::test::Fail;
 
-/// The code of a batch's refusal and the index at fault, or the empty text and the count of a copy's operations.
+/// The code of a batch's refusal and the index at fault, or `ok` and the count of a copy's operations.
 fn fault(alloc: Global, ops: Sequence<Op>) -> Result<(&'static str, usize), Fail> {
     let domain = TrustDomain::parse(alloc, "ex.org")?;
     match Batch::new(alloc, &domain, ops, 0, None) {
-        Ok(batch) => Ok(("", batch.clone()?.ops().len())),
+        Ok(batch) => Ok(("ok", batch.clone()?.ops().len())),
         Err(Failure::Refused(refusal)) => Ok((refusal.code(), refusal.op().unwrap_or(99))),
         Err(Failure::NoMemory) => Err(Fail::from("no memory")),
     }
 }
 
-/// Is this the code of the batch of this one operation?
-pub fn check(rt: &impl Abort, alloc: Global, op: Op, code: &str) -> Result<(), Fail> {
-    let mut ops = Sequence::empty(alloc);
-    ops.push(op)?;
-    assert_eq!(rt; fault(alloc, ops)?.0, code);
+/// Are these the code and the number of the batch?
+fn has_fault(
+    rt: &impl Abort,
+    alloc: Global,
+    ops: Sequence<Op>,
+    (code, number): (&str, u64),
+) -> Result<(), Fail> {
+    let (got, at) = fault(alloc, ops)?;
+    is_text(rt, got, code, "code");
+    is_number(rt, at as u64, number, code);
     Ok(())
 }
 
-fn create(alloc: Global, new: NewEntry) -> Result<Op, Fail> {
-    Ok(Op::Create(Shared::of(alloc, new)?))
+/// Is the code at the start of the line that of the batch of the one operation behind it?
+fn check_line(rt: &impl Abort, alloc: Global, line: &str) -> Result<(), Fail> {
+    let (code, told) = line.split_once(' ').unwrap_or((line, ""));
+    let mut ops = Sequence::empty(alloc);
+    ops.push(op(alloc, told)?)?;
+    let (got, _) = fault(alloc, ops)?;
+    is_text(rt, got, code, line);
+    Ok(())
 }
 
-fn update(alloc: Global, new: NewEntry) -> Result<Op, Fail> {
-    Ok(Op::Update(Shared::of(alloc, new)?, None))
+/// Is each line of the table the code of a batch and its one operation?
+pub fn check(rt: &impl Abort, alloc: Global, table: &str) -> Result<(), Fail> {
+    for line in table.lines() {
+        check_line(rt, alloc, line)?;
+    }
+    Ok(())
 }
 
-fn authorised(alloc: Global, agent: &str) -> Result<Op, Fail> {
-    Ok(Op::Authorised(id(alloc, agent)?))
+/// So many equal questions.
+fn questions(alloc: Global, count: u64) -> Result<Sequence<Op>, Fail> {
+    let mut ops = Sequence::empty(alloc);
+    for _ in 0..count {
+        ops.push(op(alloc, "authorised /spire/agent/n1")?)?;
+    }
+    Ok(ops)
 }
 
-fn set_bundle(alloc: Global, of: &str, length: usize) -> Result<Op, Fail> {
-    let of = domain(alloc, of)?;
-    Ok(Op::SetBundle(of, text(alloc, length)?))
-}
-
-fn drop_bundle(alloc: Global, of: &str) -> Result<Op, Fail> {
-    Ok(Op::DropBundle(domain(alloc, of)?, DropMode::Delete))
+/// Are these the code and the number of a batch of so many questions?
+fn counts(
+    rt: &impl Abort,
+    alloc: Global,
+    count: u64,
+    fault_of_count: (&str, u64),
+) -> Result<(), Fail> {
+    has_fault(rt, alloc, questions(alloc, count)?, fault_of_count)
 }
 
 #[test]
 fn a_batch_has_1_to_64_operations(rt: HostRuntime) -> Result<(), Fail> {
-    for (count, fault_of_count) in [
-        (0, ("B1", 99)),
-        (1, ("", 1)),
-        (64, ("", 64)),
-        (65, ("B2", 99)),
-    ] {
-        let mut ops = Sequence::empty(rt.alloc());
-        for _ in 0..count {
-            ops.push(authorised(rt.alloc(), N1)?)?;
-        }
-        assert_eq!(rt; fault(rt.alloc(), ops)?, fault_of_count);
-    }
-    assert_eq!(rt; BatchRefusal::TooManyOps.op(), None);
+    let alloc = rt.alloc();
+    counts(&rt, alloc, 0, ("B1", 99))?;
+    counts(&rt, alloc, 1, ("ok", 1))?;
+    counts(&rt, alloc, 64, ("ok", 64))?;
+    counts(&rt, alloc, 65, ("B2", 99))?;
+    let too_many = BatchRefusal::TooManyOps.op();
+    holds(&rt, too_many == None, "no operation is too many");
     Ok(())
 }
+
+const SECOND_IS_FAULTY: &str = "\
+authorised /spire/agent/n1; \
+create /spire/agent/n1 /spire/server hint=1025 selectors=0; \
+authorised spiffe://b.org/spire/agent/n1";
 
 #[test]
 fn the_first_operations_least_fault_is_told(rt: HostRuntime) -> Result<(), Fail> {
-    let alloc = rt.alloc();
-    let mut faulty = new_entry(alloc, N1, SERVER)?;
-    faulty.hint = text(alloc, 1025)?;
-    faulty.selectors = selectors(alloc, 0)?;
-    let mut ops = Sequence::empty(alloc);
-    ops.push(authorised(alloc, N1)?)?;
-    ops.push(create(alloc, faulty)?)?;
-    ops.push(authorised(alloc, FOREIGN)?)?;
-    assert_eq!(rt; fault(alloc, ops)?, ("B5", 1));
-    Ok(())
+    let faulty = ops(rt.alloc(), SECOND_IS_FAULTY)?;
+    has_fault(&rt, rt.alloc(), faulty, ("B5", 1))
 }
 
 /// A question, and this operation behind it.
-fn behind_a_question(alloc: Global, op: Op) -> Result<Sequence<Op>, Fail> {
+fn behind_a_question(alloc: Global, behind: Op) -> Result<Sequence<Op>, Fail> {
     let mut ops = Sequence::empty(alloc);
-    ops.push(authorised(alloc, N1)?)?;
-    ops.push(op)?;
+    ops.push(op(alloc, "authorised /spire/agent/n1")?)?;
+    ops.push(behind)?;
     Ok(ops)
 }
 
 /// Is a batch of a question and this operation a query, or not, as the operation is a question, or not?
-fn asks(rt: &impl Abort, alloc: Global, op: Op, is_question: bool) -> Result<(), Fail> {
-    assert_eq!(*rt; op.is_question(), is_question);
+fn asks(rt: &impl Abort, alloc: Global, told: &str, is_question: bool) -> Result<(), Fail> {
+    let op = op(alloc, told)?;
+    holds(rt, op.is_question() == is_question, told);
     let ops = behind_a_question(alloc, op)?;
     let own = TrustDomain::parse(alloc, "ex.org")?;
     let batch = Batch::new(alloc, &own, ops, 0, None)?.clone()?;
-    assert_eq!(*rt; batch.is_query(), is_question);
-    assert_eq!(*rt; batch.domain().as_str(), "ex.org");
+    holds(rt, batch.is_query() == is_question, told);
+    is_text(rt, batch.domain().as_str(), "ex.org", told);
     Ok(())
 }
+
+const QUESTIONS: &str = "\
+show
+show_agent /spire/agent/n1
+show_bundle ex.org
+children /spire/agent/n1
+page 500
+authorised /spire/agent/n1
+trust /spire/agent/n1
+";
 
 #[test]
 fn batches_of_questions_are_queries(rt: HostRuntime) -> Result<(), Fail> {
-    let alloc = rt.alloc();
-    asks(&rt, alloc, Op::Show(uuid()), true)?;
-    asks(&rt, alloc, Op::ShowAgent(id(alloc, N1)?), true)?;
-    asks(&rt, alloc, Op::ShowBundle(domain(alloc, "ex.org")?), true)?;
-    asks(&rt, alloc, Op::Children(id(alloc, N1)?), true)?;
-    asks(&rt, alloc, page(alloc, 500, None)?, true)?;
-    asks(&rt, alloc, authorised(alloc, N1)?, true)?;
-    asks(&rt, alloc, Op::Trust(id(alloc, N1)?), true)
+    for question in QUESTIONS.lines() {
+        asks(&rt, rt.alloc(), question, true)?;
+    }
+    Ok(())
 }
+
+const CHANGES: &str = "\
+create /spire/agent/n1 /web
+update /spire/agent/n1 /web
+delete
+prune 0
+set_agent /spire/agent/n1 0
+drop_agent /spire/agent/n1
+set_bundle d100 0
+drop_bundle d100 delete
+";
 
 #[test]
 fn batches_with_a_change_are_no_queries(rt: HostRuntime) -> Result<(), Fail> {
-    let alloc = rt.alloc();
-    asks(
-        &rt,
-        alloc,
-        create(alloc, new_entry(alloc, N1, WEB)?)?,
-        false,
-    )?;
-    asks(
-        &rt,
-        alloc,
-        update(alloc, new_entry(alloc, N1, WEB)?)?,
-        false,
-    )?;
-    asks(&rt, alloc, Op::Delete(uuid(), None), false)?;
-    asks(&rt, alloc, Op::Prune(0), false)?;
-    asks(&rt, alloc, Op::SetAgent(agent(alloc, N1, 0)?), false)?;
-    asks(&rt, alloc, Op::DropAgent(id(alloc, N1)?), false)?;
-    asks(&rt, alloc, set_bundle(alloc, "d100", 0)?, false)?;
-    asks(&rt, alloc, drop_bundle(alloc, "d100")?, false)
+    for change in CHANGES.lines() {
+        asks(&rt, rt.alloc(), change, false)?;
+    }
+    Ok(())
 }
+
+const IDS_OF_ENTRIES: &str = "\
+ok create /spire/agent/n1 /web
+ok create /spire/server /web
+B3 create spiffe://b.org/spire/agent/n1 /web
+B3 create /spire/agent/n1 spiffe://b.org/spire/agent/n1
+B3 create spiffe://ex.org.b/x spiffe://ex.org
+B4 create spiffe://ex.org /web
+B4 create /spire/agent/n1 spiffe://ex.org
+B5 create /spire/agent/n1 /spire/server
+ok create /spire/agent/n1 /spire/server/x
+ok create /spire/agent/n1 /spire
+";
 
 #[test]
 fn ids_of_entries_at_their_boundaries(rt: HostRuntime) -> Result<(), Fail> {
-    let cases = [
-        (N1, WEB, ""),
-        (SERVER, WEB, ""),
-        (FOREIGN, WEB, "B3"),
-        (N1, FOREIGN, "B3"),
-        ("spiffe://ex.org.b/x", BARE, "B3"),
-        (BARE, WEB, "B4"),
-        (N1, BARE, "B4"),
-        (N1, SERVER, "B5"),
-        (N1, "spiffe://ex.org/spire/server/x", ""),
-        (N1, "spiffe://ex.org/spire", ""),
-    ];
-    for (parent, identity, code) in cases {
-        let op = create(rt.alloc(), new_entry(rt.alloc(), parent, identity)?)?;
-        check(&rt, rt.alloc(), op, code)?;
-    }
-    Ok(())
+    check(&rt, rt.alloc(), IDS_OF_ENTRIES)
 }
+
+const IDS_OF_AGENTS: &str = "\
+ok authorised /spire/agent/n1
+ok set_agent /spire/agent/n1 0
+ok show_agent /spire/agent/n1
+ok trust /spire/agent/n1
+ok drop_agent /spire/agent/n1
+ok authorised /spire/agent/n/1
+ok set_agent /spire/agent/n/1 0
+ok show_agent /spire/agent/n/1
+ok trust /spire/agent/n/1
+ok drop_agent /spire/agent/n/1
+B3 authorised spiffe://b.org/spire/agent/n1
+B3 set_agent spiffe://b.org/spire/agent/n1 0
+B3 show_agent spiffe://b.org/spire/agent/n1
+B3 trust spiffe://b.org/spire/agent/n1
+B3 drop_agent spiffe://b.org/spire/agent/n1
+B10 authorised /spire/agent
+B10 set_agent /spire/agent 0
+B10 show_agent /spire/agent
+B10 trust /spire/agent
+B10 drop_agent /spire/agent
+B10 authorised /spire/agents/n1
+B10 set_agent /spire/agents/n1 0
+B10 show_agent /spire/agents/n1
+B10 trust /spire/agents/n1
+B10 drop_agent /spire/agents/n1
+B10 authorised /x/spire/agent/n1
+B10 set_agent /x/spire/agent/n1 0
+B10 show_agent /x/spire/agent/n1
+B10 trust /x/spire/agent/n1
+B10 drop_agent /x/spire/agent/n1
+B10 authorised spiffe://ex.org
+B10 set_agent spiffe://ex.org 0
+B10 show_agent spiffe://ex.org
+B10 trust spiffe://ex.org
+B10 drop_agent spiffe://ex.org
+";
 
 #[test]
 fn ids_of_agents_at_their_boundaries(rt: HostRuntime) -> Result<(), Fail> {
-    let alloc = rt.alloc();
-    let cases = [
-        (N1, ""),
-        ("spiffe://ex.org/spire/agent/n/1", ""),
-        (FOREIGN, "B3"),
-        ("spiffe://ex.org/spire/agent", "B10"),
-        ("spiffe://ex.org/spire/agents/n1", "B10"),
-        ("spiffe://ex.org/x/spire/agent/n1", "B10"),
-        (BARE, "B10"),
-    ];
-    for (text, code) in cases {
-        check(&rt, alloc, authorised(alloc, text)?, code)?;
-        check(&rt, alloc, Op::SetAgent(agent(alloc, text, 0)?), code)?;
-        check(&rt, alloc, Op::ShowAgent(id(alloc, text)?), code)?;
-        check(&rt, alloc, Op::Trust(id(alloc, text)?), code)?;
-        check(&rt, alloc, Op::DropAgent(id(alloc, text)?), code)?;
-    }
-    Ok(())
+    check(&rt, rt.alloc(), IDS_OF_AGENTS)
 }
+
+const PARENTS: &str = "\
+ok children /spire/agent/n1
+ok children /spire/server
+B3 children spiffe://b.org/spire/agent/n1
+B4 children spiffe://ex.org
+";
 
 #[test]
 fn parents_at_their_boundaries(rt: HostRuntime) -> Result<(), Fail> {
-    let alloc = rt.alloc();
-    for (parent, code) in [(N1, ""), (SERVER, ""), (FOREIGN, "B3"), (BARE, "B4")] {
-        check(&rt, alloc, Op::Children(id(alloc, parent)?), code)?;
-    }
-    Ok(())
+    check(&rt, rt.alloc(), PARENTS)
 }
+
+const BUNDLES: &str = "\
+ok show_bundle ex.org
+B11 set_bundle ex.org 65537
+ok set_bundle d100 65536
+B12 set_bundle d100 65537
+B11 drop_bundle ex.org delete
+ok drop_bundle d100 delete
+";
 
 #[test]
 fn bundles_at_their_boundaries(rt: HostRuntime) -> Result<(), Fail> {
-    let alloc = rt.alloc();
-    check(&rt, alloc, Op::ShowBundle(domain(alloc, "ex.org")?), "")?;
-    for (of, length, code) in [
-        ("ex.org", 65537, "B11"),
-        ("d100", 65536, ""),
-        ("d100", 65537, "B12"),
-    ] {
-        check(&rt, alloc, set_bundle(alloc, of, length)?, code)?;
-    }
-    for (of, code) in [("ex.org", "B11"), ("d100", "")] {
-        check(&rt, alloc, drop_bundle(alloc, of)?, code)?;
-    }
-    Ok(())
+    check(&rt, rt.alloc(), BUNDLES)
 }
+
+const COUNTS: &str = "\
+B6 create /spire/agent/n1 /web selectors=0 domains=0 hint=0
+B6 update /spire/agent/n1 /web selectors=0 domains=0 hint=0
+ok create /spire/agent/n1 /web selectors=1 domains=0 hint=0
+ok update /spire/agent/n1 /web selectors=1 domains=0 hint=0
+ok create /spire/agent/n1 /web selectors=16 domains=8 hint=1024
+ok update /spire/agent/n1 /web selectors=16 domains=8 hint=1024
+B6 create /spire/agent/n1 /web selectors=17 domains=9 hint=1025
+B6 update /spire/agent/n1 /web selectors=17 domains=9 hint=1025
+B7 create /spire/agent/n1 /web selectors=16 domains=9 hint=1025
+B7 update /spire/agent/n1 /web selectors=16 domains=9 hint=1025
+B8 create /spire/agent/n1 /web selectors=16 domains=8 hint=1025
+B8 update /spire/agent/n1 /web selectors=16 domains=8 hint=1025
+ok set_agent /spire/agent/n1 0
+ok set_agent /spire/agent/n1 64
+B6 set_agent /spire/agent/n1 65
+";
 
 #[test]
 fn counts_at_their_boundaries(rt: HostRuntime) -> Result<(), Fail> {
-    let alloc = rt.alloc();
-    for (selector_count, domain_count, hint, code) in [
-        (0, 0, 0, "B6"),
-        (1, 0, 0, ""),
-        (16, 8, 1024, ""),
-        (17, 9, 1025, "B6"),
-        (16, 9, 1025, "B7"),
-        (16, 8, 1025, "B8"),
-    ] {
-        let mut new = new_entry(alloc, N1, WEB)?;
-        new.selectors = selectors(alloc, selector_count)?;
-        new.domains = domains(alloc, domain_count)?;
-        new.hint = text(alloc, hint)?;
-        let new = Shared::of(alloc, new)?;
-        check(&rt, alloc, Op::Create(new.clone()?), code)?;
-        check(&rt, alloc, Op::Update(new, None), code)?;
-    }
-    for (count, code) in [(0, ""), (64, ""), (65, "B6")] {
-        check(&rt, alloc, Op::SetAgent(agent(alloc, N1, count)?), code)?;
-    }
-    Ok(())
+    check(&rt, rt.alloc(), COUNTS)
 }

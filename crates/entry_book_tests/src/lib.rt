@@ -4,7 +4,8 @@
 //!
 //! - `batches`: batches and their refusals; `pages`: those of pages; `kept`: what a batch carries beside its operations, and
 //!   when operations are the same; `rows`: what rows are made of; `limits`: when a limit comes; `laws`: each law is called.
-//! - `making`: entries, and the parts of operations.
+//! - `making`: entries, and the parts of operations; `told_ops`: operations of the words of a text; `wanted`: what a test
+//!   wants to see.
 #![tactic(auto)]
 
 #[cfg(test)]
@@ -21,3 +22,7 @@ mod making;
 mod pages;
 #[cfg(test)]
 mod rows;
+#[cfg(test)]
+mod told_ops;
+#[cfg(test)]
+mod wanted;

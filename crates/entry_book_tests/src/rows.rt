@@ -1,77 +1,117 @@
 //! What rows are made of, and what they say of themselves.
 
 use crate::making::{N1, SERVER, WEB, domain, domains, id, new_entry, text};
+use crate::wanted::{holds, is_number, is_text};
 use entry_book::{DomainSet, Entry, Sequence, Shared, Text, is_server};
+use spiffe_name::TrustDomain;
+use std::alloc::Global;
+use std::process::Abort;
 use std::test::Fail;
+
+/// An entry at revision 3, with a hint of so many bytes and so many domains.
+fn entry(alloc: Global, hint: usize, count: u32) -> Result<Entry, Fail> {
+    let mut given = new_entry(alloc, N1, WEB)?;
+    given.hint = text(alloc, hint)?;
+    given.domains = domains(alloc, count)?;
+    let given = Shared::of(alloc, given)?;
+    Ok(Entry::at_revision(&given, 3)?)
+}
+
+/// The entry has two domains, `d100` and `d101`.
+fn has_two_domains(rt: &impl Abort, domains: &DomainSet) {
+    let listed = domains.as_slice();
+    is_number(rt, listed.len() as u64, 2, "domains");
+    if let [first, second] = listed {
+        is_text(rt, first.get().as_str(), "d100", "the first domain");
+        is_text(rt, second.get().as_str(), "d101", "the second domain");
+        holds(rt, domains.contains(first.get()), "a domain is contained");
+    }
+    is_number(rt, domains.len() as u64, 2, "domains");
+    holds(rt, !domains.is_empty(), "there are domains");
+}
 
 #[test]
 fn the_parts_of_an_entry_are_those_that_were_given(rt: HostRuntime) -> Result<(), Fail> {
-    let mut given = new_entry(rt.alloc(), N1, WEB)?;
-    given.hint = text(rt.alloc(), 2)?;
-    given.domains = domains(rt.alloc(), 2)?;
-    let given = Shared::of(rt.alloc(), given)?;
-    let entry = Entry::at_revision(&given, 3)?.clone()?;
-    assert_eq!(rt; entry.id().as_bytes()[15], 7);
-    assert_eq!(rt; entry.parent().get().as_str(), N1);
-    assert_eq!(rt; entry.identity().get().as_str(), WEB);
-    assert_eq!(rt; entry.selectors().get().len(), 1);
-    assert_eq!(rt; entry.hint().get().as_str(), "hh");
-    assert_eq!(rt; (entry.expiry(), entry.revision()), (99, 3));
-    assert_eq!(rt; (entry.x509_svid_ttl(), entry.jwt_svid_ttl()), (3600, 300));
-    let domains = entry.domains().as_slice();
-    assert_eq!(rt; domains.len(), 2);
-    assert_eq!(rt; domains[0].get().as_str(), "d100");
-    assert_eq!(rt; domains[1].get().as_str(), "d101");
-    assert!(rt; entry.domains().contains(domains[0].get()));
-    assert_eq!(rt;
-        (entry.domains().len(), entry.domains().is_empty()),
-        (2, false)
-    );
+    let entry = entry(rt.alloc(), 2, 2)?.clone()?;
+    let last = entry.id().as_bytes()[15];
+    is_number(&rt, u64::from(last), 7, "id");
+    is_text(&rt, entry.parent().get().as_str(), N1, "parent");
+    is_text(&rt, entry.identity().get().as_str(), WEB, "identity");
+    is_number(&rt, entry.selectors().get().len() as u64, 1, "selectors");
+    is_text(&rt, entry.hint().get().as_str(), "hh", "hint");
+    is_number(&rt, entry.expiry(), 99, "expiry");
+    is_number(&rt, entry.revision(), 3, "revision");
+    is_number(&rt, entry.x509_svid_ttl(), 3600, "x509_svid_ttl");
+    is_number(&rt, entry.jwt_svid_ttl(), 300, "jwt_svid_ttl");
+    has_two_domains(&rt, entry.domains());
+    Ok(())
+}
+
+/// The entry, which names the domain, no longer does once it is dissociated, at the next revision.
+fn is_dissociated(
+    rt: &impl Abort,
+    alloc: Global,
+    entry: &Entry,
+    named: &TrustDomain,
+) -> Result<(), Fail> {
+    holds(rt, entry.names(named), "the domain is named");
+    if entry.revision() != 3 {
+        return Err(Fail::from("another revision"));
+    }
+    let freed = entry.dissociated(alloc, named)?;
+    holds(rt, !freed.names(named), "the domain is no longer named");
+    is_number(rt, freed.revision(), 4, "revision");
+    is_number(rt, freed.x509_svid_ttl(), 3600, "x509_svid_ttl");
+    is_number(rt, freed.jwt_svid_ttl(), 300, "jwt_svid_ttl");
     Ok(())
 }
 
 #[test]
 fn an_entry_says_what_it_is_asked(rt: HostRuntime) -> Result<(), Fail> {
-    let mut given = new_entry(rt.alloc(), N1, WEB)?;
-    given.domains = domains(rt.alloc(), 1)?;
-    let given = Shared::of(rt.alloc(), given)?;
-    let entry = Entry::at_revision(&given, 3)?;
-    for (expected, is_stale) in [(None, false), (Some(3), false), (Some(2), true)] {
-        assert_eq!(rt; entry.is_stale(expected), is_stale);
-    }
-    for (moment, is_before) in [(0, false), (99, false), (100, true)] {
-        assert_eq!(rt; entry.expires_before(moment), is_before);
-    }
+    let entry = entry(rt.alloc(), 0, 1)?;
+    holds(&rt, !entry.is_stale(None), "no revision");
+    holds(&rt, !entry.is_stale(Some(3)), "revision 3");
+    holds(&rt, entry.is_stale(Some(2)), "revision 2");
+    holds(&rt, !entry.expires_before(0), "moment 0");
+    holds(&rt, !entry.expires_before(99), "moment 99");
+    holds(&rt, entry.expires_before(100), "moment 100");
     let named = domain(rt.alloc(), "d100")?;
-    assert!(rt; entry.names(named.get()));
-    let freed = entry.dissociated(rt.alloc(), named.get())?;
-    assert!(rt; !freed.names(named.get()));
-    assert_eq!(rt; freed.revision(), 4);
-    assert_eq!(rt; (freed.x509_svid_ttl(), freed.jwt_svid_ttl()), (3600, 300));
+    is_dissociated(&rt, rt.alloc(), &entry, named.get())
+}
+
+/// Is this the ID of the server of the domain, or not?
+fn is_servers(
+    rt: &impl Abort,
+    alloc: Global,
+    own: &TrustDomain,
+    text: &str,
+    is_it: bool,
+) -> Result<(), Fail> {
+    let id = id(alloc, text)?;
+    holds(rt, is_server(own, id.get()) == is_it, text);
     Ok(())
 }
 
 #[test]
 fn the_server_has_one_id(rt: HostRuntime) -> Result<(), Fail> {
-    let own = domain(rt.alloc(), "ex.org")?;
-    for (text, is_it) in [
-        (SERVER, true),
-        (N1, false),
-        ("spiffe://b.org/spire/server", false),
-    ] {
-        assert_eq!(rt; is_server(own.get(), id(rt.alloc(), text)?.get()), is_it);
-    }
-    Ok(())
+    let alloc = rt.alloc();
+    let own = domain(alloc, "ex.org")?;
+    is_servers(&rt, alloc, own.get(), SERVER, true)?;
+    is_servers(&rt, alloc, own.get(), N1, false)?;
+    let other = "spiffe://b.org/spire/server";
+    is_servers(&rt, alloc, own.get(), other, false)
 }
 
 #[test]
 fn vectors_and_strings_come_back(rt: HostRuntime) -> Result<(), Fail> {
     let text = Text::of(String::from_str(rt.alloc(), "t")?);
-    assert_eq!(rt; text.into_string().as_str(), "t");
+    is_text(&rt, text.into_string().as_str(), "t", "text");
     let mut numbers = Sequence::of(Vec::new(rt.alloc()));
-    numbers.push(5)?;
-    assert_eq!(rt; numbers.as_vec().len(), 1);
-    assert_eq!(rt; numbers.into_vec().pop(), Some(5));
-    assert!(rt; DomainSet::empty(rt.alloc()).is_empty());
+    numbers.push(5_u64)?;
+    is_number(&rt, numbers.as_vec().len() as u64, 1, "numbers");
+    let last = numbers.into_vec().pop();
+    holds(&rt, last == Some(5), "the last number");
+    let none = DomainSet::empty(rt.alloc());
+    holds(&rt, none.is_empty(), "no domains");
     Ok(())
 }

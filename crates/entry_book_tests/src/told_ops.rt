@@ -1,0 +1,167 @@
+//! Operations, made of the words of a text: first the kind, then what each of its kind has, then parts as `hint=1`. An ID of
+//! `ex.org` is told by its path, and any other one by itself. `update1` expects revision 1.
+
+use crate::making::{agent, domain, domains, id, new_entry, selectors, text, uuid};
+use entry_book::{
+    DropMode, Filter, MatchMode, NewEntry, Op, PageQuery, SelectorMatch, Sequence, Shared,
+};
+use spiffe_name::SpiffeId;
+use std::alloc::{AllocError, Global};
+use std::test::Fail;
+use uuid::Uuid;
+
+fn words<'a>(alloc: Global, told: &'a str) -> Result<Vec<&'a str>, AllocError> {
+    let mut words = Vec::new(alloc);
+    for word in told.split_whitespace() {
+        words.push(word)?;
+    }
+    Ok(words)
+}
+
+/// The word at an index from 0; the empty one behind the last.
+fn word<'a>(words: &[&'a str], index: usize) -> &'a str {
+    words.get(index).copied().unwrap_or("")
+}
+
+fn id_text(alloc: Global, word: &str) -> Result<String, AllocError> {
+    if word.starts_with("/") {
+        return format!(in alloc; "spiffe://ex.org{word}");
+    }
+    String::from_str(alloc, word)
+}
+
+fn shared_id(alloc: Global, word: &str) -> Result<Shared<SpiffeId>, Fail> {
+    let text = id_text(alloc, word)?;
+    id(alloc, text.as_str())
+}
+
+/// Gives an entry another part in the place of the one of this name.
+fn set_part(alloc: Global, new: &mut NewEntry, name: &str, value: &str) -> Result<(), Fail> {
+    match name {
+        "id" => new.id = Uuid::from_u64_pair(0, value.parse::<u64>()?),
+        "selectors" => new.selectors = selectors(alloc, value.parse::<u32>()?)?,
+        "hint" => new.hint = text(alloc, value.parse::<usize>()?)?,
+        "domains" => new.domains = domains(alloc, value.parse::<u32>()?)?,
+        "expiry" => new.expiry = value.parse::<u64>()?,
+        "x509" => new.x509_svid_ttl = value.parse::<u64>()?,
+        "jwt" => new.jwt_svid_ttl = value.parse::<u64>()?,
+        _ => return Err(Fail::from("no such part of an entry")),
+    }
+    Ok(())
+}
+
+/// An entry, of its parent, its identity and other parts than `new_entry` has.
+fn entry(alloc: Global, words: &[&str]) -> Result<Shared<NewEntry>, Fail> {
+    let parent = id_text(alloc, word(words, 1))?;
+    let identity = id_text(alloc, word(words, 2))?;
+    let mut new = new_entry(alloc, parent.as_str(), identity.as_str())?;
+    for part in words.iter().skip(3) {
+        let (name, value) = part.split_once('=').unwrap_or((part, ""));
+        set_part(alloc, &mut new, name, value)?;
+    }
+    Ok(Shared::of(alloc, new)?)
+}
+
+fn question(alloc: Global, count: &str, mode: MatchMode) -> Result<Option<SelectorMatch>, Fail> {
+    let selectors = selectors(alloc, count.parse::<u32>()?)?;
+    Ok(Some(SelectorMatch { selectors, mode }))
+}
+
+/// Gives a page another part in the place of the one of this name: `any` and `exact` count the selectors of a question.
+fn ask_for(alloc: Global, query: &mut PageQuery, name: &str, value: &str) -> Result<(), Fail> {
+    match name {
+        "at" => query.at = Some(value.parse::<u64>()?),
+        "parent" => query.filter.parent = Some(shared_id(alloc, value)?),
+        "identity" => query.filter.identity = Some(shared_id(alloc, value)?),
+        "domain" => query.filter.domain = Some(domain(alloc, value)?),
+        "any" => query.filter.selectors = question(alloc, value, MatchMode::Any)?,
+        "exact" => query.filter.selectors = question(alloc, value, MatchMode::Exact)?,
+        _ => return Err(Fail::from("no such part of a page")),
+    }
+    Ok(())
+}
+
+/// A page, of its size and the parts that it asks for: without any, it is of everything, of the last book.
+fn page(alloc: Global, words: &[&str]) -> Result<Op, Fail> {
+    let mut query = PageQuery {
+        size: word(words, 1).parse::<u64>()?,
+        at: None,
+        from: None,
+        filter: Filter {
+            parent: None,
+            identity: None,
+            domain: None,
+            selectors: None,
+        },
+    };
+    for part in words.iter().skip(2) {
+        let (name, value) = part.split_once('=').unwrap_or((part, ""));
+        ask_for(alloc, &mut query, name, value)?;
+    }
+    Ok(Op::Page(Shared::of(alloc, query)?))
+}
+
+/// The revision that an operation expects: none where no word tells it.
+fn expected(word: &str) -> Result<Option<u64>, Fail> {
+    if word.is_empty() {
+        return Ok(None);
+    }
+    Ok(Some(word.parse::<u64>()?))
+}
+
+fn op_of_words(alloc: Global, words: &[&str]) -> Result<Op, Fail> {
+    match word(words, 0) {
+        "create" => Ok(Op::Create(entry(alloc, words)?)),
+        "update" => Ok(Op::Update(entry(alloc, words)?, None)),
+        "update1" => Ok(Op::Update(entry(alloc, words)?, Some(1))),
+        "delete" => Ok(Op::Delete(uuid(), expected(word(words, 1))?)),
+        "show" => Ok(Op::Show(uuid())),
+        "prune" => Ok(Op::Prune(word(words, 1).parse::<u64>()?)),
+        "page" => page(alloc, words),
+        "set_agent" => {
+            let count = word(words, 2).parse::<u32>()?;
+            let id = id_text(alloc, word(words, 1))?;
+            Ok(Op::SetAgent(agent(alloc, id.as_str(), count)?))
+        }
+        "show_bundle" | "set_bundle" | "drop_bundle" => op_of_bundle(alloc, words),
+        kind => op_of_id(shared_id(alloc, word(words, 1))?, kind),
+    }
+}
+
+/// An operation on the bundle of a trust domain, whose text has so many bytes. Without a mode, users of the bundle are kept.
+fn op_of_bundle(alloc: Global, words: &[&str]) -> Result<Op, Fail> {
+    let of = domain(alloc, word(words, 1))?;
+    match (word(words, 0), word(words, 2)) {
+        ("show_bundle", _) => Ok(Op::ShowBundle(of)),
+        ("drop_bundle", "delete") => Ok(Op::DropBundle(of, DropMode::Delete)),
+        ("drop_bundle", _) => Ok(Op::DropBundle(of, DropMode::Restrict)),
+        (_, length) => Ok(Op::SetBundle(of, text(alloc, length.parse::<usize>()?)?)),
+    }
+}
+
+fn op_of_id(id: Shared<SpiffeId>, kind: &str) -> Result<Op, Fail> {
+    match kind {
+        "drop_agent" => Ok(Op::DropAgent(id)),
+        "show_agent" => Ok(Op::ShowAgent(id)),
+        "children" => Ok(Op::Children(id)),
+        "authorised" => Ok(Op::Authorised(id)),
+        "trust" => Ok(Op::Trust(id)),
+        _ => Err(Fail::from("no such operation")),
+    }
+}
+
+/// The operation that a text tells.
+pub fn op(alloc: Global, told: &str) -> Result<Op, Fail> {
+    let words = words(alloc, told)?;
+    op_of_words(alloc, words.as_slice())
+}
+
+/// The operations that a text tells, with `; ` between them.
+pub fn ops(alloc: Global, told: &str) -> Result<Sequence<Op>, Fail> {
+    let lines = told.replace(alloc, "; ", "\n")?;
+    let mut ops = Sequence::empty(alloc);
+    for line in lines.lines() {
+        ops.push(op(alloc, line)?)?;
+    }
+    Ok(ops)
+}
