@@ -3,6 +3,7 @@
 
 use crate::making::{API, Draft, N1, N2, SERVER, Said, WEB};
 use crate::told::{answers, asks, number_of, replies, reply_to, small_book};
+use crate::wanted::{holds, is_number};
 use entry_book::{Bundle, DropMode, Entry, OpReply};
 use plain_book::PlainBook;
 use std::alloc::Global;
@@ -142,7 +143,7 @@ fn change_to(stage: Stage) -> Said {
 }
 
 /// How many entries the questions list in all.
-fn total_at(stage: Stage) -> usize {
+fn total_at(stage: Stage) -> u64 {
     match stage {
         Stage::Made | Stage::Dissociated => 1197,
         Stage::Pruned => 697,
@@ -284,11 +285,17 @@ fn tells(
 ) -> Result<(), Fail> {
     let reply = answers(alloc, book, questions)?;
     let mut count = 0;
-    assert_eq!(rt; replies(&reply).len(), questions.len());
+    is_number(
+        rt,
+        replies(&reply).len() as u64,
+        questions.len() as u64,
+        "as many replies as questions",
+    );
     for (said, reply) in questions.iter().zip(replies(&reply)) {
-        assert!(rt; is_answer(alloc, (*said, reply), stage, &mut count)?);
+        let is_answer = is_answer(alloc, (*said, reply), stage, &mut count)?;
+        holds(rt, is_answer, "the answer to a question");
     }
-    assert_eq!(rt; count, total_at(stage));
+    is_number(rt, count as u64, total_at(stage), "entries in all");
     Ok(())
 }
 
@@ -321,9 +328,10 @@ fn is_listed(reply: &OpReply, stage: Stage) -> bool {
 /// The operation is committed at the next place, and its reply lists what it did.
 fn changes(rt: &impl Abort, alloc: Global, book: &mut PlainBook, stage: Stage) -> Result<(), Fail> {
     let reply = reply_to(alloc, book, &[change_to(stage)])?;
-    assert_eq!(rt; (reply.place, replies(&reply).len()), (11, 1));
+    is_number(rt, reply.place, 11, "the place");
+    is_number(rt, replies(&reply).len() as u64, 1, "replies");
     for reply in replies(&reply) {
-        assert!(rt; is_listed(reply, stage));
+        holds(rt, is_listed(reply, stage), "what the operation did");
     }
     Ok(())
 }

@@ -9,7 +9,8 @@
 //! - `large`: what a book of over five hundred entries answers.
 //! - `worked`: what a small book answers, batch after batch.
 //! - `pages`: pages of random entries are what a search finds.
-//! - `making`: operations, made of a few words; `told`: what a book answers, in short.
+//! - `making`: operations, made of a few words; `told`: what a book answers, in short; `wanted`: what a test
+//!   wants to see.
 #![tactic(auto)]
 
 #[cfg(test)]
@@ -34,5 +35,7 @@ mod search;
 mod tokens;
 #[cfg(test)]
 mod told;
+#[cfg(test)]
+mod wanted;
 #[cfg(test)]
 mod worked;

@@ -3,6 +3,7 @@
 
 use crate::making::{API, N1, N2, WEB};
 use crate::told::{number_of, run, small_book};
+use crate::wanted::{holds, is_number};
 use entry_book::{
     Batch, DomainSet, Filter, MatchMode, NewEntry, Op, OpReply, Outcome, PageQuery, Reply,
     SelectorMatch, Sequence, Shared, Text,
@@ -42,7 +43,7 @@ struct Row {
 }
 
 /// A filter: the parts that it gives. The mode is an index.
-#[derive(Clone, Copy, Debug, Drop)]
+#[derive(Clone, Copy, Drop)]
 struct Asked {
     parent: Option<usize>,
     identity: Option<usize>,
@@ -271,16 +272,18 @@ fn are_pages_found(
         let count = numbers.len() as u64;
         listed.append(&mut numbers)?;
         let is_more = listed.len() < wanted.len();
-        assert_eq!(rt; next.is_some(), is_more, "{asked:?} {size}");
+        holds(rt, next.is_some() == is_more, "a page after this one");
         if next.is_none() {
-            assert!(rt; count <= size, "{asked:?} {size}");
+            holds(rt, count <= size, "no more than the size");
             break;
         }
-        assert_eq!(rt; count, size, "{asked:?}");
-        assert_eq!(rt; next.map(|id| number_of(&id)), listed.last().copied());
+        is_number(rt, count, size, "a full page");
+        let last = next.map(|id| number_of(&id));
+        holds(rt, last == listed.last().copied(), "the page's last entry");
         from = next;
     }
-    assert_eq!(rt; listed.as_slice(), wanted.as_slice(), "{asked:?} {size}");
+    let is_found = listed.as_slice() == wanted.as_slice();
+    holds(rt, is_found, "the entries that the search finds");
     Ok(())
 }
 
@@ -290,7 +293,7 @@ fn pages_are_what_a_search_finds(rt: HostRuntime) -> Result<(), Fail> {
     let mut state = 7;
     let mut book = small_book(alloc)?;
     let rows = filled(alloc, &mut book, &mut state)?;
-    assert!(rt; rows.len() > 8);
+    holds(&rt, rows.len() > 8, "entries that the book took");
     for _ in 0..40 {
         let asked = random_filter(&mut state);
         let size = below(&mut state, 4).wrapping_add(1) as u64;

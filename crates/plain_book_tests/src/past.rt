@@ -3,6 +3,7 @@
 use crate::making::{Draft, Listing, N1, Said, WEB};
 use crate::rows::bits;
 use crate::told::{Told, answers_with, asks, number_of, replies, reply_to, small_book, told};
+use crate::wanted::{holds, is_told};
 use entry_book::OpReply;
 use plain_book::PlainBook;
 use std::alloc::Global;
@@ -79,8 +80,13 @@ fn lists(
 ) -> Result<(), Fail> {
     let reply = reply_to(alloc, book, &[said])?;
     let (place, bits, next) = want;
-    assert_eq!(rt; told(&reply), (place, "answered", None));
-    assert_eq!(rt; listed(replies(&reply)), Some((bits, next)));
+    is_told(rt, told(&reply), (place, "answered", None));
+    let listed = listed(replies(&reply));
+    holds(
+        rt,
+        listed == Some((bits, next)),
+        "the entries, and the next page",
+    );
     Ok(())
 }
 

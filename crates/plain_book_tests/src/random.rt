@@ -11,6 +11,7 @@ use crate::requests::{
 use crate::rows::{BookRows, are_children_listed, bits, is_lawful, rows_of};
 use crate::search::{bit, ends, has_cycle, is_alias};
 use crate::told::{answers, replies, reply_with, small_book};
+use crate::wanted::holds;
 use entry_book::{Agent, Bundle, DropMode, Entry, OpRefusal, OpReply, Outcome, Refusal, Reply};
 use plain_book::PlainBook;
 use std::alloc::Global;
@@ -18,7 +19,7 @@ use std::process::Abort;
 use std::test::Fail;
 
 /// What came, and how often.
-#[derive(Debug, Drop)]
+#[derive(Drop)]
 struct Counts {
     committed: u64,
     answered: u64,
@@ -278,11 +279,15 @@ fn round(
     let request = request(alloc, state, past, place)?;
     let reply = reply_with(alloc, book, &request.said, (request.after, request.token))?;
     count(&request.said, &reply, counts);
-    assert!(rt; is_told_before(&request, &reply, past, place));
-    assert!(rt; are_listed(&request.said, &reply, past));
-    assert!(rt; are_repeated(&request, &reply, past));
+    holds(
+        rt,
+        is_told_before(&request, &reply, past, place),
+        "what is told before",
+    );
+    holds(rt, are_listed(&request.said, &reply, past), "the pages");
+    holds(rt, are_repeated(&request, &reply, past), "the repeat");
     let rows = rows_of(alloc, book)?;
-    assert!(rt; are_right(&request.said, &reply, &rows));
+    holds(rt, are_right(&request.said, &reply, &rows), "the replies");
     judge(rt, alloc, book, &rows, counts)?;
     keep(past, request, reply, rows)
 }
@@ -295,9 +300,11 @@ fn judge(
     rows: &BookRows,
     counts: &mut Counts,
 ) -> Result<(), Fail> {
-    assert!(rt; is_lawful(rows, book.place()));
-    assert!(rt; are_children_listed(alloc, book, rows)?);
-    assert!(rt; are_told(alloc, book, rows, counts)?);
+    holds(rt, is_lawful(rows, book.place()), "a lawful book");
+    let are_listed = are_children_listed(alloc, book, rows)?;
+    holds(rt, are_listed, "the children of each parent");
+    let are_told = are_told(alloc, book, rows, counts)?;
+    holds(rt, are_told, "what each agent is told");
     Ok(())
 }
 
@@ -320,6 +327,6 @@ fn random_requests_keep_the_book_lawful_and_are_told_what_a_search_finds(
             &mut past,
         )?;
     }
-    assert!(rt; each_came(&counts), "{counts:?}");
+    holds(&rt, each_came(&counts), "each of the counts");
     Ok(())
 }

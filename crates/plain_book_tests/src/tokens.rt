@@ -2,6 +2,7 @@
 
 use crate::making::{N1, N2, Said, uuid_of};
 use crate::told::{Told, answers_with, asks, replies, reply_with, run, small_book, told};
+use crate::wanted::{holds, is_told};
 use entry_book::{Agent, Batch, Op, OpReply, Sequence, Shared};
 use plain_book::PlainBook;
 use spiffe_name::{Selector, SelectorSet, SpiffeId};
@@ -38,8 +39,9 @@ fn is_set_and_shown(replies: &[OpReply]) -> bool {
 fn a_batch_given_again_with_its_token_is_answered_as_at_first(rt: HostRuntime) -> Result<(), Fail> {
     let mut book = book_without(&rt, rt.alloc())?;
     let again = reply_with(rt.alloc(), &mut book, &SET, SEVEN)?;
-    assert_eq!(rt; told(&again), (1, "repeated", None));
-    assert!(rt; is_set_and_shown(replies(&again)));
+    is_told(&rt, told(&again), (1, "repeated", None));
+    let is_again = is_set_and_shown(replies(&again));
+    holds(&rt, is_again, "the replies of the first time");
     let show = [Said::Authorised(N1)];
     asks(&rt, rt.alloc(), &mut book, &show, (2, "O7", Some(0)))
 }
@@ -112,10 +114,10 @@ fn sets(alloc: Global, book: &mut PlainBook, texts: [&str; 2]) -> Result<Told, F
 fn sets_in_another_order_are_the_same_operations(rt: HostRuntime) -> Result<(), Fail> {
     let mut book = small_book(rt.alloc())?;
     let first = sets(rt.alloc(), &mut book, ["u:1", "u:2"])?;
-    assert_eq!(rt; first, (1, "committed", None));
+    is_told(&rt, first, (1, "committed", None));
     let again = sets(rt.alloc(), &mut book, ["u:2", "u:1"])?;
-    assert_eq!(rt; again, (1, "repeated", None));
+    is_told(&rt, again, (1, "repeated", None));
     let other = sets(rt.alloc(), &mut book, ["u:2", "u:3"])?;
-    assert_eq!(rt; other, (1, "O9", None));
+    is_told(&rt, other, (1, "O9", None));
     Ok(())
 }

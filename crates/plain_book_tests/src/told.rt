@@ -3,6 +3,7 @@
 ghost use Rattle.std.specs.Prelude.{◌≡◌};
 
 use crate::making::{Said, ops, trust_domain, uuid_of};
+use crate::wanted::is_told;
 use entry_book::{Batch, OpReply, Outcome, Reply};
 use plain_book::PlainBook;
 use std::alloc::Global;
@@ -91,7 +92,7 @@ pub fn answers_with(
     want: Told,
 ) -> Result<(), Fail> {
     let reply = reply_with(alloc, book, said, given)?;
-    assert_eq!(rt; told(&reply), want);
+    is_told(rt, told(&reply), want);
     Ok(())
 }
 
@@ -103,7 +104,5 @@ pub fn asks(
     said: &[Said],
     want: Told,
 ) -> Result<(), Fail> {
-    let reply = reply_to(alloc, book, said)?;
-    assert_eq!(rt; told(&reply), want);
-    Ok(())
+    answers_with(rt, alloc, book, said, (0, None), want)
 }

@@ -2,6 +2,7 @@
 
 use crate::making::{API, Draft, N1, Said, WEB};
 use crate::told::{Told, asks, small_book};
+use crate::wanted::holds;
 use entry_book::DropMode;
 use plain_book::PlainBook;
 use std::alloc::Global;
@@ -106,20 +107,20 @@ fn is_at(book: &PlainBook, place: u64, domain: &str) -> bool {
 #[test]
 fn places_count_the_batches_that_are_committed(rt: HostRuntime) -> Result<(), Fail> {
     let book = goes(&rt, rt.alloc(), &PLACES)?;
-    assert!(rt; is_at(&book, 2, "ex.org"));
+    holds(&rt, is_at(&book, 2, "ex.org"), "the place and the domain");
     Ok(())
 }
 
 #[test]
 fn an_id_is_taken_by_an_entry_of_the_same_batch(rt: HostRuntime) -> Result<(), Fail> {
     let book = goes(&rt, rt.alloc(), &IDS)?;
-    assert!(rt; is_at(&book, 1, "ex.org"));
+    holds(&rt, is_at(&book, 1, "ex.org"), "the place and the domain");
     Ok(())
 }
 
 #[test]
 fn a_bundle_is_dropped_once_its_user_is_deleted(rt: HostRuntime) -> Result<(), Fail> {
     let book = goes(&rt, rt.alloc(), &BUNDLES)?;
-    assert!(rt; is_at(&book, 2, "ex.org"));
+    holds(&rt, is_at(&book, 2, "ex.org"), "the place and the domain");
     Ok(())
 }

@@ -2,6 +2,7 @@
 
 ghost use Rattle.std.specs.Prelude.{◌≡◌};
 
+use crate::wanted::is_text;
 use plain_book::PlainBook;
 use reg_lines::{
     CallReply, CountedDevice, Ids, LineRefusal, Output, PrintJson, print_line, read_request,
@@ -101,7 +102,7 @@ pub(crate) fn is_answered(
     want: &str,
 ) -> Result<(), Fail> {
     let got = answer(alloc, line, number)?;
-    assert_eq!(rt; got.as_str(), want, "a line of {} bytes", line.len());
+    is_text(rt, got.as_str(), want, "a line of bytes");
     Ok(())
 }
 
@@ -113,7 +114,7 @@ pub(crate) fn prints<T: PrintJson>(
     want: &str,
 ) -> Result<(), Fail> {
     let got = printed(alloc, value)?;
-    assert_eq!(rt; got.as_str(), want);
+    is_text(rt, got.as_str(), want, "a value that is printed");
     Ok(())
 }
 
@@ -129,7 +130,7 @@ fn answers_case(rt: &impl Abort, alloc: Global, case: &str) -> Result<(), Fail> 
     if let Some((text, want)) = case.split_once(" => ") {
         let line = line_of(alloc, text)?;
         let got = answer(alloc, &line, 1)?;
-        assert_eq!(rt; got.as_str(), want, "{text}");
+        is_text(rt, got.as_str(), want, text);
     }
     Ok(())
 }
@@ -153,7 +154,7 @@ fn is_answered_on(
 ) -> Result<(), Fail> {
     let line = line_of(alloc, text)?;
     let got = answer_on(alloc, book, ids, &line, number, number)?;
-    assert_eq!(rt; got.as_str(), want, "{text}");
+    is_text(rt, got.as_str(), want, text);
     Ok(())
 }
 

@@ -3,6 +3,7 @@
 ghost use Rattle.std.specs.Prelude.{◌<◌, ◌^◌};
 
 use crate::engine::{Ended, number_lines, number_text};
+use crate::wanted::{holds, holds_at};
 use reg_lines::{CountedDevice, Input, KEPT_BYTES, Line, Output};
 use std::alloc::{AllocError, Global};
 use std::process::Abort;
@@ -43,7 +44,7 @@ fn memory_never_fails(rt: HostRuntime) -> Result<(), Fail> {
     let mut line = Line::new(rt.alloc())?;
     match number_text(rt.alloc(), TEXT, &mut line, 100) {
         Ok(numbered) => {
-            assert_eq!(rt; numbered.as_slice(), NUMBERED);
+            holds(&rt, numbered.as_slice() == NUMBERED, "all lines");
             Ok(())
         }
         Err(Ended::Input) => Err(Fail::from("a failed read")),
@@ -55,9 +56,18 @@ fn memory_never_fails(rt: HostRuntime) -> Result<(), Fail> {
 fn lines_after_the_last_one_are_left(rt: HostRuntime) -> Result<(), Fail> {
     let mut giver = Giver::new(TEXT, Pace::Byte, Trouble::NONE);
     let mut taker = roomy_taker(rt.alloc(), NUMBERED.len(), Pace::All, Trouble::NONE)?;
-    assert_eq!(rt; run(rt.alloc(), &mut giver, &mut taker, 2)?, Ok(()));
-    assert_eq!(rt; taker.bytes.as_slice(), b"1:one\n2:\n".as_slice());
-    assert_eq!(rt; giver.rest, b"two\r\nthree\nlast".as_slice());
+    let ended = run(rt.alloc(), &mut giver, &mut taker, 2)?;
+    holds(&rt, ended.is_ok(), "two lines");
+    holds(
+        &rt,
+        taker.bytes.as_slice() == b"1:one\n2:\n".as_slice(),
+        "what is written",
+    );
+    holds(
+        &rt,
+        giver.rest == b"two\r\nthree\nlast".as_slice(),
+        "what is left",
+    );
     Ok(())
 }
 
@@ -66,8 +76,14 @@ fn is_numbered(rt: &impl Abort, alloc: Global, call: u64) -> Result<(), Fail> {
     let mut giver = Giver::new(TEXT, Pace::Byte, Trouble::interrupted_at(call));
     let trouble = Trouble::interrupted_at(call);
     let mut taker = roomy_taker(alloc, NUMBERED.len(), Pace::Byte, trouble)?;
-    assert_eq!(rt; run(alloc, &mut giver, &mut taker, 100)?, Ok(()));
-    assert_eq!(rt; taker.bytes.as_slice(), NUMBERED, "call {call}");
+    let ended = run(alloc, &mut giver, &mut taker, 100)?;
+    holds_at(rt, ended.is_ok(), "ends well at", call);
+    holds_at(
+        rt,
+        taker.bytes.as_slice() == NUMBERED,
+        "is numbered at",
+        call,
+    );
     Ok(())
 }
 
@@ -87,9 +103,9 @@ fn a_writer_that_takes_nothing_has_failed(rt: HostRuntime) -> Result<(), Fail> {
     let mut input = Input::new(CountedDevice::new(&mut giver));
     let mut output = Output::new(CountedDevice::new(full.as_mut_slice()));
     let ended = number_lines(&mut input, &mut output, &mut line, 100);
-    assert_eq!(rt; ended, Err(Ended::Output));
+    holds(&rt, ended == Err(Ended::Output), "a full writer");
     drop(output);
-    assert_eq!(rt; full, *b"1:one");
+    holds(&rt, full == *b"1:one", "what it took");
     Ok(())
 }
 
@@ -118,7 +134,12 @@ const KEPT: [(usize, usize); 4] = [
 #[test]
 fn of_a_long_line_the_front_is_kept_and_the_rest_passed_over(rt: HostRuntime) -> Result<(), Fail> {
     for (len, kept) in KEPT {
-        assert_eq!(rt; long_line(rt.alloc(), len)?, (kept, true), "{len} bytes");
+        holds_at(
+            &rt,
+            long_line(rt.alloc(), len)? == (kept, true),
+            "bytes",
+            len as u64,
+        );
     }
     Ok(())
 }
@@ -142,9 +163,9 @@ fn comes_out(rt: &impl Abort, alloc: Global, bytes: &[u8], len: usize) -> Result
         output.put(piece);
     }
     output.flush();
-    assert!(rt; !output.has_failed());
+    holds_at(rt, !output.has_failed(), "pieces of", len as u64);
     drop(output);
-    assert_eq!(rt; taker.bytes.as_slice(), bytes, "pieces of {len}");
+    holds_at(rt, taker.bytes.as_slice() == bytes, "pieces of", len as u64);
     Ok(())
 }
 
@@ -167,6 +188,10 @@ fn a_flush_is_a_call_of_the_device(rt: HostRuntime) -> Result<(), Fail> {
     output.flush();
     drop(output);
     // a write and a flush for each
-    assert_eq!(rt; (taker.calls, taker.flushes), (4, 2));
+    holds(
+        &rt,
+        (taker.calls, taker.flushes) == (4, 2),
+        "calls and flushes",
+    );
     Ok(())
 }

@@ -2,6 +2,7 @@
 
 use crate::answers::{line_of, new_ids, printed, trust_domain};
 use crate::spelled::with_batch;
+use crate::wanted::is_text;
 use call_machine::Event;
 use reg_lines::{Ids, read_event};
 use spiffe_name::Failure;
@@ -44,7 +45,7 @@ fn spells(rt: &impl Abort, alloc: Global, table: &str) -> Result<(), Fail> {
         if let Some((text, want)) = case.split_once(" => ") {
             let line = line_of(alloc, text)?;
             let got = spelled(alloc, &mut ids, &line, 1)?;
-            assert_eq!(rt; got.as_str(), want, "{text}");
+            is_text(rt, got.as_str(), want, text);
         }
     }
     Ok(())
@@ -197,7 +198,7 @@ const FRAMES: [(&[u8], &str); 3] = [
 fn frames_are_told(rt: &impl Abort, alloc: Global) -> Result<(), Fail> {
     for (line, want) in FRAMES {
         let got = spelled(alloc, &mut new_ids(), line, 7)?;
-        assert_eq!(rt; got.as_str(), want);
+        is_text(rt, got.as_str(), want, "an event");
     }
     Ok(())
 }
@@ -208,7 +209,7 @@ fn long_is_told(rt: &impl Abort, alloc: Global, len: usize, want: &str) -> Resul
     line.resize(len, b' ')?;
     line.push(b'\n')?;
     let got = spelled(alloc, &mut new_ids(), &line, 7)?;
-    assert_eq!(rt; got.as_str(), want);
+    is_text(rt, got.as_str(), want, "an event");
     Ok(())
 }
 

@@ -11,6 +11,7 @@
 //! - `texts` and `replies`: what is printed, by `answers`, which runs a plain book on lines.
 //! - `bytes`: lines of memory, of devices that are interrupted, and of one that is full, by the engine of `engine`. What it
 //!   answers stands in `specs/Numbered.antt`.
+//! - `wanted`: what a test wants to see.
 #![tactic(auto)]
 
 #[cfg(test)]
@@ -45,3 +46,5 @@ mod spelled;
 mod texts;
 #[cfg(test)]
 mod tokens;
+#[cfg(test)]
+mod wanted;

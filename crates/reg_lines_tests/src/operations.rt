@@ -2,6 +2,7 @@
 
 use crate::answers::new_ids;
 use crate::spelled::{spelled, spells, spells_with};
+use crate::wanted::{holds_at, is_text};
 use std::alloc::Global;
 use std::process::Abort;
 use std::test::Fail;
@@ -255,7 +256,7 @@ fn begins(
     want: &str,
 ) -> Result<(), Fail> {
     let got = with_text(alloc, before, count)?;
-    assert!(rt; got.starts_with(want), "{count}");
+    holds_at(rt, got.starts_with(want), want, count as u64);
     Ok(())
 }
 
@@ -267,7 +268,7 @@ fn refuses(
     want: &str,
 ) -> Result<(), Fail> {
     let got = with_text(alloc, before, count)?;
-    assert_eq!(rt; got.as_str(), want, "{count}");
+    is_text(rt, got.as_str(), want, before);
     Ok(())
 }
 

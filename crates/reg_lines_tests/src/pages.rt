@@ -2,6 +2,7 @@
 
 use crate::answers::printed;
 use crate::spelled::spells;
+use crate::wanted::is_text;
 use entry_book::{OpReply, Sequence};
 use std::test::Fail;
 use uuid::Uuid;
@@ -89,7 +90,7 @@ fn the_id_after_which_the_next_page_begins_is_printed_or_null(rt: HostRuntime) -
         ),
     ] {
         let reply = OpReply::Page(Sequence::empty(rt.alloc()), next);
-        assert_eq!(rt; printed(rt.alloc(), &reply)?.as_str(), text);
+        is_text(&rt, printed(rt.alloc(), &reply)?.as_str(), text, "a page");
     }
     Ok(())
 }

@@ -1,6 +1,7 @@
 //! What is printed for the record of a call, and is it read as what it tells?
 
 use crate::answers::{failure_of, line_of, new_book, new_ids, printed, trust_domain};
+use crate::wanted::{holds, is_text};
 use call_machine::{CallAnswer, KnownCall};
 use entry_book::{Batch, Reply};
 use plain_book::PlainBook;
@@ -81,7 +82,7 @@ fn told(alloc: Global, line: &[u8], number: u64) -> Result<String, Fail> {
 fn tells(rt: &impl Abort, alloc: Global, text: &str, want: &str) -> Result<(), Fail> {
     let line = line_of(alloc, text)?;
     let got = told(alloc, &line, 1)?;
-    assert_eq!(rt; got.as_str(), want, "{text}");
+    is_text(rt, got.as_str(), want, text);
     Ok(())
 }
 
@@ -96,7 +97,7 @@ fn is_recorded(
 ) -> Result<(), Fail> {
     let line = line_of(alloc, text)?;
     let got = recorded(alloc, book, ids, &line, call)?;
-    assert_eq!(rt; got.as_str(), want, "{text}");
+    is_text(rt, got.as_str(), want, text);
     tells(rt, alloc, want, want)
 }
 
@@ -156,12 +157,16 @@ fn a_call_has_a_record_once_it_has_a_reply(rt: HostRuntime) -> Result<(), Fail> 
     let Some(got) = known_text(alloc, &batch, Some(CallAnswer::Replied(&reply)))? else {
         return Err(Fail::from("no record"));
     };
-    assert_eq!(rt; got.as_str(), NOT_REPLIED);
+    is_text(
+        &rt,
+        got.as_str(),
+        NOT_REPLIED,
+        "a call that has not replied",
+    );
     tells(&rt, alloc, NOT_REPLIED, NOT_REPLIED)?;
-    for answer in [None, Some(CallAnswer::Conflict(0))] {
-        let got = known_text(alloc, &batch, answer)?;
-        assert!(rt; got.is_none());
-    }
+    let unanswered = known_text(alloc, &batch, None)?;
+    let refused = known_text(alloc, &batch, Some(CallAnswer::Conflict(0)))?;
+    holds(&rt, unanswered.is_none() && refused.is_none(), "no record");
     Ok(())
 }
 
@@ -203,7 +208,12 @@ fn a_line_that_is_no_record_is_refused(rt: HostRuntime) -> Result<(), Fail> {
         }
     }
     let got = told(alloc, NOT_REPLIED.as_bytes(), 12)?;
-    assert_eq!(rt; got.as_str(), r#"{"code":"L3","line":12}"#);
+    is_text(
+        &rt,
+        got.as_str(),
+        r#"{"code":"L3","line":12}"#,
+        "a line that is cut",
+    );
     Ok(())
 }
 

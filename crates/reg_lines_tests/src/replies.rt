@@ -4,6 +4,7 @@ use crate::answers::{
     answer, answers, answers_in_a_row, is_answered, new_book, printed, prints, trust_domain,
     without_memory,
 };
+use crate::wanted::{holds, is_text};
 use entry_book::{
     Batch, DomainSet, Limit, NewEntry, Op, OpRefusal, Outcome, Refusal, Reply, Sequence, Shared,
     Text,
@@ -100,7 +101,7 @@ const NO_FORMS: [&str; 3] = [
 fn are_created(rt: &impl Abort, alloc: Global, ids: &[&str], want: &str) -> Result<(), Fail> {
     for id in ids {
         let got = created(alloc, id)?;
-        assert_eq!(rt; got.as_str(), want, "{id}");
+        is_text(rt, got.as_str(), want, id);
     }
     Ok(())
 }
@@ -174,14 +175,14 @@ fn with_escapes(alloc: Global, count: usize) -> Result<String, Fail> {
 /// The answer to so many escapes begins so.
 fn begins(rt: &impl Abort, alloc: Global, count: usize, want: &str) -> Result<(), Fail> {
     let got = with_escapes(alloc, count)?;
-    assert!(rt; got.starts_with(want), "{got}");
+    holds(rt, got.starts_with(want), got.as_str());
     Ok(())
 }
 
 /// The answer to so many escapes is this.
 fn refuses(rt: &impl Abort, alloc: Global, count: usize, want: &str) -> Result<(), Fail> {
     let got = with_escapes(alloc, count)?;
-    assert_eq!(rt; got.as_str(), want);
+    is_text(rt, got.as_str(), want, "a reply");
     Ok(())
 }
 
@@ -322,7 +323,7 @@ fn a_refusal_of_the_whole_batch_names_no_operation(rt: HostRuntime) -> Result<()
         ),
     ] {
         let got = refused_text(rt.alloc(), place, refusal)?;
-        assert_eq!(rt; got.as_str(), want);
+        is_text(&rt, got.as_str(), want, "a refusal");
     }
     Ok(())
 }
@@ -331,6 +332,6 @@ fn a_refusal_of_the_whole_batch_names_no_operation(rt: HostRuntime) -> Result<()
 fn a_book_that_is_gone_is_told_of_its_page(rt: HostRuntime) -> Result<(), Fail> {
     let got = refused_text(rt.alloc(), 70, Refusal::OfOp(0, OpRefusal::VersionGone))?;
     let want = r#"{"call":3,"code":"O8","op":0,"place":70,"result":"refused"}"#;
-    assert_eq!(rt; got.as_str(), want);
+    is_text(&rt, got.as_str(), want, "a refusal");
     Ok(())
 }

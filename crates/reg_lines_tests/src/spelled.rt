@@ -1,6 +1,7 @@
 //! Which operations does a line spell, in a text that tables tell?
 
 use crate::answers::{line_of, new_ids, printed, trust_domain};
+use crate::wanted::is_text;
 use entry_book::{Batch, NewEntry, Op, PageQuery, SelectorMatch};
 use reg_lines::{Ids, PrintJson, Request, read_request};
 use spiffe_name::Failure;
@@ -176,7 +177,7 @@ fn is_spelled(
 ) -> Result<(), Fail> {
     let line = line_of(alloc, text)?;
     let got = spelled(alloc, ids, &line, number)?;
-    assert_eq!(rt; got.as_str(), want, "{text}");
+    is_text(rt, got.as_str(), want, text);
     Ok(())
 }
 

@@ -5,6 +5,7 @@
 //! - `worked`: the marks of small books, told by tables. `playing` plays a table, `marks` makes the marks that it asks for.
 //! - `random`: long histories of random operations, beside plain lists of their rows, which `listed` has.
 //! - `running`: the writes of an operation, found by reading a version.
+//! - `wanted`: what a test wants to see.
 #![tactic(auto)]
 
 #[cfg(test)]
@@ -17,5 +18,7 @@ mod playing;
 mod random;
 #[cfg(test)]
 mod running;
+#[cfg(test)]
+mod wanted;
 #[cfg(test)]
 mod worked;

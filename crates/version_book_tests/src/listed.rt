@@ -110,63 +110,74 @@ pub fn are_hit(mark: &Mark, changes: &Changes) -> bool {
         .any(|write| is_hit(mark.kind(), write))
 }
 
-/// An entry: all in which two entries of one number differ here, but for hint and times to live, which come of these.
-fn entry_text(alloc: Global, entry: &Entry) -> Result<String, Fail> {
+/// Adds a word to the text.
+fn add_word(text: &mut String, word: &str) -> Result<(), Fail> {
+    text.push_str(" ")?;
+    Ok(text.push_str(word)?)
+}
+
+/// Adds an entry: all in which two entries of one number differ here, but for hint and times to live, which come of these.
+fn add_entry(alloc: Global, text: &mut String, entry: &Entry) -> Result<(), Fail> {
     let (number, revision) = (number_of(entry.id()), entry.revision());
     let (parent, identity) = (
         entry.parent().get().as_str(),
         entry.identity().get().as_str(),
     );
     let expiry = entry.expiry();
-    let mut text = format!(in alloc; " {number}.{revision} {parent} {identity} {expiry}")?;
+    let told = format!(in alloc; " {number}.{revision} {parent} {identity} {expiry}")?;
+    text.push_str(told.as_str())?;
     for domain in entry.domains().as_slice() {
-        text.push_str(" ")?;
-        text.push_str(domain.get().as_str())?;
+        add_word(text, domain.get().as_str())?;
     }
-    Ok(text)
+    Ok(())
 }
 
-fn agent_text(alloc: Global, agent: &Agent) -> Result<String, Fail> {
-    let id = agent.id.get().as_str();
-    let mut text = format!(in alloc; " {id}")?;
+fn add_agent(text: &mut String, agent: &Agent) -> Result<(), Fail> {
+    add_word(text, agent.id.get().as_str())?;
     for selector in agent.selectors.get().as_slice() {
-        text.push_str(" ")?;
-        text.push_str(selector.as_str())?;
+        add_word(text, selector.as_str())?;
     }
-    Ok(text)
+    Ok(())
 }
 
-fn bundle_text(alloc: Global, bundle: &Bundle) -> Result<String, Fail> {
+fn add_bundle(alloc: Global, text: &mut String, bundle: &Bundle) -> Result<(), Fail> {
     let (domain, sequence) = (bundle.domain.get().as_str(), bundle.sequence);
-    Ok(format!(in alloc; " {domain} {sequence}")?)
+    let told = format!(in alloc; " {domain} {sequence}")?;
+    Ok(text.push_str(told.as_str())?)
 }
 
-/// What is kept under a token: its number, and how many operations.
-fn kept_text(alloc: Global, token: &Uuid, ops: usize) -> Result<String, Fail> {
+/// Adds what is kept under a token: its number, and how many operations.
+fn add_kept(alloc: Global, text: &mut String, token: &Uuid, ops: usize) -> Result<(), Fail> {
     let number = number_of(token);
-    Ok(format!(in alloc; " token {number} {ops}")?)
+    let told = format!(in alloc; " token {number} {ops}")?;
+    Ok(text.push_str(told.as_str())?)
 }
 
-fn kept_batch_text(alloc: Global, kept: &KeptBatch) -> Result<String, Fail> {
-    kept_text(alloc, &kept.token, kept.ops.get().as_slice().len())
+fn add_kept_batch(alloc: Global, text: &mut String, kept: &KeptBatch) -> Result<(), Fail> {
+    add_kept(alloc, text, &kept.token, kept.ops.get().as_slice().len())
+}
+
+fn add_reading(alloc: Global, text: &mut String, reading: &RowsRead) -> Result<(), Fail> {
+    for entry in reading.entries() {
+        add_entry(alloc, text, entry)?;
+    }
+    for agent in reading.agents() {
+        add_agent(text, agent)?;
+    }
+    for bundle in reading.bundles() {
+        add_bundle(alloc, text, bundle)?;
+    }
+    for kept in reading.tokens() {
+        add_kept_batch(alloc, text, kept)?;
+    }
+    Ok(())
 }
 
 /// What was read, row by row: all in which rows of these tests differ but for the place of what is kept under a token,
 /// which is open in writes.
 pub fn reading_text(alloc: Global, reading: &RowsRead) -> Result<String, Fail> {
     let mut text = String::new(alloc);
-    for entry in reading.entries() {
-        text.push_str(entry_text(alloc, entry)?.as_str())?;
-    }
-    for agent in reading.agents() {
-        text.push_str(agent_text(alloc, agent)?.as_str())?;
-    }
-    for bundle in reading.bundles() {
-        text.push_str(bundle_text(alloc, bundle)?.as_str())?;
-    }
-    for kept in reading.tokens() {
-        text.push_str(kept_batch_text(alloc, kept)?.as_str())?;
-    }
+    add_reading(alloc, &mut text, reading)?;
     Ok(text)
 }
 
@@ -233,42 +244,46 @@ impl Listed {
         Ok(true)
     }
 
-    /// The rows that a mark names, told likewise, in the order of the numbers of ids, which are 1 to 6.
-    pub fn text(&self, alloc: Global, mark: &Mark) -> Result<String, Fail> {
-        let named = mark.kind();
-        let mut text = String::new(alloc);
+    /// Adds the rows that a mark of this kind names, the entries in the order of the numbers of ids, which are 1 to 6.
+    fn add_named(&self, alloc: Global, text: &mut String, named: &MarkKind) -> Result<(), Fail> {
         for number in 1..7 {
             for entry in &self.entries {
                 if number_of(entry.id()) == number && names_entry(named, entry) {
-                    text.push_str(entry_text(alloc, entry)?.as_str())?;
+                    add_entry(alloc, text, entry)?;
                 }
             }
         }
         for agent in &self.agents {
             if names_agent(named, agent) {
-                text.push_str(agent_text(alloc, agent)?.as_str())?;
+                add_agent(text, agent)?;
             }
         }
         for bundle in &self.bundles {
             if names_bundle(named, bundle) {
-                text.push_str(bundle_text(alloc, bundle)?.as_str())?;
+                add_bundle(alloc, text, bundle)?;
             }
         }
         for kept in &self.tokens {
             if names_token(named, &kept.token) {
-                text.push_str(kept_text(alloc, &kept.token, kept.ops)?.as_str())?;
+                add_kept(alloc, text, &kept.token, kept.ops)?;
             }
         }
+        Ok(())
+    }
+
+    /// The rows that a mark names, told likewise.
+    pub fn text(&self, alloc: Global, mark: &Mark) -> Result<String, Fail> {
+        let mut text = String::new(alloc);
+        self.add_named(alloc, &mut text, mark.kind())?;
         Ok(text)
     }
 
-    /// How many rows of each kind there are.
-    pub fn counts(&self) -> (usize, usize, usize, usize) {
-        (
-            self.entries.len(),
-            self.agents.len(),
-            self.bundles.len(),
-            self.tokens.len(),
-        )
+    /// Has the version as many rows of each kind?
+    pub fn are_counted(&self, version: &Version) -> bool {
+        let count = version.count();
+        self.entries.len() == count.entries
+            && self.agents.len() == count.agents
+            && self.bundles.len() == count.bundles
+            && self.tokens.len() == count.tokens
     }
 }

@@ -2,6 +2,7 @@
 
 use crate::marks::mark_of;
 use crate::running::{changes_of, next_of};
+use crate::wanted::{holds, is_text};
 use batch_texts::{batch, number, trust_domain, word, words};
 use entry_book::{Agent, Bundle, Entry, KeptBatch};
 use std::alloc::Global;
@@ -60,50 +61,59 @@ pub fn go_on(alloc: Global, steps: &mut Vec<Step>, text: &str) -> Result<bool, F
     }
 }
 
-/// An entry as its number and, after a dot, its revision.
-fn entry(alloc: Global, entry: &Entry) -> Result<String, Fail> {
+/// Adds an entry as its number and, after a dot, its revision.
+fn add_entry(alloc: Global, text: &mut String, entry: &Entry) -> Result<(), Fail> {
     let number = number_of(entry.id());
     let revision = entry.revision();
-    Ok(format!(in alloc; " {number}.{revision}")?)
+    let told = format!(in alloc; " {number}.{revision}")?;
+    Ok(text.push_str(told.as_str())?)
 }
 
-/// What is kept under a token: how many operations, and at which place.
-fn kept_text(alloc: Global, kept: &KeptBatch) -> Result<String, Fail> {
+/// Adds a row of this kind, as a number.
+fn add_row(alloc: Global, text: &mut String, kind: &str, number: u64) -> Result<(), Fail> {
+    let told = format!(in alloc; " {kind} {number}")?;
+    Ok(text.push_str(told.as_str())?)
+}
+
+/// Adds what is kept under a token: how many operations, and at which place.
+fn add_kept(alloc: Global, text: &mut String, kept: &KeptBatch) -> Result<(), Fail> {
     let (ops, place) = (kept.ops.get().as_slice().len(), kept.place);
-    Ok(format!(in alloc; " {ops} ops at {place}")?)
+    let told = format!(in alloc; " {ops} ops at {place}")?;
+    Ok(text.push_str(told.as_str())?)
 }
 
-/// Rows one by one: an agent is told as the count of its selectors, a bundle as its sequence.
-fn rows_text(
+/// Adds rows one by one: an agent is told as the count of its selectors, a bundle as its sequence.
+fn add_rows(
     alloc: Global,
+    text: &mut String,
     entries: &[Entry],
     agents: &[Agent],
     bundles: &[Bundle],
     tokens: &[KeptBatch],
-) -> Result<String, Fail> {
-    let mut text = String::new(alloc);
-    for row in entries {
-        text.push_str(entry(alloc, row)?.as_str())?;
+) -> Result<(), Fail> {
+    for entry in entries {
+        add_entry(alloc, text, entry)?;
     }
     for agent in agents {
-        let count = agent.selectors.get().len();
-        text.push_str(format!(in alloc; " agent {count}")?.as_str())?;
+        add_row(alloc, text, "agent", agent.selectors.get().len() as u64)?;
     }
     for bundle in bundles {
-        let sequence = bundle.sequence;
-        text.push_str(format!(in alloc; " bundle {sequence}")?.as_str())?;
+        add_row(alloc, text, "bundle", bundle.sequence)?;
     }
     for kept in tokens {
-        text.push_str(kept_text(alloc, kept)?.as_str())?;
+        add_kept(alloc, text, kept)?;
     }
-    Ok(text)
+    Ok(())
 }
 
 /// What a version reads at a mark.
 fn told(alloc: Global, version: &Version, mark: &Mark) -> Result<String, Fail> {
     let reading = version.read(mark)?;
     let (entries, agents) = (reading.entries(), reading.agents());
-    rows_text(alloc, entries, agents, reading.bundles(), reading.tokens())
+    let (bundles, tokens) = (reading.bundles(), reading.tokens());
+    let mut text = String::new(alloc);
+    add_rows(alloc, &mut text, entries, agents, bundles, tokens)?;
+    Ok(text)
 }
 
 /// The same of the version's clone at the mark's clone, which has to name the same, by rows that are handed over.
@@ -116,13 +126,9 @@ fn told_by_clone(alloc: Global, version: &Version, mark: &Mark) -> Result<String
     let agents = copy.read(&copied_mark)?.into_agents();
     let bundles = copy.read(&copied_mark)?.into_bundles();
     let tokens = copy.read(&copied_mark)?.into_tokens();
-    rows_text(
-        alloc,
-        entries.as_slice(),
-        agents.as_slice(),
-        bundles.as_slice(),
-        tokens.as_slice(),
-    )
+    let mut text = String::new(alloc);
+    add_rows(alloc, &mut text, &entries, &agents, &bundles, &tokens)?;
+    Ok(text)
 }
 
 fn told_count(alloc: Global, version: &Version) -> Result<String, Fail> {
@@ -175,9 +181,10 @@ fn plays_line(
 ) -> Result<(), Fail> {
     if let Some((question, want)) = line.split_once(" =>") {
         let got = answer(alloc, steps.as_slice(), question)?;
-        assert_eq!(rt; got.as_str(), want, "{line}");
+        is_text(rt, got.as_str(), want, line);
     } else if !line.is_empty() {
-        assert!(rt; go_on(alloc, steps, line)?, "refused: {line}");
+        let is_accepted = go_on(alloc, steps, line)?;
+        holds(rt, is_accepted, line);
     }
     Ok(())
 }

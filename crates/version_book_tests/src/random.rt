@@ -3,6 +3,7 @@
 use crate::listed::{Listed, are_hit, read_text, reading_text};
 use crate::marks::mark_of;
 use crate::playing::{Step, first_step, go_on};
+use crate::wanted::{holds, is_text};
 use batch_texts::below;
 use std::alloc::Global;
 use std::process::Abort;
@@ -193,7 +194,8 @@ fn count_of(played: &Played, (start, end): (&str, &str), least: usize) -> usize 
 
 /// Does this come, so that at least so many rows are written?
 fn comes(rt: &impl Abort, played: &Played, words: (&str, &str), least: usize) {
-    assert!(rt; count_of(played, words, least) > 0, "{words:?}");
+    let (start, _) = words;
+    holds(rt, count_of(played, words, least) > 0, start);
 }
 
 /// Every operation came alone and wrote something, and each way to drop a bundle met its users where it takes notice.
@@ -217,18 +219,9 @@ fn are_read(
     for mark in marks {
         let got = read_text(alloc, &step.version, mark)?;
         let want = listed.text(alloc, mark)?;
-        assert_eq!(rt; got.as_str(), want.as_str());
+        is_text(rt, got.as_str(), want.as_str(), "at a mark");
     }
     Ok(())
-}
-
-/// The version has as many rows as the lists.
-fn are_counted(rt: &impl Abort, step: &Step, listed: &Listed) {
-    let count = step.version.count();
-    assert_eq!(rt;
-        (count.entries, count.agents, count.bundles, count.tokens),
-        listed.counts()
-    );
 }
 
 /// Each version reads what the lists have; answers how many rows were written at once, at most.
@@ -244,21 +237,32 @@ fn are_as_listed(
         listed.apply(&step.changes, step.version.number())?;
         longest = step.changes.len().max(longest);
         are_read(rt, alloc, step, &listed, marks)?;
-        are_counted(rt, step, &listed);
-        assert!(rt; listed.are_placed(&step.version)?);
+        holds(rt, listed.are_counted(&step.version), "the counts of rows");
+        let are_placed = listed.are_placed(&step.version)?;
+        holds(rt, are_placed, "the places of tokens");
     }
     Ok(longest)
+}
+
+/// Each version of a history of a thousand reads what the lists have.
+fn reads_as_listed(
+    rt: &impl Abort,
+    alloc: Global,
+    played: &Played,
+    marks: &[Mark],
+) -> Result<(), Fail> {
+    holds(rt, played.steps.len() == 1001, "the count of versions");
+    every_operation_came(rt, played);
+    let longest = are_as_listed(rt, alloc, &played.steps, marks)?;
+    holds(rt, longest > 3, "a batch of more than three writes");
+    Ok(())
 }
 
 #[test]
 fn each_mark_reads_what_the_lists_have(rt: HostRuntime) -> Result<(), Fail> {
     let marks = marks(rt.alloc())?;
     let played = history(rt.alloc(), 7, 1000)?;
-    assert_eq!(rt; played.steps.len(), 1001);
-    every_operation_came(&rt, &played);
-    let longest = are_as_listed(&rt, rt.alloc(), &played.steps, &marks)?;
-    assert!(rt; longest > 3);
-    Ok(())
+    reads_as_listed(&rt, rt.alloc(), &played, &marks)
 }
 
 /// How often what came.
@@ -325,8 +329,8 @@ fn compare(
 ) -> Result<(), Fail> {
     let is_unchanged = newer.unchanged(mark, older);
     let is_equal = is_equal(alloc, (newer, older), mark)?;
-    assert!(rt; is_equal || !is_unchanged);
-    assert!(rt; is_hit || is_unchanged);
+    holds(rt, is_equal || !is_unchanged, "unchanged, so equal");
+    holds(rt, is_hit || is_unchanged, "not hit, so unchanged");
     counts.count(is_hit, is_unchanged, is_equal);
     Ok(())
 }
@@ -378,14 +382,19 @@ fn compare_all(
     Ok(counts)
 }
 
+/// Each version of a history is compared, and everything that is counted comes.
+fn compares(rt: &impl Abort, alloc: Global, played: &Played, marks: &[Mark]) -> Result<(), Fail> {
+    every_operation_came(rt, played);
+    let counts = compare_all(rt, alloc, &played.steps, marks)?;
+    holds(rt, each_came(&counts), "each of the counts");
+    Ok(())
+}
+
 #[test]
 fn a_mark_is_unchanged_where_no_write_hits_it(rt: HostRuntime) -> Result<(), Fail> {
     let marks = marks(rt.alloc())?;
     let played = history(rt.alloc(), 12, 300)?;
-    every_operation_came(&rt, &played);
-    let counts = compare_all(&rt, rt.alloc(), &played.steps, &marks)?;
-    assert!(rt; each_came(&counts));
-    Ok(())
+    compares(&rt, rt.alloc(), &played, &marks)
 }
 
 /// The writes of two versions, one after the other.
@@ -406,51 +415,69 @@ fn reads_through(
     let through = older.read_after(mark, changes)?;
     let got = reading_text(alloc, &through)?;
     let want = read_text(alloc, newer, mark)?;
-    assert_eq!(rt; got.as_str(), want.as_str());
+    is_text(rt, got.as_str(), want.as_str(), "through the writes");
     Ok(())
 }
 
-/// The mark reads through the writes of the last two of three versions, and these writes hit it where those of one of the
-/// two do. Answers whether they do.
-fn is_read_through(
+/// Do the writes of two versions hit the mark? They do where those of one of the two do.
+fn is_hit_by(
+    rt: &impl Abort,
+    changes: &Changes,
+    (middle, newer): (&Step, &Step),
+    mark: &Mark,
+) -> bool {
+    let is_hit = changes.hits(mark);
+    let is_hit_by_one = are_hit(mark, &middle.changes) || are_hit(mark, &newer.changes);
+    holds(rt, is_hit == is_hit_by_one, "hit by one of the two");
+    is_hit
+}
+
+/// Each mark reads through the writes of the last two of three versions. Answers how many of the marks these writes hit.
+fn hits_of(
     rt: &impl Abort,
     alloc: Global,
-    three: &[Step],
-    mark: &Mark,
-) -> Result<bool, Fail> {
-    let [older, middle, newer] = three else {
-        return Err(Fail::from("no three versions"));
-    };
-    let changes = both(middle, newer)?;
-    reads_through(rt, alloc, (&older.version, &newer.version), &changes, mark)?;
-    let is_hit = changes.hits(mark);
-    assert_eq!(rt;
-        is_hit,
-        are_hit(mark, &middle.changes) || are_hit(mark, &newer.changes)
-    );
-    Ok(is_hit)
+    (older, middle, newer): (&Step, &Step, &Step),
+    changes: &Changes,
+    marks: &[Mark],
+) -> Result<usize, Fail> {
+    let mut hits: usize = 0;
+    for mark in marks {
+        reads_through(rt, alloc, (&older.version, &newer.version), changes, mark)?;
+        let is_hit = is_hit_by(rt, changes, (middle, newer), mark);
+        hits = hits.wrapping_add(usize::from(is_hit));
+    }
+    Ok(hits)
 }
 
 /// How many of the marks are hit?
 fn hits(rt: &impl Abort, alloc: Global, three: &[Step], marks: &[Mark]) -> Result<usize, Fail> {
-    let mut hits: usize = 0;
-    for mark in marks {
-        let is_hit = is_read_through(rt, alloc, three, mark)?;
-        hits = hits.wrapping_add(usize::from(is_hit));
+    let [older, middle, newer] = three else {
+        return Err(Fail::from("no three versions"));
+    };
+    let changes = both(middle, newer)?;
+    hits_of(rt, alloc, (older, middle, newer), &changes, marks)
+}
+
+/// Each mark reads through the writes of each two versions, of which some hit marks, and some don't hit all.
+fn all_read_through(
+    rt: &impl Abort,
+    alloc: Global,
+    steps: &[Step],
+    marks: &[Mark],
+) -> Result<(), Fail> {
+    let (mut hit, mut unhit) = (0, 0);
+    for three in steps.windows(3) {
+        let hits = hits(rt, alloc, three, marks)?;
+        add(&mut hit, hits != 0);
+        add(&mut unhit, hits != marks.len());
     }
-    Ok(hits)
+    holds(rt, hit != 0 && unhit != 0, "both, hit and unhit");
+    Ok(())
 }
 
 #[test]
 fn each_mark_reads_through_writes_what_it_reads_after_them(rt: HostRuntime) -> Result<(), Fail> {
     let marks = marks(rt.alloc())?;
     let played = history(rt.alloc(), 5, 100)?;
-    let (mut hit, mut unhit) = (0, 0);
-    for three in played.steps.windows(3) {
-        let hits = hits(&rt, rt.alloc(), three, &marks)?;
-        add(&mut hit, hits != 0);
-        add(&mut unhit, hits != marks.len());
-    }
-    assert!(rt; hit != 0 && unhit != 0);
-    Ok(())
+    all_read_through(&rt, rt.alloc(), &played.steps, &marks)
 }
