@@ -1,6 +1,7 @@
 //! What the text of a reply leaves out, told as text: all fields of entries.
 
-use batch_texts::{accepted_text, of_number, outcome_text};
+use batch_texts::{accepted_text, marks_text, of_number, outcome_text};
+use batch_work::Work;
 use entry_book::{Entry, OpReply, Outcome};
 use std::alloc::Global;
 use std::test::Fail;
@@ -90,12 +91,27 @@ pub fn whole_text(alloc: Global, place: u64, outcome: &Outcome) -> Result<String
 }
 
 /// All that becomes of a batch that is committed at this place.
-pub fn whole_committed_text(
-    alloc: Global,
-    place: u64,
-    replies: &[OpReply],
-) -> Result<String, Fail> {
+fn whole_committed_text(alloc: Global, place: u64, replies: &[OpReply]) -> Result<String, Fail> {
     let mut text = accepted_text(alloc, "committed", place, replies)?;
     add_op_replies(alloc, &mut text, replies)?;
+    Ok(text)
+}
+
+/// All that a work has come to, at this place. One that is ready is committed there.
+fn end_text(alloc: Global, work: &Work, place: u64) -> Result<String, Fail> {
+    if let Some(reply) = work.reply() {
+        return whole_text(alloc, place, &reply.get().outcome);
+    }
+    match work.replies() {
+        Some(replies) => whole_committed_text(alloc, place, replies.get().as_slice()),
+        None => Err(Fail::from("neither ready nor settled")),
+    }
+}
+
+/// What a work has read, and all that it has come to, at this place.
+pub fn run_text(alloc: Global, work: &Work, place: u64) -> Result<String, Fail> {
+    let mut text = marks_text(alloc, work.marks())?;
+    text.push_str(" => ")?;
+    text.push_str(end_text(alloc, work, place)?.as_str())?;
     Ok(text)
 }

@@ -1,10 +1,11 @@
 //! A batch is run alike on two books that differ outside of what it reads.
 
-use crate::details::{whole_committed_text, whole_text};
+use crate::details::run_text;
 use crate::playing::first_window;
-use crate::running::{commit, ended};
-use batch_texts::{batch_text, marks_text};
-use batch_work::{Status, Window, Work};
+use crate::running::{commits, ended};
+use crate::wanted::{holds, is_text};
+use batch_texts::batch_text;
+use batch_work::{Window, Work};
 use std::alloc::Global;
 use std::process::Abort;
 use std::test::Fail;
@@ -12,7 +13,7 @@ use version_book::{Changes, Mark};
 
 /// How many pairs of books were found that differ outside of what a batch reads, and how many others on which the batch was run
 /// in two ways.
-#[derive(Clone, Copy, Debug, Drop)]
+#[derive(Drop)]
 struct Pairs {
     alike: u64,
     different: u64,
@@ -34,29 +35,10 @@ fn are_spared(marks: &[Mark], changes: &Changes) -> bool {
     true
 }
 
-/// All that the work came to, places aside.
-fn placeless_text(alloc: Global, work: &Work) -> Result<String, Fail> {
-    if let Some(reply) = work.reply() {
-        return whole_text(alloc, 0, &reply.get().outcome);
-    }
-    match work.replies() {
-        Some(replies) => whole_committed_text(alloc, 0, replies.get().as_slice()),
-        None => Err(Fail::from("neither ready nor settled")),
-    }
-}
-
-/// What the work read and came to, places aside.
-fn run_text(alloc: Global, work: &Work) -> Result<String, Fail> {
-    let mut text = marks_text(alloc, work.marks())?;
-    text.push_str(" => ")?;
-    text.push_str(placeless_text(alloc, work)?.as_str())?;
-    Ok(text)
-}
-
 /// What the batch of a text reads and comes to on the window, places aside.
 fn text_on(alloc: Global, window: &Window, text: &str) -> Result<String, Fail> {
     let work = ended(alloc, window, text)?;
-    let told = run_text(alloc, &work);
+    let told = run_text(alloc, &work, 0);
     drop(work);
     told
 }
@@ -64,15 +46,6 @@ fn text_on(alloc: Global, window: &Window, text: &str) -> Result<String, Fail> {
 /// Does the other work, which began on the same version, spare what this one read?
 fn is_spared(work: &Work, other: &Work, place: u64) -> bool {
     is_of_book(work, place) && are_spared(work.marks(), other.changes())
-}
-
-/// Commits the batch of a work where it is ready. Is it?
-fn commits(window: &mut Window, work: &Work) -> Result<bool, Fail> {
-    if work.status() != Status::Ready {
-        return Ok(false);
-    }
-    commit(window, work)?;
-    Ok(true)
 }
 
 /// Runs another batch on the version of a work, and commits it where it is ready. Has it spared what the work read?
@@ -99,10 +72,10 @@ fn compare(
     is_spared: bool,
     pairs: &mut Pairs,
 ) -> Result<(), Fail> {
-    let old = run_text(alloc, work)?;
+    let old = run_text(alloc, work, 0)?;
     let new = text_on(alloc, window, text)?;
     if is_spared {
-        assert_eq!(rt; new.as_str(), old.as_str(), "{text}");
+        is_text(rt, new.as_str(), old.as_str(), text);
         pairs.alike = pairs.alike.wrapping_add(1);
     } else if new != old {
         pairs.different = pairs.different.wrapping_add(1);
@@ -170,6 +143,7 @@ fn random_pairs(rt: &impl Abort, alloc: Global, window: &mut Window) -> Result<P
 fn a_batch_runs_alike_on_books_that_differ_elsewhere(rt: HostRuntime) -> Result<(), Fail> {
     let mut window = first_window(rt.alloc())?;
     let pairs = random_pairs(&rt, rt.alloc(), &mut window)?;
-    assert!(rt; 100 <= pairs.alike && 30 <= pairs.different, "{pairs:?}");
+    holds(&rt, 100 <= pairs.alike, "pairs alike");
+    holds(&rt, 30 <= pairs.different, "different pairs");
     Ok(())
 }

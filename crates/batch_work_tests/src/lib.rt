@@ -2,13 +2,13 @@
 //!
 //! The crate has tests alone, over the public calls of `batch_work`:
 //!
-//! - `windows`: which versions a window has. `versions` makes them.
-//! - `worked`: the marks of works on small books, and their ends, told by tables. `playing` plays a table, `details` tells all of
-//!   a reply.
+//! - `windows`: which versions a window has, and `worked`: the marks of works on small books, and their ends, told by tables.
+//!   `playing` plays a table.
 //! - `random`: long histories of random batches beside the plain book. What they read is compared with what `footprints` tells
 //!   over `plain_rows`.
 //! - `elsewhere`: random batches on pairs of books.
-//! - `running`: a work to its end, and the version after it.
+//! - `running`: a work to its end, and the version after it. `details` tells all that it has come to.
+//! - `wanted`: what a test wants to see.
 #![tactic(auto)]
 
 #[cfg(test)]
@@ -26,7 +26,7 @@ mod random;
 #[cfg(test)]
 mod running;
 #[cfg(test)]
-mod versions;
+mod wanted;
 #[cfg(test)]
 mod windows;
 #[cfg(test)]

@@ -1,16 +1,18 @@
 //! Batches on a window, and what their works read and come to, told by a table.
 
 use crate::running::{commit, end_text, ended};
-use crate::versions::first;
-use batch_texts::marks_text;
+use crate::wanted::is_text;
+use batch_texts::{marks_text, number, trust_domain, words};
 use batch_work::Window;
 use std::alloc::Global;
 use std::process::Abort;
 use std::test::Fail;
+use version_book::Version;
 
 /// The window of the empty book alone.
 pub fn first_window(alloc: Global) -> Result<Window, Fail> {
-    Ok(Window::of(first(alloc)?))
+    let domain = trust_domain(alloc, "ex.org")?;
+    Ok(Window::of(Version::empty(alloc, domain)?))
 }
 
 /// The marks that a batch reads on the window.
@@ -37,13 +39,54 @@ fn goes_on(alloc: Global, window: &mut Window, text: &str) -> Result<(), Fail> {
     pushed
 }
 
+/// The same batch, so many times one after another.
+fn goes_on_often(alloc: Global, window: &mut Window, times: u64, text: &str) -> Result<(), Fail> {
+    for _ in 0..times {
+        goes_on(alloc, window, text)?;
+    }
+    Ok(())
+}
+
+/// Adds the number of the version that the window gives for this one.
+fn add_version(alloc: Global, text: &mut String, window: &Window, number: u64) -> Result<(), Fail> {
+    if let Some(version) = window.book(number) {
+        let found = version.number();
+        text.push_str(format!(in alloc; "{found} ")?.as_str())?;
+    }
+    Ok(())
+}
+
+/// The versions that the window gives for the numbers from the first to the last, and the newest one.
+fn versions(alloc: Global, window: &Window, first: u64, last: u64) -> Result<String, Fail> {
+    let mut text = String::new(alloc);
+    for number in first..last.wrapping_add(1) {
+        add_version(alloc, &mut text, window, number)?;
+    }
+    let newest = window.newest().number();
+    text.push_str(format!(in alloc; "newest {newest}")?.as_str())?;
+    Ok(text)
+}
+
 fn answer(alloc: Global, window: &Window, question: &str) -> Result<String, Fail> {
     if let Some(text) = question.strip_prefix("READS ") {
         return reads(alloc, window, text);
     }
-    match question.strip_prefix("COMES ") {
-        Some(text) => comes(alloc, window, text),
-        None => Err(Fail::from("no such question")),
+    if let Some(text) = question.strip_prefix("COMES ") {
+        return comes(alloc, window, text);
+    }
+    let words = words(alloc, question)?;
+    let (first, last) = (number(words.as_slice(), 1)?, number(words.as_slice(), 2)?);
+    versions(alloc, window, first, last)
+}
+
+/// A line with no answer: `AGAIN`, a number and a batch, or a batch alone.
+fn runs(alloc: Global, window: &mut Window, line: &str) -> Result<(), Fail> {
+    let Some(text) = line.strip_prefix("AGAIN ") else {
+        return goes_on(alloc, window, line);
+    };
+    match text.split_once(" ") {
+        Some((times, text)) => goes_on_often(alloc, window, times.parse::<u64>()?, text),
+        None => Err(Fail::from("no such line")),
     }
 }
 
@@ -51,20 +94,31 @@ fn answer(alloc: Global, window: &Window, question: &str) -> Result<String, Fail
 fn plays_line(rt: &impl Abort, alloc: Global, window: &mut Window, line: &str) -> Result<(), Fail> {
     if let Some((question, want)) = line.split_once(" => ") {
         let got = answer(alloc, window, question)?;
-        assert_eq!(rt; got.as_str(), want, "{line}");
+        is_text(rt, got.as_str(), want, line);
     } else if !line.is_empty() {
-        goes_on(alloc, window, line)?;
+        runs(alloc, window, line)?;
     }
     Ok(())
 }
 
-/// Plays a table, from the empty book on. A question and its answer stand in a line with ` => ` between them: `READS` asks for
-/// the marks that a batch reads, `COMES` for what it comes to. Each other line that isn't empty tells a batch that becomes
-/// ready, and leads to the next version.
-pub fn plays(rt: &impl Abort, alloc: Global, table: &str) -> Result<(), Fail> {
-    let mut window = first_window(alloc)?;
+/// Plays a table on the window. A question and its answer stand in a line with ` => ` between them: `READS` asks for the marks
+/// that a batch reads, `COMES` for what it comes to, `VERSIONS` for those that the window gives for the numbers from one to
+/// another. `AGAIN` and a number run a batch so many times, and each other line that isn't empty tells a batch. Each of these
+/// becomes ready, and leads to the next version.
+pub fn plays_on(
+    rt: &impl Abort,
+    alloc: Global,
+    window: &mut Window,
+    table: &str,
+) -> Result<(), Fail> {
     for line in table.lines() {
-        plays_line(rt, alloc, &mut window, line)?;
+        plays_line(rt, alloc, window, line)?;
     }
     Ok(())
+}
+
+/// Plays a table, from the empty book on.
+pub fn plays(rt: &impl Abort, alloc: Global, table: &str) -> Result<(), Fail> {
+    let mut window = first_window(alloc)?;
+    plays_on(rt, alloc, &mut window, table)
 }

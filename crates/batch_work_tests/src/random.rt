@@ -1,13 +1,14 @@
 //! Random batches on random small books: a work comes to what the plain book answers.
 
-ghost use Rattle.std.specs.Prelude.{◌≡◌, ◌<◌};
+ghost use Rattle.std.specs.Prelude.{◌≡◌};
 
-use crate::details::{whole_committed_text, whole_text};
+use crate::details::{run_text, whole_text};
 use crate::footprints::{PlainHistory, footprint, no_history};
 use crate::playing::first_window;
-use crate::running::{commit, ended};
-use batch_texts::{batch, batch_text, marks_text, trust_domain};
-use batch_work::{Status, Window, Work};
+use crate::running::{commits, ended};
+use crate::wanted::{holds, is_number, is_text};
+use batch_texts::{batch_text, trust_domain};
+use batch_work::{Window, Work};
 use entry_book::{Batch, Reply};
 use plain_book::PlainBook;
 use std::alloc::Global;
@@ -15,57 +16,40 @@ use std::process::Abort;
 use std::test::Fail;
 
 /// What has to come in some answer, or behind them in some footprint.
-const COMING: [&str; 32] = [
-    "committed at",
-    "answered at",
-    "repeated at",
-    "refused W1",
-    "refused O1",
-    "refused O2",
-    "refused O3",
-    "refused O4",
-    "refused O5",
-    "refused O6",
-    "refused O7",
-    "refused O8",
-    "refused O9",
-    "; pruned ",
-    "; dropped /",
-    "; dropped 1",
-    "; dropped / 1",
-    "; entries 1.",
-    "; bundles bundle d1",
-    "; page 1.",
-    " next 1",
-    "; none",
-    " x:1 x:2 /web ",
-    " 2 120 10 ",
-    "operation 0 by 1",
-    "operation 0 without d1",
-    "token 1",
-    " | group n1 ",
-    " | users d1",
-    "expiring 1",
-    " | children /spire/server | children n1 | children /api | children n2 | children /web",
-    " | children n2 | bundle d1 | bundle d2",
-];
-
-/// How often each of these came.
-#[derive(Debug, Drop)]
-struct Counts {
-    came: [u64; 32],
-}
-
-fn no_counts() -> Counts {
-    Counts { came: [0; 32] }
-}
-
-fn count(counts: &mut Counts, text: &str) {
-    for index in 0..32_usize {
-        let holds = text.contains(COMING[index]);
-        counts.came[index] = counts.came[index].wrapping_add(u64::from(holds));
-    }
-}
+const COMING: &str = "\
+committed at
+answered at
+repeated at
+refused W1
+refused O1
+refused O2
+refused O3
+refused O4
+refused O5
+refused O6
+refused O7
+refused O8
+refused O9
+; pruned 1
+; dropped /
+; dropped 1
+; dropped / 1
+; entries 1.
+; bundles bundle d1
+; page 1.
+ next 1
+; none
+ x:1 x:2 /web
+ 2 120 10 0
+operation 0 by 1
+operation 0 without d1
+token 1
+ | group n1 /
+ | users d1
+expiring 1
+ | children /spire/server | children n1 | children /api | children n2 | children /web
+ | children n2 | bundle d1 | bundle d2
+";
 
 fn plain_book(alloc: Global) -> Result<PlainBook, Fail> {
     Ok(PlainBook::new(alloc, trust_domain(alloc, "ex.org")?)?)
@@ -92,37 +76,46 @@ fn plain_text(alloc: Global, book: &mut PlainBook, batch: &Batch) -> Result<Stri
     whole_text(alloc, reply.place, &reply.outcome)
 }
 
-/// What the work has come to, told as the plain book's reply: one that is ready is committed at this place.
-fn work_text(alloc: Global, work: &Work, place: u64) -> Result<String, Fail> {
-    if let Some(reply) = work.reply() {
-        let reply = reply.get();
-        return whole_text(alloc, reply.place, &reply.outcome);
-    }
-    match work.replies() {
-        Some(replies) => whole_committed_text(alloc, place, replies.get().as_slice()),
-        None => Err(Fail::from("neither ready nor settled")),
+/// What a batch has to read, told by hand, and to come to, told by the plain book.
+fn wanted(
+    alloc: Global,
+    book: &mut PlainBook,
+    history: &mut PlainHistory,
+    batch: &Batch,
+    text: &str,
+) -> Result<String, Fail> {
+    let mut want = footprint(alloc, history, book.place(), text)?;
+    want.push_str(" => ")?;
+    want.push_str(plain_text(alloc, book, batch)?.as_str())?;
+    Ok(want)
+}
+
+/// The place of what the work has come to: its reply's, or this one where it is ready.
+fn place_of(work: &Work, place: u64) -> u64 {
+    match work.reply() {
+        Some(reply) => reply.get().place,
+        None => place,
     }
 }
 
-/// The work has read what is told by hand.
-fn reads_as_told(
+/// The work has read and come to what is wanted. This goes behind what is told.
+fn is_as_wanted(
     rt: &impl Abort,
     alloc: Global,
-    history: &mut PlainHistory,
-    place: u64,
     work: &Work,
-    text: &str,
-    counts: &mut Counts,
+    place: u64,
+    want: &str,
+    told: &mut String,
 ) -> Result<(), Fail> {
-    let got = marks_text(alloc, work.marks())?;
-    let want = footprint(alloc, history, place, text)?;
-    assert_eq!(rt; got.as_str(), want.as_str(), "{text}");
-    count(counts, got.as_str());
+    let got = run_text(alloc, work, place_of(work, place))?;
+    is_text(rt, got.as_str(), want, "a random batch");
+    told.push_str(got.as_str())?;
+    told.push_str("\n")?;
     Ok(())
 }
 
 /// Holds a work against both, and pushes the next version where it is ready.
-fn holds(
+fn compare(
     rt: &impl Abort,
     alloc: Global,
     window: &mut Window,
@@ -130,35 +123,30 @@ fn holds(
     history: &mut PlainHistory,
     work: &Work,
     text: &str,
-    counts: &mut Counts,
+    told: &mut String,
 ) -> Result<(), Fail> {
-    let place = window.newest().number();
-    reads_as_told(rt, alloc, history, place, work, text, counts)?;
-    let next = place.wrapping_add(1);
-    let got = work_text(alloc, work, next)?;
-    let want = plain_text(alloc, book, work.batch())?;
-    assert_eq!(rt; got.as_str(), want.as_str(), "{text}");
-    count(counts, got.as_str());
-    if work.status() == Status::Ready {
-        commit(window, work)?;
-    }
+    let next = window.newest().number().wrapping_add(1);
+    let want = wanted(alloc, book, history, work.batch(), text)?;
+    is_as_wanted(rt, alloc, work, next, want.as_str(), told)?;
+    commits(window, work)?;
     Ok(())
 }
 
-/// Runs a batch on both.
+/// Runs a random batch on both.
 fn round(
     rt: &impl Abort,
     alloc: Global,
     window: &mut Window,
     book: &mut PlainBook,
     history: &mut PlainHistory,
-    text: &str,
-    counts: &mut Counts,
+    state: &mut u64,
+    told: &mut String,
 ) -> Result<(), Fail> {
-    let work = ended(alloc, window, text)?;
-    let held = holds(rt, alloc, window, book, history, &work, text, counts);
+    let text = batch_text(alloc, state, window.newest().number())?;
+    let work = ended(alloc, window, text.as_str())?;
+    let compared = compare(rt, alloc, window, book, history, &work, text.as_str(), told);
     drop(work);
-    held
+    compared
 }
 
 /// So many random batches, one after another.
@@ -167,36 +155,40 @@ fn rounds(
     alloc: Global,
     window: &mut Window,
     book: &mut PlainBook,
-    history: &mut PlainHistory,
-    counts: &mut Counts,
+    told: &mut String,
 ) -> Result<(), Fail> {
     let mut state = 7;
+    let mut history = no_history(alloc);
     for _ in 0..1200_u64 {
-        let text = batch_text(alloc, &mut state, window.newest().number())?;
-        round(rt, alloc, window, book, history, text.as_str(), counts)?;
+        round(rt, alloc, window, book, &mut history, &mut state, told)?;
     }
     Ok(())
 }
 
-fn all_came(counts: &Counts) -> bool {
-    counts.came.iter().all(|count| *count != 0)
+/// Each line of the list has come.
+fn all_came(rt: &impl Abort, told: &str) {
+    for line in COMING.lines() {
+        holds(rt, told.contains(line), line);
+    }
+}
+
+/// Random batches on a window and on the plain book, which are at the same place in the end.
+fn plays_on_both(
+    rt: &impl Abort,
+    alloc: Global,
+    window: &mut Window,
+    book: &mut PlainBook,
+) -> Result<(), Fail> {
+    let mut told = String::new(alloc);
+    rounds(rt, alloc, window, book, &mut told)?;
+    is_number(rt, window.newest().number(), book.place(), "place");
+    all_came(rt, told.as_str());
+    Ok(())
 }
 
 #[test]
 fn random_batches_come_to_what_the_plain_book_answers(rt: HostRuntime) -> Result<(), Fail> {
     let mut window = first_window(rt.alloc())?;
     let mut book = plain_book(rt.alloc())?;
-    let mut history = no_history(rt.alloc());
-    let mut counts = no_counts();
-    rounds(
-        &rt,
-        rt.alloc(),
-        &mut window,
-        &mut book,
-        &mut history,
-        &mut counts,
-    )?;
-    assert_eq!(rt; window.newest().number(), book.place());
-    assert!(rt; all_came(&counts), "{counts:?}");
-    Ok(())
+    plays_on_both(&rt, rt.alloc(), &mut window, &mut book)
 }

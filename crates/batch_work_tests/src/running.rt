@@ -165,3 +165,12 @@ pub fn commit(window: &mut Window, work: &Work) -> Result<(), Fail> {
     window.push(version);
     Ok(())
 }
+
+/// Commits the batch of a work where it is ready. Is it?
+pub fn commits(window: &mut Window, work: &Work) -> Result<bool, Fail> {
+    if work.status() != Status::Ready {
+        return Ok(false);
+    }
+    commit(window, work)?;
+    Ok(true)
+}

@@ -1,88 +1,75 @@
 //! Which versions does a window have?
 
-use crate::versions::{first, next};
+use crate::playing::{first_window, plays, plays_on};
 use batch_work::Window;
 use std::alloc::Global;
 use std::process::Abort;
 use std::test::Fail;
 
-/// Pushes the version after the newest one, with the same rows.
-fn go_on(alloc: Global, window: &mut Window) -> Result<(), Fail> {
-    let version = next(alloc, window.newest())?;
-    window.push(version);
-    Ok(())
-}
+const ONE: &str = "
+VERSIONS 0 1 => 0 newest 0
+";
 
-/// The window of the versions 0, 1, .. up to this number.
-fn window_up_to(alloc: Global, last: u64) -> Result<Window, Fail> {
-    let mut window = Window::of(first(alloc)?);
-    for _ in 0..last {
-        go_on(alloc, &mut window)?;
-    }
-    Ok(window)
-}
+const SIXTY_FOUR: &str = "
+AGAIN 63 set_agent n1 x:1
+VERSIONS 0 2 => 0 1 2 newest 63
+AGAIN 1 set_agent n1 x:1
+VERSIONS 0 2 => 1 2 newest 64
+";
 
-/// The number of the version that the window gives for this one.
-fn found(window: &Window, number: u64) -> Option<u64> {
-    window.book(number).map(|version| version.number())
-}
-
-/// The window has the version of this number.
-fn has(rt: &impl Abort, window: &Window, number: u64) {
-    assert_eq!(rt; found(window, number), Some(number));
-}
-
-/// The window has no version of this number.
-fn lacks(rt: &impl Abort, window: &Window, number: u64) {
-    assert_eq!(rt; found(window, number), None);
-}
-
-/// The newest version of the window has this number.
-fn ends_at(rt: &impl Abort, window: &Window, number: u64) {
-    assert_eq!(rt; window.newest().number(), number);
-}
+const SEVENTY_ONE: &str = "
+AGAIN 70 set_agent n1 x:1
+VERSIONS 0 30 => 7 8 9 10 11 12 13 14 15 16 17 18 19 20 21 22 23 24 25 26 27 28 29 30 newest 70
+VERSIONS 31 51 => 31 32 33 34 35 36 37 38 39 40 41 42 43 44 45 46 47 48 49 50 51 newest 70
+VERSIONS 52 71 => 52 53 54 55 56 57 58 59 60 61 62 63 64 65 66 67 68 69 70 newest 70
+";
 
 #[test]
-fn a_window_has_the_last_64_versions(rt: HostRuntime) -> Result<(), Fail> {
-    let window = window_up_to(rt.alloc(), 70)?;
-    ends_at(&rt, &window, 70);
-    for number in 0..7 {
-        lacks(&rt, &window, number);
-    }
-    for number in 7..71 {
-        has(&rt, &window, number);
-    }
-    lacks(&rt, &window, 71);
-    Ok(())
+fn a_window_begins_with_one_version(rt: HostRuntime) -> Result<(), Fail> {
+    plays(&rt, rt.alloc(), ONE)
 }
 
 #[test]
 fn a_window_lets_nothing_go_until_it_has_64(rt: HostRuntime) -> Result<(), Fail> {
-    let mut window = window_up_to(rt.alloc(), 63)?;
-    has(&rt, &window, 0);
-    go_on(rt.alloc(), &mut window)?;
-    lacks(&rt, &window, 0);
-    has(&rt, &window, 1);
-    Ok(())
+    plays(&rt, rt.alloc(), SIXTY_FOUR)
 }
 
 #[test]
-fn a_window_begins_with_one_version(rt: HostRuntime) -> Result<(), Fail> {
-    let window = window_up_to(rt.alloc(), 0)?;
-    ends_at(&rt, &window, 0);
-    has(&rt, &window, 0);
-    lacks(&rt, &window, 1);
-    Ok(())
+fn a_window_has_the_last_64_versions(rt: HostRuntime) -> Result<(), Fail> {
+    plays(&rt, rt.alloc(), SEVENTY_ONE)
+}
+
+const OWNER: &str = "
+AGAIN 1 set_agent n1 x:1
+VERSIONS 0 3 => 2 3 newest 65
+VERSIONS 63 66 => 63 64 65 newest 65
+";
+
+const COPY: &str = "
+VERSIONS 0 3 => 1 2 3 newest 64
+VERSIONS 63 66 => 63 64 newest 64
+";
+
+/// The owner of a window with 64 versions goes on, and a copy stays as it was.
+fn play_both(
+    rt: &impl Abort,
+    alloc: Global,
+    owner: &mut Window,
+    copy: &mut Window,
+) -> Result<(), Fail> {
+    plays_on(rt, alloc, owner, OWNER)?;
+    plays_on(rt, alloc, copy, COPY)
+}
+
+/// Takes a copy of the window once it has 64 versions.
+fn play_copied(rt: &impl Abort, alloc: Global, window: &mut Window) -> Result<(), Fail> {
+    plays_on(rt, alloc, window, "AGAIN 64 set_agent n1 x:1")?;
+    let mut copy = window.clone()?;
+    play_both(rt, alloc, window, &mut copy)
 }
 
 #[test]
 fn a_copy_stays_while_its_owner_goes_on(rt: HostRuntime) -> Result<(), Fail> {
-    let mut window = window_up_to(rt.alloc(), 64)?;
-    let copy = window.clone()?;
-    go_on(rt.alloc(), &mut window)?;
-    has(&rt, &copy, 1);
-    lacks(&rt, &copy, 65);
-    lacks(&rt, &window, 1);
-    has(&rt, &window, 65);
-    Ok(())
+    let mut window = first_window(rt.alloc())?;
+    play_copied(&rt, rt.alloc(), &mut window)
 }
