@@ -5,14 +5,14 @@
 //! - `ids`: IDs and trust domains.
 //! - `selectors`: selectors.
 //! - `selector_sets`: sets of selectors.
-//! - `long_texts`: the long texts that these tests read.
+//! - `faults`: tables of texts, each with its first fault.
 //! - `wanted`: what a test wants to see.
 #![tactic(auto)]
 
 #[cfg(test)]
-mod ids;
+mod faults;
 #[cfg(test)]
-mod long_texts;
+mod ids;
 #[cfg(test)]
 mod selector_sets;
 #[cfg(test)]

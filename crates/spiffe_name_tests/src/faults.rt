@@ -1,0 +1,75 @@
+//! Tables of texts: which are names, and what is the first fault of each other one?
+
+use crate::wanted::is_text;
+use spiffe_name::{Failure, Selector, SpiffeId, TrustDomain};
+use std::alloc::Global;
+use std::process::Abort;
+use std::test::Fail;
+
+/// The code of a text that is no ID; `ok` for an ID, whose text is the one that was read.
+fn id_fault(rt: &impl Abort, alloc: Global, text: &str) -> Result<&'static str, Fail> {
+    match SpiffeId::parse(alloc, text) {
+        Ok(id) => {
+            is_text(rt, id.as_str(), text, "the text of an ID");
+            Ok("ok")
+        }
+        Err(Failure::Refused(refusal)) => Ok(refusal.code()),
+        Err(Failure::NoMemory) => Err(Fail::from("no memory")),
+    }
+}
+
+fn domain_fault(rt: &impl Abort, alloc: Global, text: &str) -> Result<&'static str, Fail> {
+    match TrustDomain::parse(alloc, text) {
+        Ok(domain) => {
+            is_text(rt, domain.as_str(), text, "the text of a trust domain");
+            Ok("ok")
+        }
+        Err(Failure::Refused(refusal)) => Ok(refusal.code()),
+        Err(Failure::NoMemory) => Err(Fail::from("no memory")),
+    }
+}
+
+fn selector_fault(rt: &impl Abort, alloc: Global, text: &str) -> Result<&'static str, Fail> {
+    match Selector::parse(alloc, text) {
+        Ok(selector) => {
+            is_text(rt, selector.as_str(), text, "the text of a selector");
+            Ok("ok")
+        }
+        Err(Failure::Refused(refusal)) => Ok(refusal.code()),
+        Err(Failure::NoMemory) => Err(Fail::from("no memory")),
+    }
+}
+
+/// The fault of a text as a name of this kind.
+fn fault(rt: &impl Abort, alloc: Global, kind: &str, text: &str) -> Result<&'static str, Fail> {
+    match kind {
+        "ID" => id_fault(rt, alloc, text),
+        "trust domain" => domain_fault(rt, alloc, text),
+        "selector" => selector_fault(rt, alloc, text),
+        _ => Err(Fail::from("no such kind of name")),
+    }
+}
+
+/// The text that is told: what stands before a star, and then a piece as often as the count says that stands between them.
+fn text_of(alloc: Global, told: &str) -> Result<String, Fail> {
+    let (start, pieces) = told.split_once('*').unwrap_or((told, "0 "));
+    let (count, piece) = pieces.split_once(' ').unwrap_or((pieces, ""));
+    let pieces = piece.repeat(alloc, count.parse::<usize>()?)?;
+    Ok(format!(in alloc; "{start}{pieces}")?)
+}
+
+fn check_line(rt: &impl Abort, alloc: Global, kind: &str, line: &str) -> Result<(), Fail> {
+    let (code, told) = line.split_once(' ').unwrap_or((line, ""));
+    let text = text_of(alloc, told)?;
+    is_text(rt, fault(rt, alloc, kind, text.as_str())?, code, line);
+    Ok(())
+}
+
+/// Is the code at the start of each line that of the text which is told behind it, as a name of this kind? A code alone is that of the
+/// empty text.
+pub(crate) fn check(rt: &impl Abort, alloc: Global, kind: &str, table: &str) -> Result<(), Fail> {
+    for line in table.lines() {
+        check_line(rt, alloc, kind, line)?;
+    }
+    Ok(())
+}
