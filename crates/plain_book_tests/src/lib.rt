@@ -2,15 +2,14 @@
 //!
 //! The crate has tests alone, over the public calls of `plain_book`:
 //!
-//! - `random`: random requests of a few names, which `draws` draws. Each book that comes out is lawful, and each agent, and
-//!   each page of it or of an earlier book, is told what a search finds: `rows` reads all rows of a book and judges them,
-//!   `search` looks for chains by their length, `requests` says which requests wait, repeat or come too late.
-//! - `past`: pages of earlier books, and batches that wait for a place; `tokens`: batches that carry a token.
+//! - `random`: random requests of a few names. Each book that comes out is lawful, and each agent, and each page of it or of an
+//!   earlier book, is told what a search finds: `rows` reads all rows of a book and judges them, `search` looks for chains by
+//!   their length, `requests` draws the requests and says which of them wait, repeat or come too late.
+//! - `worked`: what a small book answers, batch after batch; `past`: pages of earlier books, and batches that wait for a place;
+//!   `tokens`: batches that carry a token. Each is told by a script, which `playing` plays.
 //! - `large`: what a book of over five hundred entries answers.
-//! - `worked`: what a small book answers, batch after batch.
 //! - `pages`: pages of random entries are what a search finds.
-//! - `making`: operations, made of a few words; `told`: what a book answers, in short; `wanted`: what a test
-//!   wants to see.
+//! - `making`: batches, made of a text; `draws`: random texts, by a grammar; `wanted`: what a test wants to see.
 #![tactic(auto)]
 
 #[cfg(test)]
@@ -24,6 +23,8 @@ mod pages;
 #[cfg(test)]
 mod past;
 #[cfg(test)]
+mod playing;
+#[cfg(test)]
 mod random;
 #[cfg(test)]
 mod requests;
@@ -33,8 +34,6 @@ mod rows;
 mod search;
 #[cfg(test)]
 mod tokens;
-#[cfg(test)]
-mod told;
 #[cfg(test)]
 mod wanted;
 #[cfg(test)]

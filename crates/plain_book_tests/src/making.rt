@@ -1,191 +1,120 @@
-//! Operations, made of a few words.
+//! Batches, made of a text as in `batch_texts`. What those don't say stands in a line behind `with`: the two lifetimes of an
+//! entry, the revision that an update or a delete expects, and the filter of a page. Such a line tells IDs by their paths.
 
+use batch_texts::{number, number_behind, trust_domain, word, words};
 use entry_book::{
-    Agent, DomainSet, DropMode, Filter, MatchMode, NewEntry, Op, PageQuery, SelectorMatch,
-    Sequence, Shared, Text,
+    Batch, DomainSet, Filter, MatchMode, NewEntry, Op, PageQuery, SelectorMatch, Sequence, Shared,
+    Text,
 };
 use spiffe_name::{Selector, SelectorSet, SpiffeId, TrustDomain};
 use std::alloc::Global;
 use std::test::Fail;
 use uuid::Uuid;
 
-pub const N1: &str = "spiffe://ex.org/spire/agent/n1";
-
-pub const N2: &str = "spiffe://ex.org/spire/agent/n2";
-
-pub const SERVER: &str = "spiffe://ex.org/spire/server";
-
-pub const WEB: &str = "spiffe://ex.org/web";
-
-pub const API: &str = "spiffe://ex.org/api";
-
-/// An entry to be made: the number that the last two bytes of its id are, its IDs, how many selectors and domains it has, its
-/// expiry, and its lifetimes.
-#[derive(Clone, Copy, PartialEq)]
-pub struct Draft {
-    pub number: u16,
-    pub parent: &'static str,
-    pub identity: &'static str,
-    pub selectors: u32,
-    pub domains: u32,
-    pub expiry: u64,
-    pub x509_svid_ttl: u64,
-    pub jwt_svid_ttl: u64,
+/// The number that a word tells, which `-` doesn't.
+fn given_number(words: &[&str], index: usize) -> Result<Option<u64>, Fail> {
+    if word(words, index) == "-" {
+        return Ok(None);
+    }
+    Ok(Some(number(words, index)?))
 }
 
-/// A page to be asked for: its size, the number of the book that it reads, the number of the entry after which it begins,
-/// and what its filter gives, the selectors by their count.
-#[derive(Clone, Copy, PartialEq)]
-pub struct Listing {
-    pub size: u64,
-    pub at: Option<u64>,
-    pub from: Option<u16>,
-    pub parent: Option<&'static str>,
-    pub identity: Option<&'static str>,
-    pub domain: Option<&'static str>,
-    pub selectors: Option<(u32, MatchMode)>,
+/// The UUID whose last bytes are this number.
+fn uuid(words: &[&str], index: usize) -> Result<Uuid, Fail> {
+    Ok(Uuid::from_u64_pair(0, number(words, index)?))
 }
 
-/// An operation to be made. A bundle's text is told by its length, an agent's selectors by their count.
-#[derive(Clone, Copy, PartialEq)]
-pub enum Said {
-    Create(Draft),
-    Update(Draft, Option<u64>),
-    Delete(u16, Option<u64>),
-    Show(u16),
-    ShowAgent(&'static str),
-    ShowBundle(&'static str),
-    Children(&'static str),
-    Page(Listing),
-    Authorised(&'static str),
-    Trust(&'static str),
-    Prune(u64),
-    SetAgent(&'static str, u32),
-    DropAgent(&'static str),
-    SetBundle(&'static str, usize),
-    DropBundle(&'static str, DropMode),
+fn id(alloc: Global, path: &str) -> Result<Shared<SpiffeId>, Fail> {
+    let text = format!(in alloc; "spiffe://ex.org{path}")?;
+    let id = SpiffeId::parse(alloc, text.as_str())?;
+    Ok(Shared::of(alloc, id)?)
 }
 
-/// The UUID whose last two bytes are this number, all others being 0.
-pub fn uuid_of(number: u16) -> Uuid {
-    Uuid::from_u64_pair(0, u64::from(number))
-}
-
-fn id(alloc: Global, text: &str) -> Result<Shared<SpiffeId>, Fail> {
-    Ok(Shared::of(alloc, SpiffeId::parse(alloc, text)?)?)
-}
-
-fn numbered(alloc: Global, start: &str, number: u32) -> Result<String, Fail> {
-    let shifted = number.wrapping_add(100);
-    Ok(format!(in alloc; "{start}{shifted}")?)
-}
-
-/// So many selectors.
-fn selectors(alloc: Global, count: u32) -> Result<Shared<SelectorSet>, Fail> {
+/// The selectors of a word, with commas between them.
+fn selectors(alloc: Global, word: &str) -> Result<Shared<SelectorSet>, Fail> {
     let mut selectors = Vec::new(alloc);
-    for n in 0..count {
-        let text = numbered(alloc, "u:", n)?;
-        selectors.push(Selector::parse(alloc, text.as_str())?)?;
+    for text in word.split(',') {
+        selectors.push(Selector::parse(alloc, text)?)?;
     }
     Ok(Shared::of(alloc, SelectorSet::of(selectors)?)?)
 }
 
-/// So many trust domains, the first one `d100`.
-fn domains(alloc: Global, count: u32) -> Result<DomainSet, Fail> {
+fn domains(alloc: Global, words: &[&str]) -> Result<DomainSet, Fail> {
     let mut domains = Vec::new(alloc);
-    for n in 0..count {
-        let text = numbered(alloc, "d", n)?;
-        domains.push(TrustDomain::parse(alloc, text.as_str())?)?;
+    for name in words.iter().skip(6) {
+        domains.push(trust_domain(alloc, name)?)?;
     }
     Ok(DomainSet::of(alloc, domains)?)
 }
 
-/// A text of so many bytes.
-fn text(alloc: Global, length: usize) -> Result<Shared<Text>, Fail> {
-    let mut text = String::new(alloc);
-    for _ in 0..length {
-        text.push_str("h")?;
-    }
-    Ok(Shared::of(alloc, Text::of(text))?)
-}
-
-fn new_entry(alloc: Global, draft: Draft) -> Result<Shared<NewEntry>, Fail> {
-    let parent = id(alloc, draft.parent)?;
-    let identity = id(alloc, draft.identity)?;
-    let selectors = selectors(alloc, draft.selectors)?;
-    let hint = text(alloc, 0)?;
-    let domains = domains(alloc, draft.domains)?;
+/// An entry with no hint, of its number, parent, identity, selectors, expiry and domains, and of its lifetimes.
+fn entry(alloc: Global, words: &[&str], more: &[&str]) -> Result<Shared<NewEntry>, Fail> {
+    let (number, expiry) = (uuid(words, 1)?, number(words, 5)?);
+    let (x509_svid_ttl, jwt_svid_ttl) = lifetimes(more)?;
+    let parent = id(alloc, word(words, 2))?;
+    let identity = id(alloc, word(words, 3))?;
+    let selectors = selectors(alloc, word(words, 4))?;
+    let hint = Shared::of(alloc, Text::of(String::new(alloc)))?;
+    let domains = domains(alloc, words)?;
     let new = NewEntry {
-        id: uuid_of(draft.number),
+        id: number,
         parent,
         identity,
         selectors,
         hint,
         domains,
-        expiry: draft.expiry,
-        x509_svid_ttl: draft.x509_svid_ttl,
-        jwt_svid_ttl: draft.jwt_svid_ttl,
+        expiry,
+        x509_svid_ttl,
+        jwt_svid_ttl,
     };
     Ok(Shared::of(alloc, new)?)
 }
 
-fn agent(alloc: Global, text: &str, count: u32) -> Result<Agent, Fail> {
-    let selectors = selectors(alloc, count)?;
-    Ok(Agent {
-        id: id(alloc, text)?,
-        selectors,
-    })
+fn lifetimes(words: &[&str]) -> Result<(u64, u64), Fail> {
+    Ok((number(words, 0)?, number(words, 1)?))
 }
 
-/// The trust domain of a text. Nothing is said of it, so that no caller's proof computes what the grammar says of a literal.
-pub fn trust_domain(alloc: Global, text: &str) -> Result<TrustDomain, Fail> {
-    Ok(TrustDomain::parse(alloc, text)?)
+/// The ID that a word tells, which `-` doesn't.
+fn given_id(alloc: Global, path: &str) -> Result<Option<Shared<SpiffeId>>, Fail> {
+    if path == "-" {
+        return Ok(None);
+    }
+    Ok(Some(id(alloc, path)?))
 }
 
-fn domain(alloc: Global, text: &str) -> Result<Shared<TrustDomain>, Fail> {
-    Ok(Shared::of(alloc, trust_domain(alloc, text)?)?)
+fn given_domain(alloc: Global, name: &str) -> Result<Option<Shared<TrustDomain>>, Fail> {
+    if name == "-" {
+        return Ok(None);
+    }
+    let domain = trust_domain(alloc, name)?;
+    Ok(Some(Shared::of(alloc, domain)?))
 }
 
-/// The IDs of a filter: the parent and the identity, where they are given.
-type GivenIds = (Option<Shared<SpiffeId>>, Option<Shared<SpiffeId>>);
-
-fn given_id(alloc: Global, text: Option<&str>) -> Result<Option<Shared<SpiffeId>>, Fail> {
-    match text {
-        Some(text) => Ok(Some(id(alloc, text)?)),
-        None => Ok(None),
+fn mode(word: &str) -> MatchMode {
+    match word {
+        "exact" => MatchMode::Exact,
+        "any" => MatchMode::Any,
+        "superset" => MatchMode::Superset,
+        _ => MatchMode::Subset,
     }
 }
 
-fn given_ids(alloc: Global, listing: &Listing) -> Result<GivenIds, Fail> {
-    let parent = given_id(alloc, listing.parent)?;
-    let identity = given_id(alloc, listing.identity)?;
-    Ok((parent, identity))
-}
-
-fn given_domain(alloc: Global, text: Option<&str>) -> Result<Option<Shared<TrustDomain>>, Fail> {
-    match text {
-        Some(text) => Ok(Some(domain(alloc, text)?)),
-        None => Ok(None),
+/// The question of a mode and its selectors; none where the mode is `-`.
+fn given_match(alloc: Global, word: &str, of: &str) -> Result<Option<SelectorMatch>, Fail> {
+    if word == "-" {
+        return Ok(None);
     }
+    let selectors = selectors(alloc, of)?;
+    let mode = mode(word);
+    Ok(Some(SelectorMatch { selectors, mode }))
 }
 
-fn given_match(
-    alloc: Global,
-    question: Option<(u32, MatchMode)>,
-) -> Result<Option<SelectorMatch>, Fail> {
-    match question {
-        Some((count, mode)) => Ok(Some(SelectorMatch {
-            selectors: selectors(alloc, count)?,
-            mode,
-        })),
-        None => Ok(None),
-    }
-}
-
-fn filter(alloc: Global, listing: &Listing) -> Result<Filter, Fail> {
-    let (parent, identity) = given_ids(alloc, listing)?;
-    let domain = given_domain(alloc, listing.domain)?;
-    let selectors = given_match(alloc, listing.selectors)?;
+/// The filter of a parent, an identity, a domain, a mode and its selectors.
+fn filter(alloc: Global, words: &[&str]) -> Result<Filter, Fail> {
+    let parent = given_id(alloc, word(words, 0))?;
+    let identity = given_id(alloc, word(words, 1))?;
+    let domain = given_domain(alloc, word(words, 2))?;
+    let selectors = given_match(alloc, word(words, 3), word(words, 4))?;
     Ok(Filter {
         parent,
         identity,
@@ -194,43 +123,87 @@ fn filter(alloc: Global, listing: &Listing) -> Result<Filter, Fail> {
     })
 }
 
-fn page(alloc: Global, listing: &Listing) -> Result<Op, Fail> {
-    let query = PageQuery {
-        size: listing.size,
-        at: listing.at,
-        from: listing.from.map(uuid_of),
-        filter: filter(alloc, listing)?,
+/// A page, of its size, the number of the book that it reads, the number of the entry after which it begins, and its filter.
+fn page(alloc: Global, words: &[&str], more: &[&str]) -> Result<Shared<PageQuery>, Fail> {
+    let (size, at) = (number(words, 1)?, given_number(words, 2)?);
+    let from = match given_number(words, 3)? {
+        Some(number) => Some(Uuid::from_u64_pair(0, number)),
+        None => None,
     };
-    Ok(Op::Page(Shared::of(alloc, query)?))
+    let filter = filter(alloc, more)?;
+    let query = PageQuery {
+        size,
+        at,
+        from,
+        filter,
+    };
+    Ok(Shared::of(alloc, query)?)
 }
 
-fn op(alloc: Global, said: Said) -> Result<Op, Fail> {
-    match said {
-        Said::Create(draft) => Ok(Op::Create(new_entry(alloc, draft)?)),
-        Said::Update(draft, expected) => Ok(Op::Update(new_entry(alloc, draft)?, expected)),
-        Said::Delete(number, expected) => Ok(Op::Delete(uuid_of(number), expected)),
-        Said::Show(number) => Ok(Op::Show(uuid_of(number))),
-        Said::ShowAgent(agent) => Ok(Op::ShowAgent(id(alloc, agent)?)),
-        Said::ShowBundle(of) => Ok(Op::ShowBundle(domain(alloc, of)?)),
-        Said::Children(parent) => Ok(Op::Children(id(alloc, parent)?)),
-        Said::Page(listing) => page(alloc, &listing),
-        Said::Authorised(agent) => Ok(Op::Authorised(id(alloc, agent)?)),
-        Said::Trust(agent) => Ok(Op::Trust(id(alloc, agent)?)),
-        Said::Prune(moment) => Ok(Op::Prune(moment)),
-        Said::SetAgent(text, count) => Ok(Op::SetAgent(agent(alloc, text, count)?)),
-        Said::DropAgent(agent) => Ok(Op::DropAgent(id(alloc, agent)?)),
-        Said::SetBundle(of, length) => {
-            let text = text(alloc, length)?;
-            Ok(Op::SetBundle(domain(alloc, of)?, text))
+/// The operation of a line with more behind it.
+fn op_with(alloc: Global, words: &[&str], more: &[&str]) -> Result<Op, Fail> {
+    match word(words, 0) {
+        "create" => Ok(Op::Create(entry(alloc, words, more)?)),
+        "update" => {
+            let expected = given_number(more, 2)?;
+            Ok(Op::Update(entry(alloc, words, more)?, expected))
         }
-        Said::DropBundle(of, mode) => Ok(Op::DropBundle(domain(alloc, of)?, mode)),
+        "delete" => Ok(Op::Delete(uuid(words, 1)?, given_number(more, 0)?)),
+        "page" => Ok(Op::Page(page(alloc, words, more)?)),
+        _ => Err(Fail::from("a line with nothing more")),
     }
 }
 
-pub fn ops(alloc: Global, said: &[Said]) -> Result<Sequence<Op>, Fail> {
-    let mut ops = Sequence::empty(alloc);
-    for one in said {
-        ops.push(op(alloc, *one)?)?;
+fn add_with(alloc: Global, ops: &mut Vec<Op>, line: &str, more: &str) -> Result<(), Fail> {
+    let (words, more) = (words(alloc, line)?, words(alloc, more)?);
+    ops.push(op_with(alloc, words.as_slice(), more.as_slice())?)?;
+    Ok(())
+}
+
+/// Adds the operation of a line with nothing more.
+fn add_plain(alloc: Global, ops: &mut Vec<Op>, line: &str) -> Result<(), Fail> {
+    let batch = batch_texts::batch(alloc, line)?;
+    let mut plain = batch.shared_ops().get().clone()?.into_vec();
+    ops.append(&mut plain)?;
+    Ok(())
+}
+
+fn add_line(alloc: Global, ops: &mut Vec<Op>, line: &str) -> Result<(), Fail> {
+    if line.starts_with("token ") || line.starts_with("after ") {
+        return Ok(());
+    }
+    match line.split_once(" with ") {
+        Some((line, more)) => add_with(alloc, ops, line, more),
+        None => add_plain(alloc, ops, line),
+    }
+}
+
+/// The operations that the lines tell.
+fn ops_of(alloc: Global, lines: &str) -> Result<Vec<Op>, Fail> {
+    let mut ops = Vec::new(alloc);
+    for line in lines.lines() {
+        add_line(alloc, &mut ops, line)?;
     }
     Ok(ops)
+}
+
+/// The batch of lines, some with more.
+fn batch_with(alloc: Global, lines: &str) -> Result<Batch, Fail> {
+    let token = match number_behind(alloc, lines, "token")? {
+        Some(number) => Some(Uuid::from_u64_pair(0, number)),
+        None => None,
+    };
+    let after = number_behind(alloc, lines, "after")?.unwrap_or(0);
+    let domain = trust_domain(alloc, "ex.org")?;
+    let ops = Sequence::of(ops_of(alloc, lines)?);
+    Ok(Batch::new(alloc, &domain, ops, after, token)?)
+}
+
+/// The batch that a text tells.
+pub fn batch(alloc: Global, text: &str) -> Result<Batch, Fail> {
+    if text.contains(" with ") {
+        let lines = text.replace(alloc, "; ", "\n")?;
+        return batch_with(alloc, lines.as_str());
+    }
+    Ok(batch_texts::batch(alloc, text)?)
 }

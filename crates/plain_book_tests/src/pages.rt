@@ -1,303 +1,217 @@
 //! Pages of a book of random entries: page after page, whatever the filter and the size, they list what a search over the
-//! entries finds, which knows them by a few bits.
+//! entries finds, which knows them by the words that told them.
 
-use crate::making::{API, N1, N2, WEB};
-use crate::told::{number_of, run, small_book};
-use crate::wanted::{holds, is_number};
-use entry_book::{
-    Batch, DomainSet, Filter, MatchMode, NewEntry, Op, OpReply, Outcome, PageQuery, Reply,
-    SelectorMatch, Sequence, Shared, Text,
-};
+use crate::draws::drawn;
+use crate::playing::{first_book, plays_on, told};
+use crate::wanted::{holds, is_text};
+use batch_texts::{below, word, words};
 use plain_book::PlainBook;
-use spiffe_name::{Selector, SelectorSet, SpiffeId, TrustDomain};
 use std::alloc::Global;
 use std::process::Abort;
 use std::test::Fail;
-use uuid::Uuid;
 
-/// The selectors that an entry may have, each with its bit.
-const SELECTORS: [(&str, usize); 3] = [("u:1", 1), ("u:2", 2), ("w:1", 4)];
+/// `<entry>` is all but the number of an entry, `<filter>` a filter, each of whose parts is given in half of the cases.
+const GRAMMAR: &str = "\
+<entry>: <parent> <identity> <selectors> 0 <domains>
+<parent>: /spire/agent/n1 | /spire/agent/n2
+<identity>: /web | /api
+<selectors>: u:1 | u:2 | w:1 | u:1,u:2 | u:1,w:1 | u:2,w:1 | u:1,u:2,w:1
+<domains>: | b.org | c.org | b.org c.org
+<domain>: b.org | c.org
+<mode>: exact | any | superset | subset
+<filter>: <parent?> <identity?> <domain?> <match?>
+<parent?>: - | <parent>
+<identity?>: - | <identity>
+<domain?>: - | <domain>
+<match?>: - | <mode> <selectors>
+";
 
-/// The trust domains that it may name.
-const DOMAINS: [(&str, usize); 2] = [("b.org", 1), ("c.org", 2)];
-
-const PARENTS: [&str; 2] = [N1, N2];
-
-const IDENTITIES: [&str; 2] = [WEB, API];
-
-const MODES: [MatchMode; 4] = [
-    MatchMode::Exact,
-    MatchMode::Any,
-    MatchMode::Superset,
-    MatchMode::Subset,
-];
-
-/// An entry: the number that its id is, and its parts, by index or by bits.
-#[derive(Clone, Copy, Drop)]
-struct Row {
-    number: u16,
-    parent: usize,
-    identity: usize,
-    selectors: usize,
-    domains: usize,
-}
-
-/// A filter: the parts that it gives. The mode is an index.
-#[derive(Clone, Copy, Drop)]
-struct Asked {
-    parent: Option<usize>,
-    identity: Option<usize>,
-    domain: Option<usize>,
-    selectors: Option<(usize, usize)>,
-}
-
-/// A random number below a bound, which is at least 1.
-fn below(state: &mut u64, bound: u64) -> usize {
-    *state = state
-        .wrapping_mul(6_364_136_223_846_793_005)
-        .wrapping_add(1_442_695_040_888_963_407);
-    (*state >> 33).checked_rem(bound).unwrap_or(0) as usize
-}
-
-fn id_of(alloc: Global, texts: &[&str], index: usize) -> Result<Shared<SpiffeId>, Fail> {
-    let text = texts.get(index).copied().unwrap_or(N1);
-    Ok(Shared::of(alloc, SpiffeId::parse(alloc, text)?)?)
-}
-
-fn selectors_of(alloc: Global, bits: usize) -> Result<Shared<SelectorSet>, Fail> {
-    let mut selectors = Vec::new(alloc);
-    for (text, bit) in SELECTORS {
-        if bits & bit != 0 {
-            selectors.push(Selector::parse(alloc, text)?)?;
-        }
-    }
-    Ok(Shared::of(alloc, SelectorSet::of(selectors)?)?)
-}
-
-fn domains_of(alloc: Global, bits: usize) -> Result<DomainSet, Fail> {
-    let mut domains = Vec::new(alloc);
-    for (text, bit) in DOMAINS {
-        if bits & bit != 0 {
-            domains.push(TrustDomain::parse(alloc, text)?)?;
-        }
-    }
-    Ok(DomainSet::of(alloc, domains)?)
-}
-
-fn create(alloc: Global, row: &Row) -> Result<Op, Fail> {
-    let parent = id_of(alloc, &PARENTS, row.parent)?;
-    let identity = id_of(alloc, &IDENTITIES, row.identity)?;
-    let selectors = selectors_of(alloc, row.selectors)?;
-    let hint = Shared::of(alloc, Text::of(String::new(alloc)))?;
-    let domains = domains_of(alloc, row.domains)?;
-    let new = NewEntry {
-        id: Uuid::from_u64_pair(0, u64::from(row.number)),
-        parent,
-        identity,
-        selectors,
-        hint,
-        domains,
-        expiry: 0,
-        x509_svid_ttl: 0,
-        jwt_svid_ttl: 0,
-    };
-    Ok(Op::Create(Shared::of(alloc, new)?))
-}
-
-/// The book's reply to a batch of this one operation.
-fn answered(alloc: Global, book: &mut PlainBook, op: Op) -> Result<Reply, Fail> {
-    let mut ops = Sequence::empty(alloc);
-    ops.push(op)?;
-    let batch = Batch::new(alloc, book.domain(), ops, 0, None)?;
-    run(book, &batch)
-}
-
-fn set_bundle(alloc: Global, text: &str) -> Result<Op, Fail> {
-    let domain = Shared::of(alloc, TrustDomain::parse(alloc, text)?)?;
-    let bundle = Shared::of(alloc, Text::of(String::new(alloc)))?;
-    Ok(Op::SetBundle(domain, bundle))
-}
-
-/// A random entry.
-fn random_row(state: &mut u64, number: u16) -> Row {
-    Row {
-        number,
-        parent: below(state, 2),
-        identity: below(state, 2),
-        selectors: below(state, 7).wrapping_add(1),
-        domains: below(state, 4),
-    }
-}
+const BUNDLES: &str = "\
+set_bundle b.org; set_bundle c.org => committed at 1; bundle b.org 0; bundle c.org 0
+";
 
 /// The entries that the book took, in the order of their ids; one that is like an earlier one isn't taken.
-fn filled(alloc: Global, book: &mut PlainBook, state: &mut u64) -> Result<Vec<Row>, Fail> {
-    for (text, _) in DOMAINS {
-        answered(alloc, book, set_bundle(alloc, text)?)?;
-    }
+fn filled(alloc: Global, book: &mut PlainBook, state: &mut u64) -> Result<Vec<String>, Fail> {
     let mut rows = Vec::new(alloc);
-    for number in 1..14 {
-        let row = random_row(state, number);
-        if let Outcome::Committed(_) = answered(alloc, book, create(alloc, &row)?)?.outcome {
+    for number in 1..14_u64 {
+        let drawn = drawn(alloc, state, GRAMMAR, "<entry>")?;
+        let row = format!(in alloc; "create {number} {drawn}")?;
+        if told(alloc, book, row.as_str())?.starts_with("committed") {
             rows.push(row)?;
         }
     }
     Ok(rows)
 }
 
-/// A random filter: each part is given in half of the cases.
-fn random_filter(state: &mut u64) -> Asked {
-    let parent = [None, Some(below(state, 2))][below(state, 2) & 1];
-    let identity = [None, Some(below(state, 2))][below(state, 2) & 1];
-    let domain = [None, Some(below(state, 2))][below(state, 2) & 1];
-    let question = (below(state, 7).wrapping_add(1), below(state, 4));
-    let selectors = [None, Some(question)][below(state, 2) & 1];
-    Asked {
-        parent,
-        identity,
-        domain,
-        selectors,
+/// Is the word one of these, which stand with commas between them?
+fn is_among(word: &str, words: &str) -> bool {
+    for other in words.split(',') {
+        if other == word {
+            return true;
+        }
     }
+    false
 }
 
-fn filter(alloc: Global, asked: &Asked) -> Result<Filter, Fail> {
-    let parent = match asked.parent {
-        Some(index) => Some(id_of(alloc, &PARENTS, index)?),
-        None => None,
-    };
-    let identity = match asked.identity {
-        Some(index) => Some(id_of(alloc, &IDENTITIES, index)?),
-        None => None,
-    };
-    let domain = match asked.domain {
-        Some(index) => Some(domain_of(alloc, index)?),
-        None => None,
-    };
-    let selectors = match asked.selectors {
-        Some((bits, mode)) => Some(SelectorMatch {
-            selectors: selectors_of(alloc, bits)?,
-            mode: MODES[mode & 3],
-        }),
-        None => None,
-    };
-    Ok(Filter {
-        parent,
-        identity,
-        domain,
-        selectors,
-    })
+/// How many of these words are among the others?
+fn count_among(words: &str, others: &str) -> usize {
+    let mut count: usize = 0;
+    for word in words.split(',') {
+        count = count.wrapping_add(usize::from(is_among(word, others)));
+    }
+    count
 }
 
-fn domain_of(alloc: Global, index: usize) -> Result<Shared<TrustDomain>, Fail> {
-    let (text, _) = DOMAINS[index & 1];
-    Ok(Shared::of(alloc, TrustDomain::parse(alloc, text)?)?)
+fn is_within(words: &str, others: &str) -> bool {
+    count_among(words, others) == words.split(',').count()
 }
 
-/// Do the bits of an entry match those of a filter?
-fn do_bits_match(own: usize, given: usize, mode: usize) -> bool {
+/// Do the selectors of an entry match those of a filter?
+fn do_match(own: &str, given: &str, mode: &str) -> bool {
     match mode {
-        0 => own ^ given == 0,
-        1 => own & given > 0,
-        2 => own | given == own,
-        _ => own | given == given,
+        "exact" => is_within(own, given) && is_within(given, own),
+        "any" => count_among(own, given) > 0,
+        "superset" => is_within(given, own),
+        "subset" => is_within(own, given),
+        _ => true,
     }
+}
+
+/// Is the word the given one, where one is given?
+fn is_given(given: &str, word: &str) -> bool {
+    given == "-" || given == word
+}
+
+/// Does the entry name the domain, where one is given?
+fn names(row: &[&str], given: &str) -> bool {
+    for domain in row.iter().skip(6) {
+        if is_given(given, domain) {
+            return true;
+        }
+    }
+    given == "-"
 }
 
 /// Would the search list this entry?
-fn is_found(row: &Row, asked: &Asked) -> bool {
-    let of_domain = match asked.domain {
-        Some(0) => row.domains == 1 || row.domains == 3,
-        Some(_) => row.domains > 1,
-        None => true,
-    };
-    let of_selectors = match asked.selectors {
-        Some((bits, mode)) => do_bits_match(row.selectors, bits, mode),
-        None => true,
-    };
-    of_domain
-        && of_selectors
-        && asked.parent.unwrap_or(row.parent) == row.parent
-        && asked.identity.unwrap_or(row.identity) == row.identity
+fn is_found(row: &[&str], filter: &[&str]) -> bool {
+    is_given(word(filter, 0), word(row, 2))
+        && is_given(word(filter, 1), word(row, 3))
+        && names(row, word(filter, 2))
+        && do_match(word(row, 4), word(filter, 4), word(filter, 3))
 }
 
-/// The numbers of the entries that the search finds.
-fn found(alloc: Global, rows: &[Row], asked: &Asked) -> Result<Vec<u16>, Fail> {
-    let mut numbers = Vec::new(alloc);
+/// The entries that the search finds.
+fn found<'a>(alloc: Global, rows: &'a [String], filter: &str) -> Result<Vec<&'a str>, Fail> {
+    let filter = words(alloc, filter)?;
+    let mut found = Vec::new(alloc);
     for row in rows {
-        if is_found(row, asked) {
-            numbers.push(row.number)?;
+        if is_found(words(alloc, row.as_str())?.as_slice(), filter.as_slice()) {
+            found.push(row.as_str())?;
         }
     }
-    Ok(numbers)
+    Ok(found)
 }
 
-/// The numbers of a page's entries, and of the entry after which the next one begins.
-fn page(
+/// Adds an entry to a page, as its number, its revision and its domains.
+fn add_row(text: &mut String, row: &[&str]) -> Result<(), Fail> {
+    text.push_str(" ")?;
+    text.push_str(word(row, 1))?;
+    text.push_str(".0")?;
+    for domain in row.iter().skip(6) {
+        text.push_str(" ")?;
+        text.push_str(domain)?;
+    }
+    Ok(())
+}
+
+/// Ends a page behind an entry, and begins the next one.
+fn add_next(text: &mut String, row: &[&str], head: &str) -> Result<(), Fail> {
+    text.push_str(" next ")?;
+    text.push_str(word(row, 1))?;
+    text.push_str("\n")?;
+    text.push_str(head)?;
+    Ok(())
+}
+
+/// All pages of these entries, each but the last one full, and each behind this head.
+fn wanted_pages(alloc: Global, found: &[&str], size: u64, head: &str) -> Result<String, Fail> {
+    let mut pages = String::from_str(alloc, head)?;
+    let mut rest = found.len() as u64;
+    let mut count: u64 = 0;
+    for row in found {
+        let row = words(alloc, row)?;
+        add_row(&mut pages, row.as_slice())?;
+        rest = rest.wrapping_sub(1);
+        count = count.wrapping_add(1);
+        if count == size && rest > 0 {
+            add_next(&mut pages, row.as_slice(), head)?;
+            count = 0;
+        }
+    }
+    pages.push_str("\n")?;
+    Ok(pages)
+}
+
+/// All pages that the book answers, from the first one on; none has more than thirteen entries.
+fn told_pages(
     alloc: Global,
     book: &mut PlainBook,
-    query: PageQuery,
-) -> Result<(Vec<u16>, Option<Uuid>), Fail> {
-    let reply = answered(alloc, book, Op::Page(Shared::of(alloc, query)?))?;
-    let Outcome::Answered(replies) = &reply.outcome else {
-        return Err(Fail::from("a page isn't answered"));
-    };
-    let [OpReply::Page(entries, next)] = replies.get().as_slice() else {
-        return Err(Fail::from("a page has another reply"));
-    };
-    let mut numbers = Vec::new(alloc);
-    for entry in entries.as_slice() {
-        numbers.push(number_of(entry.id()))?;
+    size: u64,
+    filter: &str,
+) -> Result<String, Fail> {
+    let mut pages = String::new(alloc);
+    let mut page = format!(in alloc; " next -")?;
+    for _ in 0..20 {
+        let Some((_, from)) = page.as_str().split_once(" next ") else {
+            break;
+        };
+        let text = format!(in alloc; "page {size} - {from} with {filter}")?;
+        page = told(alloc, book, text.as_str())?;
+        pages.push_str(page.as_str())?;
+        pages.push_str("\n")?;
     }
-    Ok((numbers, *next))
+    Ok(pages)
 }
 
-/// Page after page of this size is what the search finds, and each but the last is full.
+/// Page after page of this size is what the search finds.
 fn are_pages_found(
     rt: &impl Abort,
     alloc: Global,
     book: &mut PlainBook,
-    rows: &[Row],
-    (asked, size): (&Asked, u64),
+    rows: &[String],
+    filter: &str,
+    size: u64,
 ) -> Result<(), Fail> {
-    let wanted = found(alloc, rows, asked)?;
-    let mut listed = Vec::new(alloc);
-    let mut from = None;
-    for _ in 0..20 {
-        let query = PageQuery {
-            size,
-            at: None,
-            from,
-            filter: filter(alloc, asked)?,
-        };
-        let (mut numbers, next) = page(alloc, book, query)?;
-        let count = numbers.len() as u64;
-        listed.append(&mut numbers)?;
-        let is_more = listed.len() < wanted.len();
-        holds(rt, next.is_some() == is_more, "a page after this one");
-        if next.is_none() {
-            holds(rt, count <= size, "no more than the size");
-            break;
-        }
-        is_number(rt, count, size, "a full page");
-        let last = next.map(|id| number_of(&id));
-        holds(rt, last == listed.last().copied(), "the page's last entry");
-        from = next;
+    let place = rows.len().wrapping_add(1);
+    let head = format!(in alloc; "answered at {place}; page")?;
+    let found = found(alloc, rows, filter)?;
+    let want = wanted_pages(alloc, found.as_slice(), size, head.as_str())?;
+    let got = told_pages(alloc, book, size, filter)?;
+    is_text(rt, got.as_str(), want.as_str(), filter);
+    Ok(())
+}
+
+/// So it is with each of these random filters.
+fn all_filters(
+    rt: &impl Abort,
+    alloc: Global,
+    book: &mut PlainBook,
+    state: &mut u64,
+) -> Result<(), Fail> {
+    let rows = filled(alloc, book, state)?;
+    holds(rt, rows.len() > 8, "entries that the book took");
+    for _ in 0..40 {
+        let size = below(state, 4).wrapping_add(1) as u64;
+        let filter = drawn(alloc, state, GRAMMAR, "<filter>")?;
+        are_pages_found(rt, alloc, book, &rows, filter.as_str(), size)?;
     }
-    let is_found = listed.as_slice() == wanted.as_slice();
-    holds(rt, is_found, "the entries that the search finds");
     Ok(())
 }
 
 #[test]
 fn pages_are_what_a_search_finds(rt: HostRuntime) -> Result<(), Fail> {
-    let alloc = rt.alloc();
     let mut state = 7;
-    let mut book = small_book(alloc)?;
-    let rows = filled(alloc, &mut book, &mut state)?;
-    holds(&rt, rows.len() > 8, "entries that the book took");
-    for _ in 0..40 {
-        let asked = random_filter(&mut state);
-        let size = below(&mut state, 4).wrapping_add(1) as u64;
-        are_pages_found(&rt, alloc, &mut book, &rows, (&asked, size))?;
-    }
-    Ok(())
+    let mut book = first_book(rt.alloc())?;
+    plays_on(&rt, rt.alloc(), &mut book, BUNDLES)?;
+    all_filters(&rt, rt.alloc(), &mut book, &mut state)
 }

@@ -1,204 +1,73 @@
 //! Pages of earlier books, and batches that wait for a later place.
 
-use crate::making::{Draft, Listing, N1, Said, WEB};
-use crate::rows::bits;
-use crate::told::{Told, answers_with, asks, number_of, replies, reply_to, small_book, told};
-use crate::wanted::{holds, is_told};
-use entry_book::OpReply;
-use plain_book::PlainBook;
+use crate::playing::{first_book, plays_on};
 use std::alloc::Global;
 use std::process::Abort;
 use std::test::Fail;
 
-const FIRST: Draft = Draft {
-    number: 1,
-    parent: N1,
-    identity: WEB,
-    selectors: 1,
-    domains: 0,
-    expiry: 0,
-    x509_svid_ttl: 0,
-    jwt_svid_ttl: 0,
-};
+/// Leads to the book of five entries, each with one selector more, at place 1, of which the fourth is deleted at place 2.
+const FOUR: &str = "\
+create 1 n1 /web u:1 0; create 2 n1 /web u:1,u:2 0; create 3 n1 /web u:1,u:2,u:3 0; \
+create 4 n1 /web u:1,u:2,u:3,u:4 0; create 5 n1 /web u:1,u:2,u:3,u:4,u:5 0 \
+=> committed at 1; entry 1.0; entry 2.0; entry 3.0; entry 4.0; entry 5.0
+page 2 - - => answered at 1; page 1.0 2.0 next 2
+delete 4 => committed at 2; entry 4.0
+";
 
-/// Five entries, each with one selector more.
-const FIVE: [Said; 5] = [
-    Said::Create(FIRST),
-    Said::Create(Draft {
-        number: 2,
-        selectors: 2,
-        ..FIRST
-    }),
-    Said::Create(Draft {
-        number: 3,
-        selectors: 3,
-        ..FIRST
-    }),
-    Said::Create(Draft {
-        number: 4,
-        selectors: 4,
-        ..FIRST
-    }),
-    Said::Create(Draft {
-        number: 5,
-        selectors: 5,
-        ..FIRST
-    }),
-];
-
-/// A page of two entries of a book, behind this one.
-fn page(at: Option<u64>, from: Option<u16>) -> Said {
-    Said::Page(Listing {
-        size: 2,
-        at,
-        from,
-        parent: None,
-        identity: None,
-        domain: None,
-        selectors: None,
-    })
+/// Plays a script on the book of four entries.
+fn plays(rt: &impl Abort, alloc: Global, script: &str) -> Result<(), Fail> {
+    let mut book = first_book(alloc)?;
+    plays_on(rt, alloc, &mut book, FOUR)?;
+    plays_on(rt, alloc, &mut book, script)
 }
 
-/// The bits of the entries that are listed, and the number of the one after which the next page begins.
-fn listed(reply: &[OpReply]) -> Option<(u64, Option<u16>)> {
-    match reply {
-        [OpReply::Page(entries, next)] => {
-            let bits = bits(entries.as_slice())?;
-            Some((bits, next.map(|id| number_of(&id))))
-        }
-        _ => None,
-    }
-}
-
-/// The book is at this place, and lists so.
-fn lists(
-    rt: &impl Abort,
-    alloc: Global,
-    book: &mut PlainBook,
-    said: Said,
-    want: (u64, u64, Option<u16>),
-) -> Result<(), Fail> {
-    let reply = reply_to(alloc, book, &[said])?;
-    let (place, bits, next) = want;
-    is_told(rt, told(&reply), (place, "answered", None));
-    let listed = listed(replies(&reply));
-    holds(
-        rt,
-        listed == Some((bits, next)),
-        "the entries, and the next page",
-    );
-    Ok(())
-}
-
-/// Goes on to this place.
-fn goes_to(rt: &impl Abort, alloc: Global, book: &mut PlainBook, place: u64) -> Result<(), Fail> {
-    for found in book.place()..place {
-        let want: Told = (found.wrapping_add(1), "committed", None);
-        asks(rt, alloc, book, &[Said::Prune(0)], want)?;
-    }
-    Ok(())
-}
-
-/// The book of five entries at place 1, of which the fourth is deleted at place 2.
-fn book_of_four(rt: &impl Abort, alloc: Global) -> Result<PlainBook, Fail> {
-    let mut book = small_book(alloc)?;
-    asks(rt, alloc, &mut book, &FIVE, (1, "committed", None))?;
-    lists(rt, alloc, &mut book, page(None, None), (1, 0b110, Some(2)))?;
-    let delete = [Said::Delete(4, None)];
-    asks(rt, alloc, &mut book, &delete, (2, "committed", None))?;
-    Ok(book)
-}
+const DELETED_SINCE: &str = "\
+page 2 1 2 => answered at 2; page 3.0 4.0 next 4
+page 2 1 4 => answered at 2; page 5.0
+page 2 - 2 => answered at 2; page 3.0 5.0
+page 2 0 - => answered at 2; page
+";
 
 #[test]
 fn pages_of_an_earlier_book_list_what_is_deleted_since(rt: HostRuntime) -> Result<(), Fail> {
-    let mut book = book_of_four(&rt, rt.alloc())?;
-    let alloc = rt.alloc();
-    let second = page(Some(1), Some(2));
-    lists(&rt, alloc, &mut book, second, (2, 0b11000, Some(4)))?;
-    let third = page(Some(1), Some(4));
-    lists(&rt, alloc, &mut book, third, (2, 0b100000, None))?;
-    lists(
-        &rt,
-        alloc,
-        &mut book,
-        page(None, Some(2)),
-        (2, 0b101000, None),
-    )?;
-    lists(&rt, alloc, &mut book, page(Some(0), None), (2, 0, None))
+    plays(&rt, rt.alloc(), DELETED_SINCE)
 }
+
+const KEPT: &str = "\
+UP TO 64
+page 2 1 2 => answered at 64; page 3.0 4.0 next 4
+page 2 0 - => refused O8 at 64; operation 0
+UP TO 65
+page 2 1 2 => refused O8 at 65; operation 0
+page 2 2 2 => answered at 65; page 3.0 5.0
+";
 
 #[test]
 fn a_book_is_kept_until_it_is_the_sixty_fifth_from_the_last(rt: HostRuntime) -> Result<(), Fail> {
-    let mut book = book_of_four(&rt, rt.alloc())?;
-    let alloc = rt.alloc();
-    let second = page(Some(1), Some(2));
-    goes_to(&rt, alloc, &mut book, 64)?;
-    lists(&rt, alloc, &mut book, second, (64, 0b11000, Some(4)))?;
-    asks(
-        &rt,
-        alloc,
-        &mut book,
-        &[page(Some(0), None)],
-        (64, "O8", Some(0)),
-    )?;
-    goes_to(&rt, alloc, &mut book, 65)?;
-    asks(&rt, alloc, &mut book, &[second], (65, "O8", Some(0)))?;
-    lists(
-        &rt,
-        alloc,
-        &mut book,
-        page(Some(2), Some(2)),
-        (65, 0b101000, None),
-    )
+    plays(&rt, rt.alloc(), KEPT)
 }
+
+const LAST: &str = "\
+page 2 2 2 => answered at 2; page 3.0 5.0
+page 2 3 - => refused O8 at 2; operation 0
+page 2 18446744073709551615 - => refused O8 at 2; operation 0
+";
 
 #[test]
 fn the_last_book_may_be_asked_for_by_its_number_and_a_later_one_is_not_there(
     rt: HostRuntime,
 ) -> Result<(), Fail> {
-    let mut book = book_of_four(&rt, rt.alloc())?;
-    let alloc = rt.alloc();
-    lists(
-        &rt,
-        alloc,
-        &mut book,
-        page(Some(2), Some(2)),
-        (2, 0b101000, None),
-    )?;
-    asks(
-        &rt,
-        alloc,
-        &mut book,
-        &[page(Some(3), None)],
-        (2, "O8", Some(0)),
-    )?;
-    let last = [page(Some(u64::MAX), None)];
-    asks(&rt, alloc, &mut book, &last, (2, "O8", Some(0)))
+    plays(&rt, rt.alloc(), LAST)
 }
+
+const EARLY: &str = "\
+after 3; delete 4 => refused W1 at 2
+after 2; delete 4 => refused O3 at 2; operation 0
+after 3; page 2 9 - => refused W1 at 2
+after 2; prune 0 => committed at 3; pruned
+";
 
 #[test]
 fn a_batch_waits_for_its_place_before_anything_else(rt: HostRuntime) -> Result<(), Fail> {
-    let mut book = book_of_four(&rt, rt.alloc())?;
-    let alloc = rt.alloc();
-    let delete = [Said::Delete(4, None)];
-    answers_with(&rt, alloc, &mut book, &delete, (3, None), (2, "W1", None))?;
-    answers_with(
-        &rt,
-        alloc,
-        &mut book,
-        &delete,
-        (2, None),
-        (2, "O3", Some(0)),
-    )?;
-    let gone = [page(Some(9), None)];
-    answers_with(&rt, alloc, &mut book, &gone, (3, None), (2, "W1", None))?;
-    let prune = [Said::Prune(0)];
-    answers_with(
-        &rt,
-        alloc,
-        &mut book,
-        &prune,
-        (2, None),
-        (3, "committed", None),
-    )
+    plays(&rt, rt.alloc(), EARLY)
 }

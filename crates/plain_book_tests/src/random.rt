@@ -1,148 +1,167 @@
 //! Random batches of a few names: each book that comes out is lawful, each authorised answer is what a search for
 //! chains finds, and every code and kind of answer comes.
 
-ghost use Rattle.std.specs.Prelude.{◌<◌};
-
-use crate::draws::request;
-use crate::making::{Draft, N1, N2, Said};
+use crate::making::batch;
+use crate::playing::{answer_to, first_book, ops_of, replies, reply_to};
 use crate::requests::{
-    Past, are_listed, are_repeated, is_told_before, keep, nothing_past, past_page,
+    Past, Request, is_past_page, is_told_before, keep, past_of, random_request, text_of,
 };
-use crate::rows::{BookRows, are_children_listed, bits, is_lawful, rows_of};
-use crate::search::{bit, ends, has_cycle, is_alias};
-use crate::told::{answers, replies, reply_with, small_book};
+use crate::rows::{BookRows, are_children_listed, are_of, is_lawful, rows_of};
+use crate::search::{bit, does_name, ends, has_cycle, is_alias, listed, number_of};
 use crate::wanted::holds;
-use entry_book::{Agent, Bundle, DropMode, Entry, OpRefusal, OpReply, Outcome, Refusal, Reply};
+use batch_texts::reply_text;
+use entry_book::{
+    Agent, Batch, Bundle, DropMode, Entry, NewEntry, Op, OpReply, Outcome, PageQuery, Reply,
+};
 use plain_book::PlainBook;
 use std::alloc::Global;
 use std::process::Abort;
 use std::test::Fail;
+use uuid::Uuid;
 
-/// What came, and how often.
+/// What has to come.
+const COMING: &str = "\
+committed
+answered
+repeated
+refused W1
+refused O1
+refused O2
+refused O3
+refused O4
+refused O5
+refused O6
+refused O7
+refused O8
+refused O9
+a page of an earlier book
+a cycle
+an alias that is held
+an alias that isn't held
+entries after a change
+a bundle dropped with no user
+entries deleted with their bundle
+entries without their bundle
+a bundle told
+entries pruned
+";
+
+/// Is the line among these?
+fn is_among(lines: &str, wanted: &str) -> bool {
+    for line in lines.lines() {
+        if line == wanted {
+            return true;
+        }
+    }
+    false
+}
+
+/// Where it holds, adds the line to what came.
+fn note(came: &mut String, line: &str, holds: bool) -> Result<(), Fail> {
+    if holds && !is_among(came.as_str(), line) {
+        came.push_str(line)?;
+        came.push_str("\n")?;
+    }
+    Ok(())
+}
+
+fn note_change(came: &mut String, op: &Op, reply: &OpReply) -> Result<(), Fail> {
+    match (op, reply) {
+        (_, OpReply::Pruned(ids)) => note(came, "entries pruned", !ids.as_slice().is_empty()),
+        (_, OpReply::Entries(_)) => note(came, "entries after a change", true),
+        (Op::DropBundle(_, mode), OpReply::Dropped(deleted, dissociated)) => {
+            let (is_deleted, is_freed) = (
+                !deleted.as_slice().is_empty(),
+                !dissociated.as_slice().is_empty(),
+            );
+            note(
+                came,
+                "a bundle dropped with no user",
+                *mode == DropMode::Restrict,
+            )?;
+            note(came, "entries deleted with their bundle", is_deleted)?;
+            note(came, "entries without their bundle", is_freed)
+        }
+        _ => Ok(()),
+    }
+}
+
+/// A request that was run, at a place, with what it was answered.
 #[derive(Drop)]
-struct Counts {
-    committed: u64,
-    answered: u64,
-    repeated: u64,
-    early: u64,
-    reused: u64,
-    past_pages: u64,
-    refused: [u64; 8],
-    cycles: u64,
-    held: u64,
-    not_held: u64,
-    authorised: u64,
-    restricted: u64,
-    deleted: u64,
-    dissociated: u64,
-    trusted: u64,
-    pruned: u64,
+struct Answered {
+    place: u64,
+    request: Request,
+    batch: Batch,
+    reply: Reply,
+    told: String,
 }
 
-const NOTHING: Counts = Counts {
-    committed: 0,
-    answered: 0,
-    repeated: 0,
-    early: 0,
-    reused: 0,
-    past_pages: 0,
-    refused: [0; 8],
-    cycles: 0,
-    held: 0,
-    not_held: 0,
-    authorised: 0,
-    restricted: 0,
-    deleted: 0,
-    dissociated: 0,
-    trusted: 0,
-    pruned: 0,
-};
-
-fn nothing() -> Counts {
-    NOTHING
+/// Runs a random request.
+fn run(
+    alloc: Global,
+    book: &mut PlainBook,
+    state: &mut u64,
+    past: &Past,
+) -> Result<Answered, Fail> {
+    let place = book.place();
+    let request = random_request(alloc, state, past, place)?;
+    let batch = batch(alloc, text_of(alloc, &request)?.as_str())?;
+    let reply = reply_to(book, &batch)?;
+    let told = reply_text(alloc, &reply)?;
+    Ok(Answered {
+        place,
+        request,
+        batch,
+        reply,
+        told,
+    })
 }
 
-/// One more, where this holds.
-fn add(count: &mut u64, holds: bool) {
-    *count = count.wrapping_add(u64::from(holds));
-}
-
-fn kind(reason: &OpRefusal) -> usize
-    ensures { result < 8 }
-{
-    match reason {
-        OpRefusal::IdTaken => 0,
-        OpRefusal::Similar(_) => 1,
-        OpRefusal::NoEntry => 2,
-        OpRefusal::StaleRevision => 3,
-        OpRefusal::NoBundle(_) => 4,
-        OpRefusal::BundleInUse => 5,
-        OpRefusal::NoAgent => 6,
-        OpRefusal::VersionGone => 7,
+/// Notes what became of a request.
+fn note_all(came: &mut String, answered: &Answered) -> Result<(), Fail> {
+    if let Some((head, _)) = answered.told.as_str().split_once(" at ") {
+        note(came, head, true)?;
+    }
+    match &answered.reply.outcome {
+        Outcome::Committed(replies) => note_changes(
+            came,
+            ops_of(&answered.batch),
+            replies.get().as_slice(),
+        ),
+        Outcome::Answered(_) => note(
+            came,
+            "a page of an earlier book",
+            is_past_page(&answered.request),
+        ),
+        _ => Ok(()),
     }
 }
 
-fn count_changes(said: &[Said], replies: &[OpReply], counts: &mut Counts) {
-    for (op, reply) in said.iter().zip(replies) {
-        match (op, reply) {
-            (_, OpReply::Pruned(ids)) => add(&mut counts.pruned, !ids.as_slice().is_empty()),
-            (Said::DropBundle(_, mode), OpReply::Dropped(deleted, dissociated)) => {
-                add(&mut counts.restricted, *mode == DropMode::Restrict);
-                add(&mut counts.deleted, !deleted.as_slice().is_empty());
-                add(&mut counts.dissociated, !dissociated.as_slice().is_empty());
-            }
-            (_, OpReply::Entries(_)) => add(&mut counts.authorised, true),
-            _ => {}
-        }
+fn note_changes(came: &mut String, ops: &[Op], replies: &[OpReply]) -> Result<(), Fail> {
+    for (op, reply) in ops.iter().zip(replies) {
+        note_change(came, op, reply)?;
     }
-}
-
-fn count(said: &[Said], reply: &Reply, counts: &mut Counts) {
-    match &reply.outcome {
-        Outcome::Committed(replies) => {
-            add(&mut counts.committed, true);
-            count_changes(said, replies.get().as_slice(), counts);
-        }
-        Outcome::Answered(_) => {
-            add(&mut counts.answered, true);
-            add(&mut counts.past_pages, past_page(said).is_some());
-        }
-        Outcome::Repeated(_) => add(&mut counts.repeated, true),
-        Outcome::Refused(Refusal::OfOp(_, reason)) => {
-            add(&mut counts.refused[kind(reason)], true);
-        }
-        Outcome::Refused(Refusal::NotYet) => add(&mut counts.early, true),
-        Outcome::Refused(Refusal::TokenReused) => add(&mut counts.reused, true),
-        Outcome::Refused(Refusal::Full(_)) => {}
-    }
-}
-
-fn each_came(counts: &Counts) -> bool {
-    counts.committed != 0
-        && counts.answered != 0
-        && counts.repeated != 0
-        && counts.early != 0
-        && counts.reused != 0
-        && counts.past_pages != 0
-        && counts.refused.iter().all(|count| *count != 0)
-        && counts.cycles != 0
-        && counts.held != 0
-        && counts.not_held != 0
-        && counts.authorised != 0
-        && counts.restricted != 0
-        && counts.deleted != 0
-        && counts.dissociated != 0
-        && counts.trusted != 0
-        && counts.pruned != 0
+    Ok(())
 }
 
 /// Is the bundle's domain named by one of these entries?
 fn is_named(bundle: &Bundle, rows: &BookRows, ends: u64) -> bool {
-    rows.entries.iter().any(|entry| {
-        ends & bit(entry) != 0
-            && entry.domains().as_slice().iter().any(|domain| domain.get().as_str()
-                == bundle.domain.get().as_str())
-    })
+    for entry in &rows.entries {
+        if ends & bit(entry) != 0 && does_name(entry, bundle.domain.get().as_str()) {
+            return true;
+        }
+    }
+    false
+}
+
+/// Is the bundle shown at an index this one?
+fn is_shown(shown: &[Bundle], index: usize, bundle: &Bundle) -> bool {
+    match shown.get(index) {
+        Some(next) => {
+            next.domain.get() == bundle.domain.get() && next.sequence == bundle.sequence
+        }
+        None => false,
+    }
 }
 
 /// Are these the bundles that the entries name, in the order of their domains?
@@ -150,10 +169,7 @@ fn is_trust(shown: &[Bundle], rows: &BookRows, ends: u64) -> bool {
     let mut count: usize = 0;
     for bundle in &rows.bundles {
         if is_named(bundle, rows, ends) {
-            let Some(next) = shown.get(count) else {
-                return false;
-            };
-            if next.domain.get() != bundle.domain.get() || next.sequence != bundle.sequence {
+            if !is_shown(shown, count, bundle) {
                 return false;
             }
             count = count.wrapping_add(1);
@@ -162,29 +178,11 @@ fn is_trust(shown: &[Bundle], rows: &BookRows, ends: u64) -> bool {
     count == shown.len()
 }
 
-/// Are the entry's lifetimes those that were given?
-fn has_lifetimes(draft: &Draft, entry: &Entry) -> bool {
-    entry.x509_svid_ttl() == draft.x509_svid_ttl && entry.jwt_svid_ttl() == draft.jwt_svid_ttl
-}
-
-/// Is what the batch was answered of agents what a search finds in these rows, those of the book that came out? And has
-/// each entry that it made the lifetimes that were given? A repeat tells of an earlier book.
-fn are_right(said: &[Said], reply: &Reply, rows: &BookRows) -> bool {
-    if let Outcome::Repeated(_) = &reply.outcome {
-        return true;
-    }
-    said.iter().zip(replies(reply)).all(|(op, reply)| match (op, reply) {
-        (Said::Authorised(text), OpReply::Entries(entries)) => {
-            bits(entries.as_slice()) == Some(ends_of(rows, text))
-        }
-        (Said::Trust(text), OpReply::Bundles(bundles)) => {
-            is_trust(bundles.as_slice(), rows, ends_of(rows, text))
-        }
-        (Said::Create(draft) | Said::Update(draft, _), OpReply::Entry(entry)) => {
-            has_lifetimes(draft, entry)
-        }
-        _ => true,
-    })
+/// Has the entry the id and the lifetimes that were given?
+fn is_as_given(new: &NewEntry, entry: &Entry) -> bool {
+    entry.id() == &new.id
+        && entry.x509_svid_ttl() == new.x509_svid_ttl
+        && entry.jwt_svid_ttl() == new.jwt_svid_ttl
 }
 
 /// The bits of the entries in which a chain for the agent ends; none where there is no such agent.
@@ -197,30 +195,106 @@ fn ends_of(rows: &BookRows, text: &str) -> u64 {
     0
 }
 
-/// Counts cycles, and aliases that the agent holds or doesn't hold.
-fn count_chains(rows: &BookRows, ends: u64, counts: &mut Counts) {
-    add(&mut counts.cycles, has_cycle(rows, ends));
-    for entry in &rows.entries {
-        let is_end = ends & bit(entry) != 0;
-        add(&mut counts.held, is_alias(entry) && is_end);
-        add(&mut counts.not_held, is_alias(entry) && !is_end);
+/// Is this the number of the id after which the next page begins, or is there neither?
+fn is_next(next: &Option<Uuid>, last: Option<u16>) -> bool {
+    match (next, last) {
+        (Some(id), Some(last)) => number_of(id) == last,
+        (None, None) => true,
+        _ => false,
     }
 }
 
-/// Has the agent been told some bundle?
-fn is_trusting(replies: &[OpReply]) -> bool {
-    replies.iter().any(|reply| match reply {
-        OpReply::Bundles(bundles) => !bundles.as_slice().is_empty(),
+/// Does the page list what the search finds in these rows?
+fn is_listed(query: &PageQuery, rows: Option<&BookRows>, reply: &OpReply) -> bool {
+    match (rows, reply) {
+        (Some(rows), OpReply::Page(entries, next)) => {
+            let (all, last) = listed(rows, query);
+            are_of(entries.as_slice(), all) && is_next(next, last)
+        }
         _ => false,
-    })
+    }
+}
+
+/// The rows that a page reads: those of the book that it asks for, or of the last one before the batch.
+fn rows_for<'a>(query: &PageQuery, past: &'a Past) -> Option<&'a BookRows> {
+    match query.at {
+        Some(at) => past.books.get(at as usize),
+        None => past.books.last(),
+    }
+}
+
+/// Is the answer to a question what a search finds in these rows, those of the book that came out?
+fn is_found(op: &Op, reply: &OpReply, rows: &BookRows, past: &Past) -> bool {
+    match (op, reply) {
+        (Op::Authorised(agent), OpReply::Entries(entries)) => {
+            are_of(entries.as_slice(), ends_of(rows, agent.get().as_str()))
+        }
+        (Op::Trust(agent), OpReply::Bundles(bundles)) => {
+            is_trust(
+                bundles.as_slice(),
+                rows,
+                ends_of(rows, agent.get().as_str()),
+            )
+        }
+        (Op::Page(query), reply) => is_listed(query.get(), rows_for(query.get(), past), reply),
+        _ => true,
+    }
+}
+
+/// Has the entry that an operation made what was given?
+fn is_made(op: &Op, reply: &OpReply) -> bool {
+    match (op, reply) {
+        (Op::Create(new) | Op::Update(new, _), OpReply::Entry(entry)) => {
+            is_as_given(new.get(), entry)
+        }
+        _ => true,
+    }
+}
+
+/// Is what the batch was answered right? The questions of a repeat are answered out of an earlier book.
+fn are_right(answered: &Answered, rows: &BookRows, past: &Past) -> bool {
+    let is_repeated = matches!(&answered.reply.outcome, Outcome::Repeated(_));
+    for (op, reply) in ops_of(&answered.batch).iter().zip(replies(&answered.reply)) {
+        if !is_made(op, reply) || !(is_repeated || is_found(op, reply, rows, past)) {
+            return false;
+        }
+    }
+    true
+}
+
+/// Notes cycles, and aliases that the agent holds or doesn't hold.
+fn note_chains(came: &mut String, rows: &BookRows, ends: u64) -> Result<(), Fail> {
+    note(came, "a cycle", has_cycle(rows, ends))?;
+    for entry in &rows.entries {
+        let is_end = ends & bit(entry) != 0;
+        note(came, "an alias that is held", is_alias(entry) && is_end)?;
+        note(came, "an alias that isn't held", is_alias(entry) && !is_end)?;
+    }
+    Ok(())
+}
+
+/// Asks what the agent is authorised for, and what it is to trust.
+fn questions(alloc: Global, agent: &Agent) -> Result<Batch, Fail> {
+    let id = agent.id.get().as_str();
+    let path = id.strip_prefix("spiffe://ex.org").unwrap_or(id);
+    let text = format!(in alloc; "authorised {path}; trust {path}")?;
+    batch(alloc, text.as_str())
 }
 
 /// Are these the entries, and the bundles that they name?
 fn are_told_so(replies: &[OpReply], rows: &BookRows, ends: u64) -> bool {
     match replies {
         [OpReply::Entries(entries), OpReply::Bundles(bundles)] => {
-            bits(entries.as_slice()) == Some(ends) && is_trust(bundles.as_slice(), rows, ends)
+            are_of(entries.as_slice(), ends) && is_trust(bundles.as_slice(), rows, ends)
         }
+        _ => false,
+    }
+}
+
+/// Has the agent been told some bundle?
+fn is_trusting(replies: &[OpReply]) -> bool {
+    match replies {
+        [_, OpReply::Bundles(bundles)] => !bundles.as_slice().is_empty(),
         _ => false,
     }
 }
@@ -231,65 +305,13 @@ fn is_told(
     book: &mut PlainBook,
     rows: &BookRows,
     agent: &Agent,
-    text: &'static str,
-    counts: &mut Counts,
+    came: &mut String,
 ) -> Result<bool, Fail> {
     let ends = ends(rows, agent);
-    count_chains(rows, ends, counts);
-    let said = [Said::Authorised(text), Said::Trust(text)];
-    let reply = answers(alloc, book, &said)?;
-    add(&mut counts.trusted, is_trusting(replies(&reply)));
+    note_chains(came, rows, ends)?;
+    let reply = answer_to(book, &questions(alloc, agent)?)?;
+    note(came, "a bundle told", is_trusting(replies(&reply)))?;
     Ok(are_told_so(replies(&reply), rows, ends))
-}
-
-/// The agent's ID, as one of the few.
-fn name_of(agent: &Agent) -> &'static str {
-    if agent.id.get().as_str() == N1 {
-        N1
-    } else {
-        N2
-    }
-}
-
-/// Is each agent of these rows told what a search finds?
-fn are_told(
-    alloc: Global,
-    book: &mut PlainBook,
-    rows: &BookRows,
-    counts: &mut Counts,
-) -> Result<bool, Fail> {
-    for agent in &rows.agents {
-        if !is_told(alloc, book, rows, agent, name_of(agent), counts)? {
-            return Ok(false);
-        }
-    }
-    Ok(true)
-}
-
-/// Runs a random request, and judges what it is answered and the book that comes out.
-fn round(
-    rt: &impl Abort,
-    alloc: Global,
-    book: &mut PlainBook,
-    state: &mut u64,
-    counts: &mut Counts,
-    past: &mut Past,
-) -> Result<(), Fail> {
-    let place = book.place();
-    let request = request(alloc, state, past, place)?;
-    let reply = reply_with(alloc, book, &request.said, (request.after, request.token))?;
-    count(&request.said, &reply, counts);
-    holds(
-        rt,
-        is_told_before(&request, &reply, past, place),
-        "what is told before",
-    );
-    holds(rt, are_listed(&request.said, &reply, past), "the pages");
-    holds(rt, are_repeated(&request, &reply, past), "the repeat");
-    let rows = rows_of(alloc, book)?;
-    holds(rt, are_right(&request.said, &reply, &rows), "the replies");
-    judge(rt, alloc, book, &rows, counts)?;
-    keep(past, request, reply, rows)
 }
 
 /// Is the book that came out lawful, and are its agents told what a search finds?
@@ -298,35 +320,76 @@ fn judge(
     alloc: Global,
     book: &mut PlainBook,
     rows: &BookRows,
-    counts: &mut Counts,
+    came: &mut String,
 ) -> Result<(), Fail> {
     holds(rt, is_lawful(rows, book.place()), "a lawful book");
     let are_listed = are_children_listed(alloc, book, rows)?;
     holds(rt, are_listed, "the children of each parent");
-    let are_told = are_told(alloc, book, rows, counts)?;
-    holds(rt, are_told, "what each agent is told");
+    for agent in &rows.agents {
+        let is_told = is_told(alloc, book, rows, agent, came)?;
+        holds(rt, is_told, "what each agent is told");
+    }
     Ok(())
+}
+
+/// Judges what a request was answered, and the book that came out.
+fn judge_all(
+    rt: &impl Abort,
+    alloc: Global,
+    book: &mut PlainBook,
+    answered: &Answered,
+    past: &Past,
+    came: &mut String,
+) -> Result<BookRows, Fail> {
+    let told = answered.told.as_str();
+    let is_told = is_told_before(alloc, &answered.request, past, answered.place, told)?;
+    holds(rt, is_told, told);
+    let rows = rows_of(alloc, book)?;
+    holds(rt, are_right(answered, &rows, past), told);
+    judge(rt, alloc, book, &rows, came)?;
+    Ok(rows)
+}
+
+/// Runs a random request, and judges what comes of it.
+fn round(
+    rt: &impl Abort,
+    alloc: Global,
+    book: &mut PlainBook,
+    state: &mut u64,
+    past: &mut Past,
+    came: &mut String,
+) -> Result<(), Fail> {
+    let answered = run(alloc, book, state, past)?;
+    note_all(came, &answered)?;
+    let rows = judge_all(rt, alloc, book, &answered, past, came)?;
+    let Answered { request, told, .. } = answered;
+    keep(past, request, told, rows)
+}
+
+/// Runs random requests, one after another, and tells what came.
+fn rounds(rt: &impl Abort, alloc: Global, book: &mut PlainBook) -> Result<String, Fail> {
+    let mut state = 7;
+    let mut came = String::new(alloc);
+    let mut past = past_of(alloc, rows_of(alloc, book)?)?;
+    for _ in 0..1500 {
+        round(rt, alloc, book, &mut state, &mut past, &mut came)?;
+    }
+    Ok(came)
+}
+
+/// Everything came that has to come.
+fn all_came(rt: &impl Abort, came: &str) {
+    for line in COMING.lines() {
+        holds(rt, is_among(came, line), line);
+    }
 }
 
 #[test]
 fn random_requests_keep_the_book_lawful_and_are_told_what_a_search_finds(
     rt: HostRuntime,
 ) -> Result<(), Fail> {
-    let mut book = small_book(rt.alloc())?;
-    let mut state = 7;
-    let mut counts = nothing();
-    let mut past = nothing_past(rt.alloc());
-    past.books.push(rows_of(rt.alloc(), &mut book)?)?;
-    for _ in 0..1500 {
-        round(
-            &rt,
-            rt.alloc(),
-            &mut book,
-            &mut state,
-            &mut counts,
-            &mut past,
-        )?;
-    }
-    holds(&rt, each_came(&counts), "each of the counts");
+    let mut book = first_book(rt.alloc())?;
+    let came = rounds(&rt, rt.alloc(), &mut book)?;
+    all_came(&rt, came.as_str());
     Ok(())
 }

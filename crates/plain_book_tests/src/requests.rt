@@ -1,156 +1,245 @@
-//! What requests with a least place and a token are answered before their operations are looked at, and what a page of the
-//! book of any place lists.
+//! Random requests of a few names, and what those with a least place and a token are answered before their operations are looked
+//! at.
 
-use crate::making::{Listing, Said};
-use crate::rows::{BookRows, bits};
-use crate::search::listed;
-use crate::told::{Told, number_of, replies, told};
-use entry_book::{OpReply, Outcome, Reply};
+use crate::draws::drawn;
+use crate::rows::BookRows;
+use batch_texts::below;
 use std::alloc::Global;
 use std::test::Fail;
 
-/// A batch: its operations, the least place at which it may run, and its token.
+/// `<changes>` are one to three changes; in one of four cases they ask at the end what an agent is authorised for. `<questions>`
+/// are one to three questions, `<from>` is what a page says behind the number of its book. Each part of a filter is given in half
+/// of the cases.
+const GRAMMAR: &str = "\
+<changes>: <change> <end> | <change> ; <change> <end> | <change> ; <change> ; <change> <end>
+<end>: ; authorised <agent> | | |
+<change>: <create> | <create> | <create> | <create> | <create> | <update> | <update> \
+| delete <number> with <expected> | prune <moment> | <agents> | <agents> | <agents> | <bundles> | <bundles> | <bundles> | <bundles>
+<create>: create <entry> with <lifetime> <lifetime>
+<update>: update <entry> with <lifetime> <lifetime> <expected>
+<entry>: <number> <parent> <identity> <selectors> <moment> <domains>
+<agents>: set_agent <agent> <held> | set_agent <agent> <held> | drop_agent <agent>
+<bundles>: set_bundle <bundle> | drop_bundle <bundle> <mode>
+<questions>: <question> | <question> ; <question> | <question> ; <question> ; <question>
+<question>: show <number> | show_agent <agent> | show_bundle <domain> | children <parent> \
+| authorised <agent> | trust <agent> | <page> | <page>
+<page>: page <size> - <from>
+<from>: <number?> with <parent?> <identity?> <domain?> <match?>
+<number?>: - | <number>
+<parent?>: - | <parent>
+<identity?>: - | <identity>
+<domain?>: - | <domain>
+<match?>: - | <match> <selectors>
+<number>: 1 | 2 | 3 | 4 | 5 | 6 | 7
+<size>: 1 | 2 | 3
+<parent>: /spire/agent/n1 | /spire/agent/n2 | /spire/server | /web | /api
+<identity>: /web | /api | /spire/agent/n2
+<agent>: /spire/agent/n1 | /spire/agent/n2
+<selectors>: x:1 | x:1,x:2
+<held>: - | - | x:1 | x:1,x:2
+<moment>: 0 | 1 | 2 | 3
+<lifetime>: 0 | 300 | 3600
+<expected>: - | - | 0 | 1
+<domains>: | | d100 | d100 d101
+<bundle>: d100 | d101 | d102
+<domain>: d100 | d101 | d102 | ex.org
+<mode>: restrict | delete | dissociate
+<match>: exact | any | superset | subset
+";
+
+/// A batch: the least place at which it may run, its token, the number of the book that it asks for, where it is a page that
+/// gives one, and its operations.
 #[derive(Drop)]
 pub struct Request {
-    pub said: Vec<Said>,
-    pub after: u64,
-    pub token: Option<u16>,
+    after: u64,
+    token: Option<u64>,
+    at: Option<u64>,
+    ops: String,
 }
 
 /// A batch that was committed with a token, and what it was answered.
 #[derive(Drop)]
-pub struct Kept {
-    pub said: Vec<Said>,
-    pub token: u16,
-    pub reply: Reply,
+struct Kept {
+    token: u64,
+    ops: String,
+    told: String,
 }
 
 /// The rows of each book so far, by its number, and the batches that were committed with a token.
 #[derive(Drop)]
 pub struct Past {
     pub books: Vec<BookRows>,
-    pub kept: Vec<Kept>,
+    kept: Vec<Kept>,
 }
 
-pub fn nothing_past(alloc: Global) -> Past {
-    Past {
-        books: Vec::new(alloc),
-        kept: Vec::new(alloc),
+/// The past of the first book, which has these rows.
+pub fn past_of(alloc: Global, rows: BookRows) -> Result<Past, Fail> {
+    let mut books = Vec::new(alloc);
+    books.push(rows)?;
+    let kept = Vec::new(alloc);
+    Ok(Past { books, kept })
+}
+
+/// Does the request ask for the book of a number?
+pub fn is_past_page(request: &Request) -> bool {
+    request.at.is_some()
+}
+
+/// The batch's text.
+pub fn text_of(alloc: Global, request: &Request) -> Result<String, Fail> {
+    let (after, ops) = (request.after, request.ops.as_str());
+    match request.token {
+        Some(token) => Ok(format!(in alloc; "after {after}; token {token}; {ops}")?),
+        None => Ok(format!(in alloc; "after {after}; {ops}")?),
     }
 }
 
-/// Where the request is committed now: keeps the rows after it, and the request under its token, where it carries one.
-pub fn keep(past: &mut Past, request: Request, reply: Reply, rows: BookRows) -> Result<(), Fail> {
-    if told(&reply).1 != "committed" {
-        return Ok(());
+/// The least place of a request, which one in sixteen has still to wait for.
+fn least(state: &mut u64, place: u64) -> u64 {
+    match below(state, 16) {
+        0 => place.wrapping_add(1),
+        1 => place,
+        _ => 0,
     }
-    past.books.push(rows)?;
-    let Request { said, token, .. } = request;
+}
+
+/// A page of one of the books before the last one at this place, of this one, or of one to come.
+fn past_page(alloc: Global, state: &mut u64, place: u64) -> Result<Request, Fail> {
+    let at = place
+        .wrapping_add(2)
+        .saturating_sub(below(state, 70) as u64);
+    let page = format!(in alloc; "page <size> {at} <from>")?;
+    Ok(Request {
+        after: least(state, place),
+        token: None,
+        at: Some(at),
+        ops: drawn(alloc, state, GRAMMAR, page.as_str())?,
+    })
+}
+
+/// A batch, in one of four cases of questions; one of changes carries a token in half of the cases.
+fn new_request(alloc: Global, state: &mut u64, place: u64) -> Result<Request, Fail> {
+    let asks = below(state, 4) == 0;
+    let token = below(state, 600) as u64;
+    let kind = if asks { "<questions>" } else { "<changes>" };
+    Ok(Request {
+        after: least(state, place),
+        token: if asks || token >= 300 {
+            None
+        } else {
+            Some(token)
+        },
+        at: None,
+        ops: drawn(alloc, state, GRAMMAR, kind)?,
+    })
+}
+
+/// One of the batches that were committed with a token, again; any other where there is none.
+fn again(alloc: Global, state: &mut u64, past: &Past, place: u64) -> Result<Request, Fail> {
+    let index = below(state, 300);
+    match past.kept.get(index) {
+        Some(kept) => Ok(Request {
+            after: least(state, place),
+            token: Some(kept.token),
+            at: None,
+            ops: kept.ops.clone()?,
+        }),
+        None => new_request(alloc, state, place),
+    }
+}
+
+/// A random request to a book at this place.
+pub fn random_request(
+    alloc: Global,
+    state: &mut u64,
+    past: &Past,
+    place: u64,
+) -> Result<Request, Fail> {
+    match below(state, 12) {
+        0 => past_page(alloc, state, place),
+        1 => again(alloc, state, past, place),
+        _ => new_request(alloc, state, place),
+    }
+}
+
+/// Keeps the request under its token, where it carries one, with what it was answered.
+fn keep_answer(past: &mut Past, request: Request, told: String) -> Result<(), Fail> {
+    let Request { token, ops, .. } = request;
     if let Some(token) = token {
-        past.kept.push(Kept { said, token, reply })?;
+        past.kept.push(Kept { token, ops, told })?;
     }
     Ok(())
 }
 
+/// Where the request is committed now: keeps the rows after it, and what it was answered.
+pub fn keep(past: &mut Past, request: Request, told: String, rows: BookRows) -> Result<(), Fail> {
+    if !told.as_str().starts_with("committed") {
+        return Ok(());
+    }
+    past.books.push(rows)?;
+    keep_answer(past, request, told)
+}
+
 /// The batch that was committed with the request's token.
 fn kept_for<'a>(past: &'a Past, request: &Request) -> Option<&'a Kept> {
-    past.kept
-        .iter()
-        .find(|kept| Some(kept.token) == request.token)
-}
-
-/// The page that is asked of an earlier book, and the number of the book.
-pub fn past_page(said: &[Said]) -> Option<(Listing, u64)> {
-    let [one] = said else {
-        return None;
-    };
-    match one {
-        Said::Page(listing) => Some((*listing, listing.at?)),
-        _ => None,
-    }
-}
-
-/// What is told of the request at this place before its operations are looked at; none where they are.
-fn told_before(request: &Request, past: &Past, place: u64) -> Option<Told> {
-    if request.after > place {
-        return Some((place, "W1", None));
-    }
-    if let Some((_, at)) = past_page(&request.said) {
-        if at > place || place.saturating_sub(at) > 63 {
-            return Some((place, "O8", Some(0)));
+    let token = request.token?;
+    for kept in &past.kept {
+        if kept.token == token {
+            return Some(kept);
         }
     }
-    let kept = kept_for(past, request)?;
-    if kept.said == request.said {
-        Some((kept.reply.place, "repeated", None))
-    } else {
-        Some((place, "O9", None))
+    None
+}
+
+/// Is it the number of a book that is not kept at this place?
+fn is_gone(at: Option<u64>, place: u64) -> bool {
+    match at {
+        Some(at) => at > place || place.saturating_sub(at) > 63,
+        None => false,
     }
+}
+
+/// What the request is told at this place before its operations are looked at; none where they are.
+fn told_before(
+    alloc: Global,
+    request: &Request,
+    past: &Past,
+    place: u64,
+) -> Result<Option<String>, Fail> {
+    if request.after > place {
+        return Ok(Some(format!(in alloc; "refused W1 at {place}")?));
+    }
+    if is_gone(request.at, place) {
+        return Ok(Some(format!(in alloc; "refused O8 at {place}; operation 0")?));
+    }
+    match kept_for(past, request) {
+        Some(kept) if kept.ops == request.ops => {
+            let told = kept.told.replace(alloc, "committed", "repeated")?;
+            Ok(Some(told))
+        }
+        Some(_) => Ok(Some(format!(in alloc; "refused O9 at {place}")?)),
+        None => Ok(None),
+    }
+}
+
+/// May this be told where nothing is told before the operations are looked at?
+fn is_told_after(told: &str) -> bool {
+    !told.starts_with("refused W1")
+        && !told.starts_with("refused O8")
+        && !told.starts_with("refused O9")
+        && !told.starts_with("repeated")
 }
 
 /// Is this what is told by the place, the token and the books that are left, whatever the operations do?
-pub fn is_told_before(request: &Request, reply: &Reply, past: &Past, place: u64) -> bool {
-    let told = told(reply);
-    match told_before(request, past, place) {
-        Some(wanted) => told == wanted,
-        None => told.1 != "W1" && told.1 != "O8" && told.1 != "O9" && told.1 != "repeated",
-    }
-}
-
-/// Does the page list what the search finds in these rows?
-fn is_listed(listing: &Listing, rows: &BookRows, reply: &OpReply) -> bool {
-    match reply {
-        OpReply::Page(entries, next) => {
-            let (all, last) = listed(rows, listing);
-            bits(entries.as_slice()) == Some(all) && next.map(|id| number_of(&id)) == last
-        }
-        _ => false,
-    }
-}
-
-/// The rows that the page reads: those of the book that it asks for, or of the last one.
-fn rows_for<'a>(listing: &Listing, past: &'a Past) -> Option<&'a BookRows> {
-    match listing.at {
-        Some(at) => past.books.get(at as usize),
-        None => past.books.last(),
-    }
-}
-
-/// Does each page that is answered list what the search finds? The last rows are those that its operations found.
-pub fn are_listed(said: &[Said], reply: &Reply, past: &Past) -> bool {
-    said.iter().zip(replies(reply)).all(|(said, reply)| match said {
-        Said::Page(listing) => match rows_for(listing, past) {
-            Some(rows) => is_listed(listing, rows, reply),
-            None => false,
-        },
-        _ => true,
-    })
-}
-
-/// Are these replies of the same kinds, and with the same entry?
-fn is_like((one, other): (&OpReply, &OpReply)) -> bool {
-    match (one, other) {
-        (OpReply::Entry(one), OpReply::Entry(other)) => {
-            one.id() == other.id() && one.revision() == other.revision()
-        }
-        (OpReply::Bundle(one), OpReply::Bundle(other)) => one.sequence == other.sequence,
-        (OpReply::Entries(one), OpReply::Entries(other)) => {
-            bits(one.as_slice()) == bits(other.as_slice())
-        }
-        (OpReply::Pruned(one), OpReply::Pruned(other)) => one.as_slice() == other.as_slice(),
-        _ => true,
-    }
-}
-
-/// Where the batch was committed before: are the replies those that it was given then?
-pub fn are_repeated(request: &Request, reply: &Reply, past: &Past) -> bool {
-    match (&reply.outcome, kept_for(past, request)) {
-        (Outcome::Repeated(again), Some(kept)) => {
-            let first = replies(&kept.reply);
-            first.len() == again.get().as_slice().len()
-                && first.iter().zip(again.get().as_slice()).all(is_like)
-        }
-        (Outcome::Repeated(_), None) => false,
-        _ => true,
+pub fn is_told_before(
+    alloc: Global,
+    request: &Request,
+    past: &Past,
+    place: u64,
+    told: &str,
+) -> Result<bool, Fail> {
+    match told_before(alloc, request, past, place)? {
+        Some(want) => Ok(told == want.as_str()),
+        None => Ok(is_told_after(told)),
     }
 }

@@ -1,38 +1,21 @@
 //! All rows of a small book, and whether they are lawful.
 
-use crate::making::{API, N1, N2, SERVER, Said, WEB};
-use crate::search::bit;
-use crate::told::{answers, number_of, replies};
-use entry_book::{Agent, Bundle, Entry, OpReply};
+use crate::making::batch;
+use crate::playing::{answer_to, ops_of, replies};
+use crate::search::{bit, does_name, number_of};
+use entry_book::{Agent, Bundle, Entry, Op, OpReply};
 use plain_book::PlainBook;
 use std::alloc::Global;
 use std::test::Fail;
 
-/// The keys of all rows that there can be, and the server's own domain.
-const KEYS: [Said; 13] = [
-    Said::Show(1),
-    Said::Show(2),
-    Said::Show(3),
-    Said::Show(4),
-    Said::Show(5),
-    Said::Show(6),
-    Said::Show(7),
-    Said::ShowAgent(N1),
-    Said::ShowAgent(N2),
-    Said::ShowBundle("d100"),
-    Said::ShowBundle("d101"),
-    Said::ShowBundle("d102"),
-    Said::ShowBundle("ex.org"),
-];
+/// Asks for all rows that there can be, and for the bundle of the server's own domain.
+const KEYS: &str = "\
+show 1; show 2; show 3; show 4; show 5; show 6; show 7; show_agent n1; show_agent n2; \
+show_bundle d100; show_bundle d101; show_bundle d102; show_bundle ex.org";
 
-/// The children of each parent.
-const CHILDREN: [Said; 5] = [
-    Said::Children(N1),
-    Said::Children(N2),
-    Said::Children(SERVER),
-    Said::Children(WEB),
-    Said::Children(API),
-];
+/// Asks for the children of each parent.
+const CHILDREN: &str =
+    "children n1; children n2; children /spire/server; children /web; children /api";
 
 /// The rows of a book of a few names.
 #[derive(Drop)]
@@ -51,20 +34,21 @@ fn empty(alloc: Global) -> BookRows {
 }
 
 /// Is this row, where there is one, of the key that was asked for?
-fn is_of_its_key(op: &Said, reply: &OpReply) -> bool {
+fn is_of_its_key(op: &Op, reply: &OpReply) -> bool {
     match (op, reply) {
-        (Said::Show(number), OpReply::EntryShown(Some(entry))) => number_of(entry.id()) == *number,
-        (Said::ShowAgent(text), OpReply::AgentShown(Some(agent))) => agent.id.get().as_str()
-            == *text,
-        (Said::ShowBundle(text), OpReply::BundleShown(Some(bundle))) => {
-            bundle.domain.get().as_str() == *text
+        (Op::Show(id), OpReply::EntryShown(Some(entry))) => entry.id() == id,
+        (Op::ShowAgent(id), OpReply::AgentShown(Some(agent))) => {
+            agent.id.get().as_str() == id.get().as_str()
+        }
+        (Op::ShowBundle(domain), OpReply::BundleShown(Some(bundle))) => {
+            bundle.domain.get().as_str() == domain.get().as_str()
         }
         _ => true,
     }
 }
 
 /// Adds the row that is shown, where there is one, which has to be of its key.
-fn keep(rows: &mut BookRows, op: &Said, reply: &OpReply) -> Result<(), Fail> {
+fn keep(rows: &mut BookRows, op: &Op, reply: &OpReply) -> Result<(), Fail> {
     if !is_of_its_key(op, reply) {
         return Err(Fail::from("a row of another key"));
     }
@@ -77,22 +61,24 @@ fn keep(rows: &mut BookRows, op: &Said, reply: &OpReply) -> Result<(), Fail> {
     Ok(())
 }
 
-fn rows_at(alloc: Global, book: &mut PlainBook, keys: &[Said]) -> Result<BookRows, Fail> {
-    let reply = answers(alloc, book, keys)?;
-    let mut rows = empty(alloc);
-    for (op, reply) in keys.iter().zip(replies(&reply)) {
-        keep(&mut rows, op, reply)?;
+fn keep_all(rows: &mut BookRows, ops: &[Op], replies: &[OpReply]) -> Result<(), Fail> {
+    for (op, reply) in ops.iter().zip(replies) {
+        keep(rows, op, reply)?;
     }
-    Ok(rows)
+    Ok(())
 }
 
 /// The rows, each asked for by its key, and each of its key.
 pub fn rows_of(alloc: Global, book: &mut PlainBook) -> Result<BookRows, Fail> {
-    rows_at(alloc, book, &KEYS)
+    let keys = batch(alloc, KEYS)?;
+    let reply = answer_to(book, &keys)?;
+    let mut rows = empty(alloc);
+    keep_all(&mut rows, ops_of(&keys), replies(&reply))?;
+    Ok(rows)
 }
 
 /// The bits of the entries; none where they aren't in order, each once.
-pub fn bits(entries: &[Entry]) -> Option<u64> {
+fn bits(entries: &[Entry]) -> Option<u64> {
     let mut all = 0;
     let mut last = 0;
     for entry in entries {
@@ -106,27 +92,37 @@ pub fn bits(entries: &[Entry]) -> Option<u64> {
     Some(all)
 }
 
+/// Are these the entries of these bits, in order, each once?
+pub fn are_of(entries: &[Entry], wanted: u64) -> bool {
+    match bits(entries) {
+        Some(all) => all == wanted,
+        None => false,
+    }
+}
+
+fn are_under(entries: &[Entry], parent: &str) -> bool {
+    for entry in entries {
+        if entry.parent().get().as_str() != parent {
+            return false;
+        }
+    }
+    true
+}
+
 /// The bits of the entries of a parent; none where they aren't in order, each once, or one is of another parent.
-fn bits_of_children(said: &Said, reply: &OpReply) -> Option<u64> {
-    let (Said::Children(parent), OpReply::Entries(entries)) = (said, reply) else {
-        return None;
-    };
-    let are_of_it = entries
-        .as_slice()
-        .iter()
-        .all(|entry| entry.parent().get().as_str() == *parent);
-    if are_of_it {
-        bits(entries.as_slice())
-    } else {
-        None
+fn bits_of_children(op: &Op, reply: &OpReply) -> Option<u64> {
+    match (op, reply) {
+        (Op::Children(parent), OpReply::Entries(entries))
+            if are_under(entries.as_slice(), parent.get().as_str()) => { bits(entries.as_slice()) }
+        _ => None,
     }
 }
 
 /// The bits of the entries of all these parents.
-fn bits_of_all_children(said: &[Said], replies: &[OpReply]) -> Option<u64> {
+fn bits_of_all_children(ops: &[Op], replies: &[OpReply]) -> Option<u64> {
     let mut all = 0;
-    for (said, reply) in said.iter().zip(replies) {
-        all |= bits_of_children(said, reply)?;
+    for (op, reply) in ops.iter().zip(replies) {
+        all |= bits_of_children(op, reply)?;
     }
     Some(all)
 }
@@ -137,9 +133,12 @@ pub fn are_children_listed(
     book: &mut PlainBook,
     rows: &BookRows,
 ) -> Result<bool, Fail> {
-    let reply = answers(alloc, book, &CHILDREN)?;
-    let all = bits_of_all_children(&CHILDREN, replies(&reply));
-    Ok(all.is_some() && bits(&rows.entries) == all)
+    let parents = batch(alloc, CHILDREN)?;
+    let reply = answer_to(book, &parents)?;
+    match bits_of_all_children(ops_of(&parents), replies(&reply)) {
+        Some(all) => Ok(are_of(&rows.entries, all)),
+        None => Ok(false),
+    }
 }
 
 fn is_similar(one: &Entry, other: &Entry) -> bool {
@@ -149,20 +148,39 @@ fn is_similar(one: &Entry, other: &Entry) -> bool {
         && one.selectors().get() == other.selectors().get()
 }
 
-/// Has each domain of the entry a bundle?
-fn is_bundled(entry: &Entry, bundles: &[Bundle]) -> bool {
-    entry.domains().as_slice().iter().all(|domain| {
-        bundles.iter().any(|bundle| bundle.domain.get().as_str() == domain.get().as_str())
-    })
+/// How many domains of the entry have one of these bundles?
+fn bundled_count(entry: &Entry, bundles: &[Bundle]) -> usize {
+    let mut count: usize = 0;
+    for bundle in bundles {
+        let is_named = does_name(entry, bundle.domain.get().as_str());
+        count = count.wrapping_add(usize::from(is_named));
+    }
+    count
+}
+
+/// Is the entry lawful among these rows, at a book of so many revisions?
+fn is_lawful_entry(entry: &Entry, rows: &BookRows, most: u64) -> bool {
+    for other in &rows.entries {
+        if is_similar(entry, other) {
+            return false;
+        }
+    }
+    entry.revision() <= most
+        && bundled_count(entry, &rows.bundles) == entry.domains().as_slice().len()
 }
 
 /// Are the rows those of a lawful book of this place, whose server's own domain is the last one?
 pub fn is_lawful(rows: &BookRows, place: u64) -> bool {
     let most = place.wrapping_mul(64);
-    rows.entries.iter().all(|entry| {
-        entry.revision() <= most
-            && is_bundled(entry, &rows.bundles)
-            && !rows.entries.iter().any(|other| is_similar(entry, other))
-    }) && rows.bundles.iter().all(|bundle| bundle.sequence <= most
-        && bundle.domain.get().as_str() != "ex.org")
+    for entry in &rows.entries {
+        if !is_lawful_entry(entry, rows, most) {
+            return false;
+        }
+    }
+    for bundle in &rows.bundles {
+        if bundle.sequence > most || bundle.domain.get().as_str() == "ex.org" {
+            return false;
+        }
+    }
+    true
 }

@@ -1,9 +1,15 @@
 //! A search for chains, by their length, and one for the entries of a page, by counts.
 
-use crate::making::{Listing, SERVER};
 use crate::rows::BookRows;
-use crate::told::number_of;
-use entry_book::{Agent, Entry, MatchMode};
+use entry_book::{Agent, Entry, Filter, MatchMode, PageQuery, SelectorMatch, Shared};
+use spiffe_name::{SpiffeId, TrustDomain};
+use uuid::Uuid;
+
+/// The number that the last two bytes of an id are.
+pub fn number_of(id: &Uuid) -> u16 {
+    let bytes = id.as_bytes();
+    u16::from_be_bytes([bytes[14], bytes[15]])
+}
 
 /// The bit of an entry's number.
 pub fn bit(entry: &Entry) -> u64 {
@@ -12,18 +18,36 @@ pub fn bit(entry: &Entry) -> u64 {
 
 /// Is the entry an alias?
 pub fn is_alias(entry: &Entry) -> bool {
-    entry.parent().get().as_str() == SERVER
+    entry.parent().get().as_str() == "spiffe://ex.org/spire/server"
 }
 
+/// Does the entry name the domain?
+pub fn does_name(entry: &Entry, domain: &str) -> bool {
+    for named in entry.domains().as_slice() {
+        if named.get().as_str() == domain {
+            return true;
+        }
+    }
+    false
+}
+
+fn has(agent: &Agent, wanted: &str) -> bool {
+    for selector in agent.selectors.get().as_slice() {
+        if selector.as_str() == wanted {
+            return true;
+        }
+    }
+    false
+}
+
+/// Has the agent all selectors of the entry?
 fn has_all(agent: &Agent, entry: &Entry) -> bool {
-    entry.selectors().get().as_slice().iter().all(|wanted| {
-        agent
-            .selectors
-            .get()
-            .as_slice()
-            .iter()
-            .any(|selector| selector.as_str() == wanted.as_str())
-    })
+    for wanted in entry.selectors().get().as_slice() {
+        if !has(agent, wanted.as_str()) {
+            return false;
+        }
+    }
+    true
 }
 
 fn starts(entry: &Entry, agent: &Agent) -> bool {
@@ -44,14 +68,17 @@ fn first_level(rows: &BookRows, agent: &Agent) -> u64 {
 
 /// Is the entry's parent the identity of one of these?
 fn follows(entry: &Entry, rows: &BookRows, level: u64) -> bool {
-    rows.entries.iter().any(|before| {
-        level & bit(before) != 0
-            && before.identity().get().as_str() == entry.parent().get().as_str()
-    })
+    for before in &rows.entries {
+        let is_before = before.identity().get().as_str() == entry.parent().get().as_str();
+        if is_before && level & bit(before) != 0 {
+            return true;
+        }
+    }
+    false
 }
 
 /// The entries in which a chain ends that is one entry longer.
-pub fn next_level(rows: &BookRows, level: u64) -> u64 {
+fn next_level(rows: &BookRows, level: u64) -> u64 {
     let mut next = 0;
     for entry in &rows.entries {
         if follows(entry, rows, level) {
@@ -61,9 +88,9 @@ pub fn next_level(rows: &BookRows, level: u64) -> u64 {
     next
 }
 
-/// The entries in which some chain for the agent ends; no chain need be longer than there are entries.
-pub fn ends(rows: &BookRows, agent: &Agent) -> u64 {
-    let mut level = first_level(rows, agent);
+/// These entries, and those in which a chain ends that goes on from one of them; none need be longer than there are entries.
+fn reached(rows: &BookRows, level: u64) -> u64 {
+    let mut level = level;
     let mut all = level;
     for _ in &rows.entries {
         level = next_level(rows, level);
@@ -72,22 +99,24 @@ pub fn ends(rows: &BookRows, agent: &Agent) -> u64 {
     all
 }
 
-/// Does a chain come back to where it was?
+/// The entries in which some chain for the agent ends.
+pub fn ends(rows: &BookRows, agent: &Agent) -> u64 {
+    reached(rows, first_level(rows, agent))
+}
+
+/// Does a chain come back to one of these entries?
 pub fn has_cycle(rows: &BookRows, ends: u64) -> bool {
-    rows.entries.iter().any(|entry| {
-        let mut level = next_level(rows, bit(entry));
-        let mut seen = level;
-        for _ in &rows.entries {
-            level = next_level(rows, level);
-            seen |= level;
+    for entry in &rows.entries {
+        let after = reached(rows, next_level(rows, bit(entry)));
+        if ends & after & bit(entry) != 0 {
+            return true;
         }
-        ends & seen & bit(entry) != 0
-    })
+    }
+    false
 }
 
 /// Of entries with the first few of the same selectors: does one with so many match?
-fn do_counts_match(own: usize, (given, mode): (u32, MatchMode)) -> bool {
-    let given = given as usize;
+fn do_counts_match(own: usize, given: usize, mode: MatchMode) -> bool {
     match mode {
         MatchMode::Exact => own == given,
         MatchMode::Any => own.min(given) > 0,
@@ -96,49 +125,57 @@ fn do_counts_match(own: usize, (given, mode): (u32, MatchMode)) -> bool {
     }
 }
 
-fn is_text(wanted: Option<&str>, text: &str) -> bool {
-    match wanted {
-        Some(wanted) => wanted == text,
+/// Is the ID the given one, where one is given?
+fn is_given(given: &Option<Shared<SpiffeId>>, id: &Shared<SpiffeId>) -> bool {
+    match given {
+        Some(given) => given.get().as_str() == id.get().as_str(),
         None => true,
     }
 }
 
-fn is_of_domain(wanted: Option<&str>, entry: &Entry) -> bool {
-    match wanted {
-        Some(wanted) => {
-            entry
-                .domains()
-                .as_slice()
-                .iter()
-                .any(|domain| domain.get().as_str() == wanted)
+/// Does the entry name the domain, where one is given?
+fn is_of_domain(given: &Option<Shared<TrustDomain>>, entry: &Entry) -> bool {
+    match given {
+        Some(given) => does_name(entry, given.get().as_str()),
+        None => true,
+    }
+}
+
+fn is_of_selectors(question: &Option<SelectorMatch>, entry: &Entry) -> bool {
+    match question {
+        Some(question) => {
+            let own = entry.selectors().get().as_slice().len();
+            let given = question.selectors.get().as_slice().len();
+            do_counts_match(own, given, question.mode)
         }
         None => true,
     }
 }
 
-fn is_of_selectors(question: Option<(u32, MatchMode)>, entry: &Entry) -> bool {
-    match question {
-        Some(question) => do_counts_match(entry.selectors().get().as_slice().len(), question),
-        None => true,
+/// Has the entry each part that is given?
+fn has_parts(entry: &Entry, filter: &Filter) -> bool {
+    is_given(&filter.parent, entry.parent())
+        && is_given(&filter.identity, entry.identity())
+        && is_of_domain(&filter.domain, entry)
+        && is_of_selectors(&filter.selectors, entry)
+}
+
+/// The number of the entry after which a page begins; 0 for none.
+fn number_before(query: &PageQuery) -> u16 {
+    match &query.from {
+        Some(id) => number_of(id),
+        None => 0,
     }
 }
 
-/// May the page list the entry?
-fn may_list(entry: &Entry, listing: &Listing) -> bool {
-    is_text(listing.parent, entry.parent().get().as_str())
-        && is_text(listing.identity, entry.identity().get().as_str())
-        && is_of_domain(listing.domain, entry)
-        && is_of_selectors(listing.selectors, entry)
-        && number_of(entry.id()) > listing.from.unwrap_or(0)
-}
-
 /// The bits of the entries of a page, and the number of the last of them where there are more.
-pub fn listed(rows: &BookRows, listing: &Listing) -> (u64, Option<u16>) {
+pub fn listed(rows: &BookRows, query: &PageQuery) -> (u64, Option<u16>) {
+    let from = number_before(query);
     let mut all = 0;
     let mut last = 0;
-    let mut rest = listing.size;
+    let mut rest = query.size;
     for entry in &rows.entries {
-        if may_list(entry, listing) {
+        if number_of(entry.id()) > from && has_parts(entry, &query.filter) {
             if rest == 0 {
                 return (all, Some(last));
             }

@@ -1,11 +1,10 @@
 //! What a test wants to see: one call each, since an assertion that is written out takes the prover seconds.
 
-use crate::told::Told;
 use std::process::Abort;
 
-/// This is what a batch came to.
-pub fn is_told(rt: &impl Abort, got: Told, want: Told) {
-    assert_eq!(rt; got, want);
+/// The two texts are the same.
+pub fn is_text(rt: &impl Abort, got: &str, want: &str, at: &str) {
+    assert_eq!(rt; got, want, "{at}");
 }
 
 /// The two numbers are the same.
