@@ -4,10 +4,12 @@ ghost use Rattle.std.specs.Prelude.{Some, refl, nat_eq, ◌≡◌};
 ghost use Rattle.std.specs.Cmp.{nat_cmp_total, nat_eq_equiv, partial_equiv_from_equiv, partial_order_from_agreeing_total, unsigned_ties};
 ghost use Rattle.std.specs.Ordering.{nat_cmp};
 
+use crate::wanted::is_at_most;
 use std::alloc::AllocError;
 use std::cell::Cell;
 use std::cmp::Ordering;
 use std::marker::Model;
+use std::process::Abort;
 
 /// What was done with numbers since it was last asked.
 #[derive(Drop)]
@@ -37,6 +39,11 @@ impl Counts {
 
     pub fn copies(&self) -> u64 {
         self.copies.replace(0)
+    }
+
+    /// No more comparisons than these were made.
+    pub fn are_at_most(&self, rt: &impl Abort, most: u64, at: &str) {
+        is_at_most(rt, self.comparisons(), most, at);
     }
 }
 

@@ -4,10 +4,9 @@ ghost use Rattle.std.specs.Prelude.{Some, refl, nat_eq};
 ghost use Rattle.std.specs.Cmp.{on_equiv, on_total, nat_cmp_total, nat_eq_equiv, partial_equiv_from_equiv, partial_order_from_agreeing_total, unsigned_ties};
 ghost use Rattle.std.specs.Ordering.{nat_cmp, on};
 
-use crate::wanted::{holds, is_number, is_text};
-use std::alloc::{AllocError, Global};
+use crate::scripts::{Told, plays};
+use std::alloc::Global;
 use std::cmp::Ordering;
-use std::process::Abort;
 use std::test::Fail;
 use version_shelf::Shelf;
 
@@ -56,60 +55,37 @@ impl Ord for Labelled {
     }
 }
 
-/// How many rows the shelf has, as `len` and as the range of all say, and each row's rank, label and value.
-fn told(alloc: Global, shelf: &Shelf<Labelled, u64>) -> Result<String, Fail> {
-    let lo = Labelled { rank: 0, label: 0 };
-    let hi = Labelled { rank: 9, label: 0 };
-    let len = shelf.len();
-    let count = shelf.range(&lo, &hi).count();
-    let mut text = format!(in alloc; "{len} {count}:")?;
-    for (key, value) in shelf.range(&lo, &hi) {
-        let row = format!(in alloc; " {}-{}-{value}", key.rank, key.label)?;
-        text.push_str(row.as_str())?;
+impl Told for Labelled {
+    fn of_text(_alloc: Global, text: &str) -> Result<Labelled, Fail> {
+        let (rank, label) = text.split_once('-').unwrap_or((text, ""));
+        Ok(Labelled {
+            rank: rank.parse::<u64>()?,
+            label: label.parse::<u64>()?,
+        })
     }
-    Ok(text)
+
+    fn text(&self, alloc: Global) -> Result<String, Fail> {
+        Ok(format!(in alloc; "{}-{}", self.rank, self.label)?)
+    }
 }
 
-/// The shelf has these rows.
-fn has_rows(
-    rt: &impl Abort,
-    alloc: Global,
-    shelf: &Shelf<Labelled, u64>,
-    want: &str,
-) -> Result<(), Fail> {
-    let got = told(alloc, shelf)?;
-    is_text(rt, got.as_str(), want, "rows");
-    Ok(())
-}
+type Ranks = Shelf<Labelled, u64>;
 
-/// The shelf with this row.
-fn with_row(
-    rt: &impl Abort,
-    shelf: &Shelf<Labelled, u64>,
-    key: Labelled,
-    value: u64,
-) -> Result<Shelf<Labelled, u64>, AllocError> {
-    holds(rt, shelf.has_room(), "has_room");
-    shelf.with(key, value)
-}
+/// Keys are told by their ranks and their labels.
+const LABELS: &str = "\
+0 with 1-7 10
+1 with 2-7 20
+2 with 3-7 30
+3 with 2-8 21
+4 range 0-0 9-0 => 3 of 3: 1-7 10 2-8 21 3-7 30
+3 range 0-0 9-0 => 3 of 3: 1-7 10 2-7 20 3-7 30
+3 get 2-8 => 20
+3 without 2-8
+5 range 0-0 9-0 => 2 of 2: 1-7 10 3-7 30
+3 range 2-8 3-9 => 1 of 3: 2-7 20
+";
 
 #[test]
 fn the_last_key_and_value_stand(rt: HostRuntime) -> Result<(), Fail> {
-    let alloc = rt.alloc();
-    let mut shelf = Shelf::new(alloc);
-    for rank in 1..4 {
-        shelf = with_row(&rt, &shelf, Labelled { rank, label: 7 }, 10 * rank)?;
-    }
-    let other = Labelled { rank: 2, label: 8 };
-    let changed = with_row(&rt, &shelf, other, 21)?;
-    has_rows(&rt, alloc, &changed, "3 3: 1-7-10 2-8-21 3-7-30")?;
-    has_rows(&rt, alloc, &shelf, "3 3: 1-7-10 2-7-20 3-7-30")?;
-    let found = shelf.get(&other).copied();
-    holds(&rt, found == Some(20), "the value at another label");
-    let fewer = shelf.without(&other)?;
-    has_rows(&rt, alloc, &fewer, "2 2: 1-7-10 3-7-30")?;
-    let end = Labelled { rank: 3, label: 9 };
-    let count = shelf.range(&other, &end).count();
-    is_number(&rt, count as u64, 1, "rows from one label to another");
-    Ok(())
+    plays(&rt, rt.alloc(), Ranks::new(rt.alloc()), LABELS)
 }

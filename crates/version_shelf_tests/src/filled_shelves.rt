@@ -5,7 +5,7 @@ ghost use Rattle.std.specs.Prelude.{◌<◌};
 
 use crate::counted_keys::{CountedKey, Counts};
 use crate::wanted::{holds, is_at_most, is_number};
-use std::alloc::Global;
+use std::alloc::{AllocError, Global};
 use std::process::Abort;
 use std::test::Fail;
 use version_shelf::{Count, Shelf};
@@ -45,8 +45,10 @@ fn assert_found<'a>(
 ) {
     let mut count = Count::new();
     counts.comparisons();
-    let found = shelf.find(&counts.number(key), &mut count);
-    let found = found.map(|found| found.value());
+    let found = match shelf.find(&counts.number(key), &mut count) {
+        Some(found) => Some(found.value()),
+        None => None,
+    };
     holds(rt, found == value, "the value that is found");
     is_number(rt, count.number(), counts.comparisons(), "count of find");
     is_at_most(rt, count.number(), 32, "count of find");
@@ -66,7 +68,7 @@ fn with_key<'a>(
     counts: &'a Counts,
     key: u64,
     turn: u64,
-) -> Result<CountedShelf<'a>, Fail> {
+) -> Result<CountedShelf<'a>, AllocError> {
     let mut count = Count::new();
     holds(rt, shelf.has_room(), "has_room");
     let more = shelf.with_counted(counts.number(key), counts.number(turn), &mut count)?;
@@ -80,7 +82,7 @@ fn without_key<'a>(
     shelf: &CountedShelf<'a>,
     counts: &'a Counts,
     key: u64,
-) -> Result<CountedShelf<'a>, Fail> {
+) -> Result<CountedShelf<'a>, AllocError> {
     let mut count = Count::new();
     let fewer = shelf.without_counted(&counts.number(key), &mut count)?;
     assert_change(rt, count.number(), counts);
@@ -110,6 +112,52 @@ fn assert_turns<'a>(
     is_number(rt, rows, turns, "rows of the whole range");
 }
 
+fn keep<'a>(kept: &mut Vec<CountedShelf<'a>>, shelf: &CountedShelf<'a>) -> Result<(), AllocError> {
+    Ok(kept.push(shelf.clone()?)?)
+}
+
+/// The shelf of all keys, which are set in this order. Each thousandth shelf on the way is kept, from the empty one on.
+fn filled<'a>(
+    rt: &impl Abort,
+    alloc: Global,
+    counts: &'a Counts,
+    order: Order,
+    kept: &mut Vec<CountedShelf<'a>>,
+) -> Result<CountedShelf<'a>, AllocError> {
+    let mut shelf = Shelf::new(alloc);
+    for turn in 0..ROWS {
+        if turn % 1_000 == 0 {
+            keep(kept, &shelf)?;
+        }
+        shelf = with_key(rt, &shelf, counts, order.key(turn), turn)?;
+    }
+    Ok(shelf)
+}
+
+/// The shelf of no key, after the keys are removed in this order.
+fn emptied<'a>(
+    rt: &impl Abort,
+    shelf: CountedShelf<'a>,
+    counts: &'a Counts,
+    order: Order,
+) -> Result<CountedShelf<'a>, AllocError> {
+    let mut shelf = shelf;
+    for turn in 0..ROWS {
+        shelf = without_key(rt, &shelf, counts, order.key(turn))?;
+    }
+    Ok(shelf)
+}
+
+/// The shelves that were kept have the rows of the turns before them.
+fn assert_kept<'a>(rt: &impl Abort, kept: &[CountedShelf<'a>], counts: &'a Counts, order: Order) {
+    let mut turns = 0_u64;
+    for old in kept {
+        assert_turns(rt, old, counts, order, turns);
+        turns = turns.wrapping_add(1_000);
+    }
+    is_number(rt, turns, ROWS, "turns up to the last shelf");
+}
+
 /// Fills a shelf in one order and empties it in another, and looks at old ones then.
 fn assert_filled_and_emptied(
     rt: &impl Abort,
@@ -118,22 +166,12 @@ fn assert_filled_and_emptied(
     emptying: Order,
 ) -> Result<(), Fail> {
     let counts = Counts::new();
-    let mut shelf = Shelf::new(alloc);
     let mut kept = Vec::new(alloc);
-    for turn in 0..ROWS {
-        if turn % 1_000 == 0 {
-            kept.push((turn, shelf.clone()?))?;
-        }
-        shelf = with_key(rt, &shelf, &counts, order.key(turn), turn)?;
-    }
-    assert_turns(rt, &shelf, &counts, order, ROWS);
-    for turn in 0..ROWS {
-        shelf = without_key(rt, &shelf, &counts, emptying.key(turn))?;
-    }
-    assert_turns(rt, &shelf, &counts, order, 0);
-    for (turns, old) in &kept {
-        assert_turns(rt, old, &counts, order, *turns);
-    }
+    let full = filled(rt, alloc, &counts, order, &mut kept)?;
+    assert_turns(rt, &full, &counts, order, ROWS);
+    let empty = emptied(rt, full, &counts, emptying)?;
+    assert_turns(rt, &empty, &counts, order, 0);
+    assert_kept(rt, kept.as_slice(), &counts, order);
     Ok(())
 }
 

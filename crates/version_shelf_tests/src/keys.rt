@@ -5,10 +5,12 @@ ghost use Rattle.std.specs.Cmp.{partial_equiv_from_equiv};
 ghost use Rattle.std.specs.Cmp.Lexicographic.{nat_list_cmp_total, nat_list_eq_equiv, slice_cmp, texts_po, texts_ties};
 ghost use Rattle.std.specs.Ordering.{nat_cmp};
 
+use crate::scripts::Told;
 use std::alloc::{AllocError, Global};
 use std::cmp::Ordering;
 use std::marker::Model;
 use std::sync::Arc;
+use std::test::Fail;
 
 /// The text of an ID, seen as its bytes.
 #[derive(Drop)]
@@ -135,5 +137,70 @@ impl Clone for SharedNumber {
         Ok(SharedNumber {
             value: self.value.clone()?,
         })
+    }
+}
+
+impl Told for u128 {
+    fn of_text(_alloc: Global, text: &str) -> Result<u128, Fail> {
+        Ok(u128::from(text.parse::<u64>()?))
+    }
+
+    fn text(&self, alloc: Global) -> Result<String, Fail> {
+        Ok(format!(in alloc; "{self}")?)
+    }
+}
+
+impl Told for IdText {
+    fn of_text(alloc: Global, text: &str) -> Result<IdText, Fail> {
+        Ok(IdText::of(alloc, text)?)
+    }
+
+    fn text(&self, alloc: Global) -> Result<String, Fail> {
+        Ok(String::from_str(alloc, self.as_str())?)
+    }
+}
+
+impl<T: Told> Told for Part<T> {
+    fn of_text(alloc: Global, text: &str) -> Result<Part<T>, Fail> {
+        match text {
+            "START" => Ok(Part::Start),
+            "END" => Ok(Part::End),
+            _ => Ok(Part::At(T::of_text(alloc, text)?)),
+        }
+    }
+
+    fn text(&self, alloc: Global) -> Result<String, Fail> {
+        match self {
+            Part::Start => Ok(String::from_str(alloc, "START")?),
+            Part::At(value) => value.text(alloc),
+            Part::End => Ok(String::from_str(alloc, "END")?),
+        }
+    }
+}
+
+impl Told for SharedNumber {
+    fn of_text(alloc: Global, text: &str) -> Result<SharedNumber, Fail> {
+        Ok(SharedNumber::of(alloc, text.parse::<u64>()?)?)
+    }
+
+    fn text(&self, alloc: Global) -> Result<String, Fail> {
+        self.number().text(alloc)
+    }
+}
+
+/// The parts of a key, with slashes between them.
+impl Told for (IdText, Part<IdText>, Part<u128>) {
+    fn of_text(alloc: Global, text: &str) -> Result<(IdText, Part<IdText>, Part<u128>), Fail> {
+        let (parent, member) = text.split_once('/').unwrap_or((text, ""));
+        let (identity, number) = member.split_once('/').unwrap_or((member, ""));
+        let number = Part::<u128>::of_text(alloc, number)?;
+        let parent = IdText::of(alloc, parent)?;
+        Ok((parent, Part::<IdText>::of_text(alloc, identity)?, number))
+    }
+
+    fn text(&self, alloc: Global) -> Result<String, Fail> {
+        let identity = self.1.text(alloc)?;
+        let number = self.2.text(alloc)?;
+        Ok(format!(in alloc; "{}/{identity}/{number}", self.0.as_str())?)
     }
 }

@@ -7,6 +7,7 @@
 //! - `equal_keys`: keys that differ and that the order calls equal.
 //! - `comparisons`: how many comparisons and copies of keys each call makes.
 //! - `filled_shelves`: shelves of many pages, filled and emptied in several orders.
+//! - `scripts`: scripts of the shelves that are made, and of what they are asked.
 //! - `keys`: keys and values for these tests.
 //! - `counted_keys`: keys whose comparisons and copies are counted.
 //! - `wanted`: what a test wants to see.
@@ -26,5 +27,7 @@ mod keys;
 mod kinds_of_keys;
 #[cfg(test)]
 mod random_changes;
+#[cfg(test)]
+mod scripts;
 #[cfg(test)]
 mod wanted;

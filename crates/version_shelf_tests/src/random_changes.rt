@@ -3,6 +3,7 @@
 ghost use Rattle.std.specs.Prelude.{◌<◌};
 
 use crate::wanted::{holds, is_number};
+use std::alloc::Global;
 use std::process::Abort;
 use std::test::Fail;
 use version_shelf::Shelf;
@@ -27,54 +28,99 @@ impl Draws {
     }
 }
 
+/// A shelf, and a list of the values by key.
+#[derive(Drop)]
+struct Pair {
+    shelf: Shelf<u64, u64>,
+    list: Vec<Option<u64>>,
+}
+
+fn new_pair(alloc: Global) -> Result<Pair, Fail> {
+    Ok(Pair {
+        shelf: Shelf::new(alloc),
+        list: vec![in alloc; None; KEYS as usize]?,
+    })
+}
+
+fn copy_of(pair: &Pair) -> Result<Pair, Fail> {
+    Ok(Pair {
+        shelf: pair.shelf.clone()?,
+        list: pair.list.clone()?,
+    })
+}
+
+/// Sets or removes a random key, in both.
+fn change(rt: &impl Abort, pair: &mut Pair, draws: &mut Draws, turn: u64) -> Result<(), Fail> {
+    let key = draws.below(KEYS);
+    let place = pair
+        .list
+        .get_mut(key as usize)
+        .expect(rt, "a place for each key");
+    if draws.below(3) > 0 {
+        *place = Some(turn);
+        holds(rt, pair.shelf.has_room(), "has_room");
+        pair.shelf = pair.shelf.with(key, turn)?;
+    } else {
+        *place = None;
+        pair.shelf = pair.shelf.without(&key)?;
+    }
+    Ok(())
+}
+
+/// The list's value at the key.
+fn value_at(list: &[Option<u64>], key: u64) -> Option<u64> {
+    match list.get(key as usize) {
+        Some(value) => *value,
+        None => None,
+    }
+}
+
+/// The row has this key and this value.
+fn is_row(rt: &impl Abort, row: Option<(&u64, &u64)>, key: u64, value: u64) {
+    let Some((key_found, value_found)) = row else {
+        return holds(rt, false, "a row for each value");
+    };
+    is_number(rt, *key_found, key, "the next row's key");
+    is_number(rt, *value_found, value, "the next row's value");
+}
+
 /// The shelf has the list's values at all keys, and between the two bounds the list's rows in order.
-fn assert_same(rt: &impl Abort, shelf: &Shelf<u64, u64>, list: &[Option<u64>], lo: u64, hi: u64) {
-    let mut rows = shelf.range(&lo, &hi);
-    for (key, value) in (0..KEYS).zip(list) {
-        let found = shelf.get(&key).copied();
-        holds(rt, found == *value, "get");
-        let Some(value) = value else {
+fn assert_same(rt: &impl Abort, pair: &Pair, lo: u64, hi: u64) {
+    let mut rows = pair.shelf.range(&lo, &hi);
+    let mut count = 0_u64;
+    for key in 0..KEYS {
+        let wanted = value_at(pair.list.as_slice(), key);
+        let found = pair.shelf.get(&key).copied();
+        holds(rt, found == wanted, "get");
+        let Some(value) = wanted else {
             continue;
         };
+        count = count.wrapping_add(1);
         if lo <= key && key < hi {
-            let row = rows.next().map(|row| (*row.0, *row.1));
-            holds(rt, row == Some((key, *value)), "the next row");
+            is_row(rt, rows.next(), key, value);
         }
     }
-    let count = list.iter().filter(|value| value.is_some()).count();
-    is_number(rt, shelf.len() as u64, count as u64, "len");
+    is_number(rt, pair.shelf.len() as u64, count, "len");
     holds(rt, rows.next().is_none(), "no row too many");
 }
 
 #[test]
 fn a_thousand_random_changes_are_those_of_a_plain_list(rt: HostRuntime) -> Result<(), Fail> {
-    let alloc = rt.alloc();
     let mut draws = Draws { state: 1 };
-    let mut shelf = Shelf::new(alloc);
-    let mut list = vec![in alloc; None; KEYS as usize]?;
-    let mut kept = Vec::new(alloc);
+    let mut pair = new_pair(rt.alloc())?;
+    let mut kept = Vec::new(rt.alloc());
     for turn in 0..1_000 {
-        let key = draws.below(KEYS);
-        let place = list
-            .get_mut(key as usize)
-            .expect(&rt, "a place for each key");
-        if draws.below(3) > 0 {
-            holds(&rt, shelf.has_room(), "has_room");
-            shelf = shelf.with(key, turn)?;
-            *place = Some(turn);
-        } else {
-            shelf = shelf.without(&key)?;
-            *place = None;
-        }
+        change(&rt, &mut pair, &mut draws, turn)?;
         let (lo, hi) = (draws.below(KEYS + 1), draws.below(KEYS + 1));
-        assert_same(&rt, &shelf, &list, lo, hi);
+        assert_same(&rt, &pair, lo, hi);
         if turn % 10 == 0 {
-            kept.push((shelf.clone()?, list.clone()?, lo, hi))?;
+            kept.push(copy_of(&pair)?)?;
         }
     }
-    for (old, list, lo, hi) in &kept {
-        assert_same(&rt, old, list, *lo, *hi);
-        assert_same(&rt, old, list, 0, KEYS);
+    for old in &kept {
+        let (lo, hi) = (draws.below(KEYS + 1), draws.below(KEYS + 1));
+        assert_same(&rt, old, lo, hi);
+        assert_same(&rt, old, 0, KEYS);
     }
     is_number(&rt, kept.len() as u64, 100, "shelves that were kept");
     Ok(())

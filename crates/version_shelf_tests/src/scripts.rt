@@ -1,0 +1,173 @@
+//! Scripts: how shelves are made of one another, and what each of them is asked.
+
+ghost use Rattle.version_shelf.specs.Shelf.{ClonesEqual};
+
+use crate::wanted::{holds, is_text};
+use std::alloc::Global;
+use std::process::Abort;
+use std::test::Fail;
+use version_shelf::Shelf;
+
+/// A key or a value that a text without spaces tells.
+pub trait Told: Sized {
+    fn of_text(alloc: Global, text: &str) -> Result<Self, Fail>;
+
+    fn text(&self, alloc: Global) -> Result<String, Fail>;
+}
+
+impl Told for u64 {
+    fn of_text(_alloc: Global, text: &str) -> Result<u64, Fail> {
+        Ok(text.parse::<u64>()?)
+    }
+
+    fn text(&self, alloc: Global) -> Result<String, Fail> {
+        Ok(format!(in alloc; "{self}")?)
+    }
+}
+
+/// The shelf with a row.
+fn with_row<K: Ord + Clone + Told + Drop, V: Clone + Told + Drop>(
+    rt: &impl Abort,
+    alloc: Global,
+    shelf: &Shelf<K, V>,
+    row: &str,
+) -> Result<Shelf<K, V>, Fail>
+    requires keys { ClonesEqual K.is_clone }
+    requires values { ClonesEqual V.is_clone }
+{
+    let (key, value) = row.split_once(' ').unwrap_or((row, ""));
+    let key = K::of_text(alloc, key)?;
+    let value = V::of_text(alloc, value)?;
+    holds(rt, shelf.has_room(), "has_room");
+    Ok(shelf.with(key, value)?)
+}
+
+/// The shelf without a key.
+fn without_key<K: Ord + Clone + Told + Drop, V: Clone + Drop>(
+    alloc: Global,
+    shelf: &Shelf<K, V>,
+    key: &str,
+) -> Result<Shelf<K, V>, Fail>
+    requires keys { ClonesEqual K.is_clone }
+    requires values { ClonesEqual V.is_clone }
+{
+    let key = K::of_text(alloc, key)?;
+    Ok(shelf.without(&key)?)
+}
+
+/// The shelf that is made of this one.
+fn made<K: Ord + Clone + Told + Drop, V: Clone + Told + Drop>(
+    rt: &impl Abort,
+    alloc: Global,
+    shelf: &Shelf<K, V>,
+    told: &str,
+) -> Result<Shelf<K, V>, Fail>
+    requires keys { ClonesEqual K.is_clone }
+    requires values { ClonesEqual V.is_clone }
+{
+    match told.split_once(' ').unwrap_or((told, "")) {
+        ("with", row) => with_row(rt, alloc, shelf, row),
+        ("without", key) => without_key(alloc, shelf, key),
+        ("clone", _) => Ok(shelf.clone()?),
+        _ => Err(Fail::from("no such shelf")),
+    }
+}
+
+fn row_text<K: Told, V: Told>(alloc: Global, key: &K, value: &V) -> Result<String, Fail> {
+    let key = key.text(alloc)?;
+    let value = value.text(alloc)?;
+    Ok(format!(in alloc; " {key} {value}")?)
+}
+
+/// How many rows stand from one bound to the other, of how many, and each of them.
+fn rows_text<K: Ord + Clone + Told, V: Clone + Told>(
+    alloc: Global,
+    shelf: &Shelf<K, V>,
+    lo: &K,
+    hi: &K,
+) -> Result<String, Fail> {
+    let (count, len) = (shelf.range(lo, hi).count(), shelf.len());
+    let mut text = format!(in alloc; "{count} of {len}:")?;
+    for (key, value) in shelf.range(lo, hi) {
+        text.push_str(row_text(alloc, key, value)?.as_str())?;
+    }
+    Ok(text)
+}
+
+fn range_text<K: Ord + Clone + Told + Drop, V: Clone + Told>(
+    alloc: Global,
+    shelf: &Shelf<K, V>,
+    bounds: &str,
+) -> Result<String, Fail> {
+    let (lo, hi) = bounds.split_once(' ').unwrap_or((bounds, ""));
+    let lo = K::of_text(alloc, lo)?;
+    let hi = K::of_text(alloc, hi)?;
+    rows_text(alloc, shelf, &lo, &hi)
+}
+
+/// The value at a key.
+fn value_text<K: Ord + Clone + Told + Drop, V: Clone + Told>(
+    alloc: Global,
+    shelf: &Shelf<K, V>,
+    key: &str,
+) -> Result<String, Fail> {
+    let key = K::of_text(alloc, key)?;
+    match shelf.get(&key) {
+        Some(value) => value.text(alloc),
+        None => Ok(String::from_str(alloc, "none")?),
+    }
+}
+
+fn answer<K: Ord + Clone + Told + Drop, V: Clone + Told>(
+    alloc: Global,
+    shelf: &Shelf<K, V>,
+    question: &str,
+) -> Result<String, Fail> {
+    match question.split_once(' ').unwrap_or((question, "")) {
+        ("range", bounds) => range_text(alloc, shelf, bounds),
+        ("get", key) => value_text(alloc, shelf, key),
+        _ => Err(Fail::from("no such question")),
+    }
+}
+
+fn plays_line<K: Ord + Clone + Told + Drop, V: Clone + Told + Drop>(
+    rt: &impl Abort,
+    alloc: Global,
+    shelves: &mut Vec<Shelf<K, V>>,
+    line: &str,
+) -> Result<(), Fail>
+    requires keys { ClonesEqual K.is_clone }
+    requires values { ClonesEqual V.is_clone }
+{
+    let (number, told) = line.split_once(' ').unwrap_or((line, ""));
+    let Some(shelf) = shelves.get(number.parse::<usize>()?) else {
+        return Err(Fail::from("no such shelf"));
+    };
+    if let Some((question, want)) = told.split_once(" => ") {
+        let got = answer(alloc, shelf, question)?;
+        is_text(rt, got.as_str(), want, line);
+        return Ok(());
+    }
+    let next = made(rt, alloc, shelf, told)?;
+    Ok(shelves.push(next)?)
+}
+
+/// Plays a script over a first shelf, whose number is 0. Each line begins with the number of a shelf. Lines with `with` and a row,
+/// with `without` and a key, and with `clone` make the shelf of the next number of that one; other lines ask it for a `range`, or for
+/// the value that it can `get` at a key, and have their answer behind ` => `.
+pub fn plays<K: Ord + Clone + Told + Drop, V: Clone + Told + Drop>(
+    rt: &impl Abort,
+    alloc: Global,
+    first: Shelf<K, V>,
+    script: &str,
+) -> Result<(), Fail>
+    requires keys { ClonesEqual K.is_clone }
+    requires values { ClonesEqual V.is_clone }
+{
+    let mut shelves = Vec::new(alloc);
+    shelves.push(first)?;
+    for line in script.lines() {
+        plays_line(rt, alloc, &mut shelves, line)?;
+    }
+    Ok(())
+}
