@@ -5,6 +5,7 @@
 //! - `worked`: small histories, told by tables. `playing` plays a table on a `desk`: a head, and the works that wait for their
 //!   commits. `telling` tells commits and items.
 //! - `random`: a long history of random batches beside the plain book.
+//! - `wanted`: what a test wants to see.
 #![tactic(auto)]
 
 #[cfg(test)]
@@ -15,5 +16,7 @@ mod playing;
 mod random;
 #[cfg(test)]
 mod telling;
+#[cfg(test)]
+mod wanted;
 #[cfg(test)]
 mod worked;

@@ -2,6 +2,7 @@
 
 use crate::desk::Desk;
 use crate::telling::{commit_text, item_text};
+use crate::wanted::is_text;
 use batch_texts::{batch, number, trust_domain, word, words};
 use commit_head::Commit;
 use std::alloc::Global;
@@ -12,34 +13,32 @@ pub fn first_desk(alloc: Global) -> Result<Desk, Fail> {
     Desk::new(alloc, trust_domain(alloc, "ex.org")?)
 }
 
-/// Begins a work of the batch that a text tells, which has to be ready in the end.
-fn begins(alloc: Global, desk: &mut Desk, text: &str) -> Result<(), Fail> {
+/// Begins a work of the batch that a text tells, which then waits where it is ready. Is it?
+pub fn begin(alloc: Global, desk: &mut Desk, text: &str) -> Result<bool, Fail> {
     let batch = batch(alloc, text)?;
-    if !desk.begin(alloc, batch)? {
+    desk.begin(alloc, batch)
+}
+
+/// The same for a batch that has to be ready in the end.
+fn begins(alloc: Global, desk: &mut Desk, text: &str) -> Result<(), Fail> {
+    if !begin(alloc, desk, text)? {
         return Err(Fail::from("not ready"));
     }
     Ok(())
 }
 
-/// What became of a work. Want of memory is an error, so that no table has to know of it.
-fn known(commit: Commit) -> Result<Commit, Fail> {
-    match commit {
-        Commit::NoMemory => Err(Fail::from("no memory")),
-        commit => Ok(commit),
-    }
-}
-
-/// What became of the work that began last, committed for seat 0.
-fn commits_last(desk: &mut Desk, call: u64) -> Result<Commit, Fail> {
-    let (commit, work) = desk.commit(desk.waiting().wrapping_sub(1), 0, call)?;
+/// What becomes of the work at an index.
+fn commit_at(desk: &mut Desk, index: usize, seat: u32, call: u64) -> Result<Commit, Fail> {
+    let (commit, work) = desk.commit(index, seat, call)?;
     drop(work);
-    known(commit)
+    Ok(commit)
 }
 
 /// Begins a batch and commits it at once, which has to come about.
 fn goes_on(alloc: Global, desk: &mut Desk, text: &str) -> Result<(), Fail> {
     begins(alloc, desk, text)?;
-    match commits_last(desk, desk.head().place())? {
+    let last = desk.waiting().wrapping_sub(1);
+    match commit_at(desk, last, 0, desk.head().place())? {
         Commit::Committed(_) => Ok(()),
         _ => Err(Fail::from("not committed")),
     }
@@ -53,39 +52,39 @@ fn goes_on_often(alloc: Global, desk: &mut Desk, times: u64, text: &str) -> Resu
     Ok(())
 }
 
-/// The seat that the second word tells.
+/// The seat that the third word tells.
 fn seat(words: &[&str]) -> Result<u32, Fail> {
-    Ok(word(words, 1).parse::<u32>()?)
+    Ok(word(words, 2).parse::<u32>()?)
 }
 
-/// What became of the work at an index, for a seat and a call: these three are words of a text.
-fn commits(alloc: Global, desk: &mut Desk, text: &str) -> Result<String, Fail> {
-    let words = words(alloc, text)?;
-    let (index, seat) = (number(words.as_slice(), 0)?, seat(words.as_slice())?);
-    let call = number(words.as_slice(), 2)?;
-    let (commit, work) = desk.commit(index as usize, seat, call)?;
-    drop(work);
-    Ok(commit_text(alloc, &known(commit)?)?)
+/// What becomes of the work at an index, for a seat and a call: these three are words.
+fn commits(alloc: Global, desk: &mut Desk, words: &[&str]) -> Result<String, Fail> {
+    let (index, seat, call) = (number(words, 1)?, seat(words)?, number(words, 3)?);
+    let commit = commit_at(desk, index as usize, seat, call)?;
+    Ok(commit_text(alloc, &commit)?)
 }
 
-/// The same, in two calls.
-fn commits_in_two(alloc: Global, desk: &mut Desk, text: &str) -> Result<String, Fail> {
-    let words = words(alloc, text)?;
-    let (index, seat) = (number(words.as_slice(), 0)?, seat(words.as_slice())?);
-    let call = number(words.as_slice(), 2)?;
-    let (commit, same) = desk.commit_in_two(index as usize, seat, call)?;
+/// What became of a commit in two calls. Between these the head has to be the same as before.
+fn commit_in_two_text(alloc: Global, commit: &Commit, same: bool) -> Result<String, Fail> {
     if !same {
         return Err(Fail::from("prepare has changed the head"));
     }
-    Ok(commit_text(alloc, &known(commit)?)?)
+    Ok(commit_text(alloc, commit)?)
+}
+
+/// The same as `commits`, in two calls.
+fn commits_in_two(alloc: Global, desk: &mut Desk, words: &[&str]) -> Result<String, Fail> {
+    let (index, seat, call) = (number(words, 1)?, seat(words)?, number(words, 3)?);
+    let (commit, same) = desk.commit_in_two(index as usize, seat, call)?;
+    commit_in_two_text(alloc, &commit, same)
 }
 
 fn number_text(alloc: Global, number: u64) -> Result<String, Fail> {
     Ok(format!(in alloc; "{number}")?)
 }
 
-fn item(alloc: Global, desk: &Desk, text: &str) -> Result<String, Fail> {
-    match desk.head().item(text.parse::<u64>()?) {
+fn item(alloc: Global, desk: &Desk, number: u64) -> Result<String, Fail> {
+    match desk.head().item(number) {
         Some(item) => Ok(item_text(alloc, item)?),
         None => Ok(String::from_str(alloc, "none")?),
     }
@@ -98,21 +97,20 @@ fn state_text(alloc: Global, desk: &Desk) -> Result<String, Fail> {
     Ok(format!(in alloc; "place {place} kept {kept} newest {newest}")?)
 }
 
-fn answer(alloc: Global, desk: &mut Desk, question: &str) -> Result<String, Fail> {
-    if let Some(text) = question.strip_prefix("COMMIT ") {
-        return commits(alloc, desk, text);
-    }
-    if let Some(text) = question.strip_prefix("PREPARE AND FINISH ") {
-        return commits_in_two(alloc, desk, text);
-    }
-    if let Some(text) = question.strip_prefix("ITEM ") {
-        return item(alloc, desk, text);
-    }
-    match question {
+fn answer_to(alloc: Global, desk: &mut Desk, words: &[&str]) -> Result<String, Fail> {
+    match word(words, 0) {
+        "COMMIT" => commits(alloc, desk, words),
+        "COMMIT-IN-TWO" => commits_in_two(alloc, desk, words),
+        "ITEM" => item(alloc, desk, number(words, 1)?),
         "HEAD" => state_text(alloc, desk),
         "CHECKPOINT" => number_text(alloc, desk.checkpoint()),
         _ => Err(Fail::from("no such question")),
     }
+}
+
+fn answer(alloc: Global, desk: &mut Desk, question: &str) -> Result<String, Fail> {
+    let words = words(alloc, question)?;
+    answer_to(alloc, desk, words.as_slice())
 }
 
 /// A line with no answer: `BEGIN` and a batch, `AGAIN`, a number and a batch, or a batch alone.
@@ -133,7 +131,7 @@ fn runs(alloc: Global, desk: &mut Desk, line: &str) -> Result<(), Fail> {
 fn plays_line(rt: &impl Abort, alloc: Global, desk: &mut Desk, line: &str) -> Result<(), Fail> {
     if let Some((question, want)) = line.split_once(" => ") {
         let got = answer(alloc, desk, question)?;
-        assert_eq!(rt; got.as_str(), want, "{line}");
+        is_text(rt, got.as_str(), want, line);
     } else if !line.is_empty() {
         runs(alloc, desk, line)?;
     }
@@ -141,7 +139,7 @@ fn plays_line(rt: &impl Abort, alloc: Global, desk: &mut Desk, line: &str) -> Re
 }
 
 /// Plays a table, from the empty book on. `BEGIN` begins a work, which waits behind the others. A question and its answer stand in
-/// a line with ` => ` between them: `COMMIT` and `PREPARE AND FINISH`, with an index from 0 among the works that wait, a seat and a
+/// a line with ` => ` between them: `COMMIT` and `COMMIT-IN-TWO`, with an index from 0 among the works that wait, a seat and a
 /// call, ask what becomes of that work, which then waits no longer; `ITEM` asks for an item of the journal, `HEAD` for place,
 /// journal and window, `CHECKPOINT` for how many items it drops. `AGAIN` and a number begin and commit a batch so many times, and
 /// each other line that isn't empty tells a batch that is begun and committed at once.

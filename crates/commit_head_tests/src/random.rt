@@ -4,8 +4,9 @@
 ghost use Rattle.std.specs.Prelude.{◌≡◌};
 
 use crate::desk::Desk;
-use crate::playing::first_desk;
-use batch_texts::{accepted_text, batch, batch_text, below, reply_text, trust_domain};
+use crate::playing::{begin, first_desk};
+use crate::wanted::{holds, is_number, is_text};
+use batch_texts::{accepted_text, batch_text, below, reply_text, trust_domain};
 use batch_work::Work;
 use commit_head::{Commit, Head, Item};
 use entry_book::{Batch, Reply};
@@ -16,7 +17,7 @@ use std::test::Fail;
 use version_book::Mark;
 
 /// How many works were committed, and refused after up to 63 other commits, and after more.
-#[derive(Debug, Drop)]
+#[derive(Drop)]
 struct Counts {
     committed: u64,
     conflicts: u64,
@@ -75,13 +76,18 @@ fn is_as_told(
     let item = kept_item(head, number)?;
     let want = plain_text(alloc, book, &item.batch)?;
     let got = accepted_text(alloc, "committed", number, item.replies.get().as_slice())?;
-    assert_eq!(rt; got.as_str(), want.as_str());
+    is_text(rt, got.as_str(), want.as_str(), "a committed batch");
     Ok(())
 }
 
 /// Does a write of the item hit one of the marks?
 fn hits_one(item: &Item, marks: &[Mark]) -> bool {
-    marks.iter().any(|mark| item.changes.hits(mark))
+    for mark in marks {
+        if item.changes.hits(mark) {
+            return true;
+        }
+    }
+    false
 }
 
 /// Does a write of one of the items behind the first number, up to the last one, hit one of the marks?
@@ -115,12 +121,13 @@ fn is_due(
     if last.wrapping_sub(first) > 63 {
         return Ok(false);
     }
-    assert_eq!(rt; is_hit(head, first, last, work.marks())?, conflict);
+    let is_hit = is_hit(head, first, last, work.marks())?;
+    holds(rt, is_hit == conflict, "a write that hits");
     Ok(true)
 }
 
 /// Holds what became of a work against the plain book, and against the commits since its begin.
-fn holds(
+fn compare(
     rt: &impl Abort,
     alloc: Global,
     head: &Head,
@@ -136,7 +143,7 @@ fn holds(
             is_as_told(rt, alloc, head, book, *number)
         }
         Commit::Conflict(place) => {
-            assert_eq!(rt; *place, head.place());
+            is_number(rt, *place, head.place(), "the place of a conflict");
             let few = is_due(rt, head, work, *place, true)?;
             counts.conflicts = counts.conflicts.wrapping_add(u64::from(few));
             counts.late_conflicts = counts.late_conflicts.wrapping_add(u64::from(!few));
@@ -149,7 +156,7 @@ fn holds(
 /// Begins a work of a random batch; one that awaits no commit doesn't stay.
 fn begins_one(alloc: Global, desk: &mut Desk, state: &mut u64) -> Result<(), Fail> {
     let text = batch_text(alloc, state, desk.head().place())?;
-    desk.begin(alloc, batch(alloc, text.as_str())?)?;
+    begin(alloc, desk, text.as_str())?;
     Ok(())
 }
 
@@ -163,9 +170,9 @@ fn commits_one(
     counts: &mut Counts,
 ) -> Result<(), Fail> {
     let (commit, work) = desk.commit(index, 0, 0)?;
-    let held = holds(rt, alloc, desk.head(), book, &commit, &work, counts);
+    let compared = compare(rt, alloc, desk.head(), book, &commit, &work, counts);
     drop(work);
-    held
+    compared
 }
 
 /// The index of one of so many works, three times of four of the one that began last: the others get old.
@@ -218,18 +225,30 @@ fn all_rounds(
     Ok(())
 }
 
-fn all_came(counts: &Counts) -> bool {
-    counts.committed > 200 && counts.conflicts > 50 && counts.late_conflicts > 0
+/// Rounds on a desk and on the plain book, which are at the same place in the end.
+fn play_both(
+    rt: &impl Abort,
+    alloc: Global,
+    desk: &mut Desk,
+    book: &mut PlainBook,
+) -> Result<(), Fail> {
+    let mut counts = no_counts();
+    all_rounds(rt, alloc, desk, book, &mut counts)?;
+    is_number(rt, desk.head().place(), book.place(), "place");
+    is_number(rt, desk.head().place(), counts.committed, "committed");
+    holds(rt, counts.committed > 200, "more than 200 commits");
+    holds(rt, counts.conflicts > 50, "more than 50 conflicts");
+    holds(rt, counts.late_conflicts > 0, "late conflicts");
+    Ok(())
+}
+
+fn play_beside_the_plain_book(rt: &impl Abort, alloc: Global, desk: &mut Desk) -> Result<(), Fail> {
+    let mut book = plain_book(alloc)?;
+    play_both(rt, alloc, desk, &mut book)
 }
 
 #[test]
 fn works_that_began_at_once_commit_as_in_the_plain_book(rt: HostRuntime) -> Result<(), Fail> {
     let mut desk = first_desk(rt.alloc())?;
-    let mut book = plain_book(rt.alloc())?;
-    let mut counts = no_counts();
-    all_rounds(&rt, rt.alloc(), &mut desk, &mut book, &mut counts)?;
-    assert_eq!(rt; desk.head().place(), book.place());
-    assert_eq!(rt; desk.head().place(), counts.committed);
-    assert!(rt; all_came(&counts), "{counts:?}");
-    Ok(())
+    play_beside_the_plain_book(&rt, rt.alloc(), &mut desk)
 }

@@ -10,13 +10,13 @@ fn full_text(alloc: Global, limit: &Limit, place: u64) -> Result<String, Failed>
     placed(alloc, code, place)
 }
 
-/// What became of a commit, and the number.
+/// What became of a commit, and the number. Want of memory is an error, so that no table has to know of it.
 pub fn commit_text(alloc: Global, commit: &Commit) -> Result<String, Failed> {
     match commit {
         Commit::Committed(number) => placed(alloc, "committed", *number),
         Commit::Conflict(place) => placed(alloc, "conflict", *place),
         Commit::Full(limit, place) => full_text(alloc, limit, *place),
-        Commit::NoMemory => Ok(String::from_str(alloc, "none")?),
+        Commit::NoMemory => Err(Failed::NoMemory),
     }
 }
 

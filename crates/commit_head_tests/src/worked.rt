@@ -187,12 +187,12 @@ const IN_TWO: &str = "
 BEGIN create 1 n1 /web x:1 0
 BEGIN create 2 n1 /web x:1 0
 BEGIN create 3 n2 /web x:1 0; show 3
-PREPARE AND FINISH 0 1 1 => committed at 1
+COMMIT-IN-TWO 0 1 1 => committed at 1
 HEAD => place 1 kept 1 newest 1
 ITEM 1 => seat 1 call 1 operations 1 writes 1; entry 1.0
-PREPARE AND FINISH 0 2 1 => conflict at 1
+COMMIT-IN-TWO 0 2 1 => conflict at 1
 HEAD => place 1 kept 1 newest 1
-PREPARE AND FINISH 0 3 1 => committed at 2
+COMMIT-IN-TWO 0 3 1 => committed at 2
 ITEM 2 => seat 3 call 1 operations 2 writes 1; entry 3.0; shown 3.0
 HEAD => place 2 kept 2 newest 2
 ";
