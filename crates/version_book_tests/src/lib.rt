@@ -2,12 +2,15 @@
 //!
 //! The crate has tests alone, over the public calls of `version_book`:
 //!
-//! - `worked`: the marks of small books, told by tables. `playing` plays a table, `marks` makes the marks that it asks for.
-//! - `random`: long histories of random operations, beside plain lists of their rows, which `listed` has.
-//! - `running`: the writes of an operation, found by reading a version.
+//! - `worked`: the marks of small books, told by tables. `playing` plays a table.
+//! - `random`: long histories of random operations, which `draws` draws, beside plain lists of their rows, which `listed` has.
+//! - `running`: the version after a batch, whose writes a work of `batch_work` finds.
+//! - `marks`: marks, made of words; `rows`: rows, told as lines.
 //! - `wanted`: what a test wants to see.
 #![tactic(auto)]
 
+#[cfg(test)]
+mod draws;
 #[cfg(test)]
 mod listed;
 #[cfg(test)]
@@ -16,6 +19,8 @@ mod marks;
 mod playing;
 #[cfg(test)]
 mod random;
+#[cfg(test)]
+mod rows;
 #[cfg(test)]
 mod running;
 #[cfg(test)]

@@ -1,34 +1,33 @@
 //! Marks, made of the words of a line. IDs are told by their path; they are of `ex.org`.
 
-use batch_texts::{number, trust_domain, word, words};
+use batch_texts::{Failed, number, trust_domain, word, words};
 use entry_book::Shared;
 use spiffe_name::{SpiffeId, TrustDomain};
 use std::alloc::Global;
-use std::test::Fail;
 use uuid::Uuid;
 use version_book::Mark;
 
 /// The UUID whose last bytes are the number behind the first word.
-fn uuid(words: &[&str]) -> Result<Uuid, Fail> {
+fn uuid(words: &[&str]) -> Result<Uuid, Failed> {
     Ok(Uuid::from_u64_pair(0, number(words, 1)?))
 }
 
-fn id(alloc: Global, path: &str) -> Result<Shared<SpiffeId>, Fail> {
+fn id(alloc: Global, path: &str) -> Result<Shared<SpiffeId>, Failed> {
     let text = format!(in alloc; "spiffe://ex.org{path}")?;
     Ok(Shared::of(alloc, SpiffeId::parse(alloc, text.as_str())?)?)
 }
 
-fn domain(alloc: Global, name: &str) -> Result<Shared<TrustDomain>, Fail> {
+fn domain(alloc: Global, name: &str) -> Result<Shared<TrustDomain>, Failed> {
     Ok(Shared::of(alloc, trust_domain(alloc, name)?)?)
 }
 
 /// The mark that a line tells.
-pub fn mark_of(alloc: Global, line: &str) -> Result<Mark, Fail> {
+pub fn mark_of(alloc: Global, line: &str) -> Result<Mark, Failed> {
     let words = words(alloc, line)?;
     mark(alloc, words.as_slice())
 }
 
-fn mark(alloc: Global, words: &[&str]) -> Result<Mark, Fail> {
+fn mark(alloc: Global, words: &[&str]) -> Result<Mark, Failed> {
     match word(words, 0) {
         "all" => Ok(Mark::all()),
         "token" => Ok(Mark::token(uuid(words)?)),
@@ -40,7 +39,7 @@ fn mark(alloc: Global, words: &[&str]) -> Result<Mark, Fail> {
     }
 }
 
-fn mark_of_id(alloc: Global, words: &[&str], kind: &str) -> Result<Mark, Fail> {
+fn mark_of_id(alloc: Global, words: &[&str], kind: &str) -> Result<Mark, Failed> {
     let first = id(alloc, word(words, 1))?;
     match kind {
         "group" => Ok(Mark::group(&first, &id(alloc, word(words, 2))?)?),

@@ -1,58 +1,77 @@
 //! Versions of one history, and what they answer, told by a table.
 
 use crate::marks::mark_of;
-use crate::running::{changes_of, next_of};
+use crate::rows::{add_agents, add_bundles, add_entries, add_tokens, add_writes, read_text};
+use crate::running::{ended, next_of};
 use crate::wanted::{holds, is_text};
-use batch_texts::{batch, number, trust_domain, word, words};
-use entry_book::{Agent, Bundle, Entry, KeptBatch};
+use batch_texts::{Failed, batch, number, trust_domain, word, words};
+use batch_work::{Status, Work};
 use std::alloc::Global;
 use std::process::Abort;
 use std::test::Fail;
-use uuid::Uuid;
-use version_book::{Changes, Mark, Version};
+use version_book::{Changes, Mark, RowCounts, Version};
 
-/// A version, and the writes that led to it.
+/// A version, the batch that led to it, and its writes, which are told as text, too.
 #[derive(Drop)]
 pub struct Step {
+    pub batch: String,
+    pub writes: String,
     pub changes: Changes,
     pub version: Version,
-}
-
-/// The number that the last byte of an id is.
-pub fn number_of(id: &Uuid) -> u8 {
-    id.as_bytes()[15]
 }
 
 /// The first version, alone.
 pub fn first_step(alloc: Global) -> Result<Vec<Step>, Fail> {
     let version = Version::empty(alloc, trust_domain(alloc, "ex.org")?)?;
-    let changes = Changes::new(alloc);
     let mut steps = Vec::new(alloc);
-    steps.push(Step { changes, version })?;
+    steps.push(Step {
+        batch: String::new(alloc),
+        writes: String::new(alloc),
+        changes: Changes::new(alloc),
+        version,
+    })?;
     Ok(steps)
 }
 
-/// The version after the batch that a text tells; nothing where the book refuses it.
-fn play(alloc: Global, version: &Version, text: &str) -> Result<Option<Step>, Fail> {
-    let batch = batch(alloc, text)?;
-    if batch.domain() != version.domain() {
-        return Err(Fail::from("another trust domain"));
-    }
-    let Some(changes) = changes_of(alloc, version, &batch)? else {
-        return Ok(None);
-    };
-    let Some(version) = next_of(version, &batch, &changes)? else {
-        return Ok(None);
-    };
-    Ok(Some(Step { changes, version }))
+/// The writes of a work that is ready, for a place, told as text.
+fn writes_text(alloc: Global, work: &Work, place: u64) -> Result<String, Failed> {
+    let mut text = String::new(alloc);
+    add_writes(alloc, &mut text, work.changes(), place)?;
+    Ok(text)
 }
 
-/// Adds the version after the batch that a text tells, where the book accepts it.
+/// The version of this number, after the batch of a work, which a text tells; nothing where the book doesn't take it.
+fn step_of(alloc: Global, work: &Work, text: &str, number: u64) -> Result<Option<Step>, Fail> {
+    if work.status() != Status::Ready {
+        return Ok(None);
+    }
+    let batch = String::from_str(alloc, text)?;
+    let writes = writes_text(alloc, work, number)?;
+    let changes = work.changes().clone()?;
+    let version = next_of(work)?;
+    Ok(Some(Step {
+        batch,
+        writes,
+        changes,
+        version,
+    }))
+}
+
+/// The version of this number, after the batch that a text tells; nothing where the book doesn't take it.
+fn play(alloc: Global, version: &Version, text: &str, number: u64) -> Result<Option<Step>, Fail> {
+    let work = ended(alloc, version, batch(alloc, text)?)?;
+    let step = step_of(alloc, &work, text, number);
+    drop(work);
+    step
+}
+
+/// Adds the version after the batch that a text tells, where the book takes it.
 pub fn go_on(alloc: Global, steps: &mut Vec<Step>, text: &str) -> Result<bool, Fail> {
+    let number = steps.len() as u64;
     let Some(last) = steps.last() else {
         return Ok(false);
     };
-    match play(alloc, &last.version, text)? {
+    match play(alloc, &last.version, text, number)? {
         Some(next) => {
             steps.push(next)?;
             Ok(true)
@@ -61,115 +80,135 @@ pub fn go_on(alloc: Global, steps: &mut Vec<Step>, text: &str) -> Result<bool, F
     }
 }
 
-/// Adds an entry as its number and, after a dot, its revision.
-fn add_entry(alloc: Global, text: &mut String, entry: &Entry) -> Result<(), Fail> {
-    let number = number_of(entry.id());
-    let revision = entry.revision();
-    let told = format!(in alloc; " {number}.{revision}")?;
-    Ok(text.push_str(told.as_str())?)
-}
-
-/// Adds a row of this kind, as a number.
-fn add_row(alloc: Global, text: &mut String, kind: &str, number: u64) -> Result<(), Fail> {
-    let told = format!(in alloc; " {kind} {number}")?;
-    Ok(text.push_str(told.as_str())?)
-}
-
-/// Adds what is kept under a token: how many operations, and at which place.
-fn add_kept(alloc: Global, text: &mut String, kept: &KeptBatch) -> Result<(), Fail> {
-    let (ops, place) = (kept.ops.get().as_slice().len(), kept.place);
-    let told = format!(in alloc; " {ops} ops at {place}")?;
-    Ok(text.push_str(told.as_str())?)
-}
-
-/// Adds rows one by one: an agent is told as the count of its selectors, a bundle as its sequence.
-fn add_rows(
-    alloc: Global,
-    text: &mut String,
-    entries: &[Entry],
-    agents: &[Agent],
-    bundles: &[Bundle],
-    tokens: &[KeptBatch],
-) -> Result<(), Fail> {
-    for entry in entries {
-        add_entry(alloc, text, entry)?;
-    }
-    for agent in agents {
-        add_row(alloc, text, "agent", agent.selectors.get().len() as u64)?;
-    }
-    for bundle in bundles {
-        add_row(alloc, text, "bundle", bundle.sequence)?;
-    }
-    for kept in tokens {
-        add_kept(alloc, text, kept)?;
+/// Adds the rows of a reading, in short.
+fn add_short(text: &mut String, rows: &str) -> Result<(), Failed> {
+    for row in rows.lines() {
+        let (told, _) = row.split_once("|").unwrap_or((row, ""));
+        text.push_str(told)?;
     }
     Ok(())
 }
 
 /// What a version reads at a mark.
-fn told(alloc: Global, version: &Version, mark: &Mark) -> Result<String, Fail> {
-    let reading = version.read(mark)?;
-    let (entries, agents) = (reading.entries(), reading.agents());
-    let (bundles, tokens) = (reading.bundles(), reading.tokens());
+fn told(alloc: Global, version: &Version, mark: &Mark) -> Result<String, Failed> {
+    let rows = read_text(alloc, version, mark)?;
     let mut text = String::new(alloc);
-    add_rows(alloc, &mut text, entries, agents, bundles, tokens)?;
+    add_short(&mut text, rows.as_str())?;
     Ok(text)
 }
 
-/// The same of the version's clone at the mark's clone, which has to name the same, by rows that are handed over.
-fn told_by_clone(alloc: Global, version: &Version, mark: &Mark) -> Result<String, Fail> {
-    let (copy, copied_mark) = (version.clone()?, mark.clone()?);
-    if copied_mark.kind().clone()? != *mark.kind() {
+fn add_own_entries(
+    alloc: Global,
+    text: &mut String,
+    version: &Version,
+    mark: &Mark,
+) -> Result<(), Failed> {
+    let entries = version.read(mark)?.into_entries();
+    add_entries(alloc, text, &entries)
+}
+
+fn add_own_agents(text: &mut String, version: &Version, mark: &Mark) -> Result<(), Failed> {
+    let agents = version.read(mark)?.into_agents();
+    add_agents(text, &agents)
+}
+
+fn add_own_bundles(text: &mut String, version: &Version, mark: &Mark) -> Result<(), Failed> {
+    let bundles = version.read(mark)?.into_bundles();
+    add_bundles(text, &bundles)
+}
+
+fn add_own_tokens(
+    alloc: Global,
+    text: &mut String,
+    version: &Version,
+    mark: &Mark,
+) -> Result<(), Failed> {
+    let tokens = version.read(mark)?.into_tokens();
+    add_tokens(alloc, text, &tokens, u64::MAX)
+}
+
+/// Adds what a version reads at a mark, by rows that are handed over.
+fn add_own(alloc: Global, text: &mut String, version: &Version, mark: &Mark) -> Result<(), Failed> {
+    add_own_entries(alloc, text, version, mark)?;
+    add_own_agents(text, version, mark)?;
+    add_own_bundles(text, version, mark)?;
+    add_own_tokens(alloc, text, version, mark)
+}
+
+/// The mark's clone, which has to name the same, as has the clone of what it names.
+fn same_mark(mark: &Mark) -> Result<Mark, Fail> {
+    let copy = mark.clone()?;
+    if copy.kind().clone()? != *mark.kind() {
         return Err(Fail::from("a clone that names something else"));
     }
-    let entries = copy.read(&copied_mark)?.into_entries();
-    let agents = copy.read(&copied_mark)?.into_agents();
-    let bundles = copy.read(&copied_mark)?.into_bundles();
-    let tokens = copy.read(&copied_mark)?.into_tokens();
+    Ok(copy)
+}
+
+/// What the version's clone reads at the mark's clone.
+fn told_by_clone(alloc: Global, version: &Version, mark: &Mark) -> Result<String, Failed> {
+    let copy = version.clone()?;
+    let mut rows = String::new(alloc);
+    add_own(alloc, &mut rows, &copy, mark)?;
     let mut text = String::new(alloc);
-    add_rows(alloc, &mut text, &entries, &agents, &bundles, &tokens)?;
+    add_short(&mut text, rows.as_str())?;
     Ok(text)
 }
 
-fn told_count(alloc: Global, version: &Version) -> Result<String, Fail> {
-    let count = version.count();
-    let (entries, agents, bundles) = (count.entries, count.agents, count.bundles);
-    let (tokens, number) = (count.tokens, version.number());
+/// The number of a version. Nothing is said of it, so that no proof of a text looks at the version's rows.
+pub fn number_of(version: &Version) -> u64 {
+    version.number()
+}
+
+/// How many rows a version has, of which nothing is said, too.
+fn count_of(version: &Version) -> RowCounts {
+    version.count()
+}
+
+fn told_count(alloc: Global, version: &Version) -> Result<String, Failed> {
+    let (count, number) = (count_of(version), number_of(version));
+    let (entries, agents) = (count.entries, count.agents);
+    let (bundles, tokens) = (count.bundles, count.tokens);
     Ok(format!(in alloc; " {entries} {agents} {bundles} {tokens} at {number}")?)
 }
 
-fn version_at(steps: &[Step], number: u64) -> Result<&Version, Fail> {
-    match steps.get(number as usize) {
-        Some(step) => Ok(&step.version),
+/// Is the mark unchanged since the older version?
+fn told_same(
+    alloc: Global,
+    newer: &Version,
+    older: Option<&Step>,
+    mark: &Mark,
+) -> Result<String, Fail> {
+    match older {
+        Some(older) if newer.unchanged(mark, &older.version) => Ok(String::from_str(
+            alloc, " yes",
+        )?),
+        Some(_) => Ok(String::from_str(alloc, " no")?),
         None => Err(Fail::from("no such version")),
     }
 }
 
-fn answer_at(alloc: Global, steps: &[Step], head: &str, mark: &Mark) -> Result<String, Fail> {
-    let words = words(alloc, head)?;
-    let kind = word(words.as_slice(), 0);
-    let version = version_at(steps, number(words.as_slice(), 1)?)?;
-    if kind == "READS" {
-        return told(alloc, version, mark);
+fn answer_at(alloc: Global, steps: &[Step], words: &[&str], mark: &Mark) -> Result<String, Fail> {
+    let Some(step) = steps.get(number(words, 1)? as usize) else {
+        return Err(Fail::from("no such version"));
+    };
+    match word(words, 0) {
+        "COUNT" => Ok(told_count(alloc, &step.version)?),
+        "READS" => Ok(told(alloc, &step.version, mark)?),
+        "CLONE" => Ok(told_by_clone(alloc, &step.version, &same_mark(mark)?)?),
+        _ => {
+            let older = steps.get(number(words, 2)? as usize);
+            told_same(alloc, &step.version, older, mark)
+        }
     }
-    if kind == "CLONE" {
-        return told_by_clone(alloc, version, mark);
-    }
-    let older = version_at(steps, number(words.as_slice(), 2)?)?;
-    let is_same = version.unchanged(mark, older);
-    Ok(String::from_str(alloc, if is_same { " yes" } else { " no" })?)
 }
 
 /// The answer of a version to a question: `COUNT 2`, `READS 2: children /a`, the same of its clone, `CLONE 2: children /a`,
 /// or, of a newer and an older one, `SAME 2 1: children /a`.
 fn answer(alloc: Global, steps: &[Step], question: &str) -> Result<String, Fail> {
-    match question.split_once(": ") {
-        Some((head, line)) => answer_at(alloc, steps, head, &mark_of(alloc, line)?),
-        None => {
-            let words = words(alloc, question)?;
-            told_count(alloc, version_at(steps, number(words.as_slice(), 1)?)?)
-        }
-    }
+    let (head, line) = question.split_once(": ").unwrap_or((question, "all"));
+    let mark = mark_of(alloc, line)?;
+    let words = words(alloc, head)?;
+    answer_at(alloc, steps, words.as_slice(), &mark)
 }
 
 /// Plays a line of a table.

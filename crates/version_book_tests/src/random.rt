@@ -1,16 +1,18 @@
 //! Random operations on few rows: every mark reads what plain lists have, and tells whether it is unchanged.
 
-use crate::listed::{Listed, are_hit, read_text, reading_text};
+use crate::draws::batch_text;
+use crate::listed::{Listed, own_mark, told};
 use crate::marks::mark_of;
-use crate::playing::{Step, first_step, go_on};
+use crate::playing::{Step, first_step, go_on, number_of};
+use crate::rows::{read_text, read_up_to, through_text};
 use crate::wanted::{holds, is_text};
-use batch_texts::below;
-use std::alloc::Global;
+use batch_texts::{number, word, words};
+use std::alloc::{AllocError, Global};
 use std::process::Abort;
 use std::test::Fail;
 use version_book::{Changes, Mark, Version};
 
-const MARKS: &str = "
+const MARKS: &str = "\
 entry 1
 entry 2
 entry 3
@@ -49,412 +51,361 @@ token 3
 token 101
 ";
 
-const PARENTS: [&str; 3] = ["/a", "/ab", "/x"];
-
-const IDENTITIES: [&str; 2] = ["/a", "/x"];
-
-const DOMAINS: [&str; 6] = ["", "", "d1", "d2", "d3", "d1 d3"];
-
-const AGENTS: [&str; 2] = ["/spire/agent/m", "/spire/agent/n"];
-
-const MODES: [&str; 3] = ["restrict", "delete", "dissociate"];
-
-const KINDS: [&str; 12] = [
-    "create",
-    "create",
-    "create",
-    "update",
-    "update",
-    "delete",
-    "prune",
-    "set_agent",
-    "drop_agent",
-    "set_bundle",
-    "set_bundle",
-    "drop_bundle",
-];
-
-/// A random operation on an entry, of the kind. The entry's selector is that of its number.
-fn entry_line(alloc: Global, state: &mut u64, kind: &str) -> Result<String, Fail> {
-    let (number, parent) = (below(state, 6) + 1, PARENTS[below(state, 3)]);
-    let (identity, expiry) = (IDENTITIES[below(state, 2)], below(state, 4));
-    let domains = DOMAINS[below(state, 6)];
-    Ok(format!(in alloc; "{kind} {number} {parent} {identity} u:{number} {expiry} {domains}")?)
+/// A mark, and its words between bars.
+#[derive(Drop)]
+struct NamedMark {
+    name: String,
+    mark: Mark,
 }
 
-fn agent_line(alloc: Global, state: &mut u64, kind: &str) -> Result<String, Fail> {
-    let (agent, selector) = (AGENTS[below(state, 2)], below(state, 2) + 1);
-    Ok(format!(in alloc; "{kind} {agent} u:{selector}")?)
+fn between_bars(alloc: Global, words: &str) -> Result<String, AllocError> {
+    format!(in alloc; "|{words}|")
 }
 
-fn bundle_line(alloc: Global, state: &mut u64, kind: &str) -> Result<String, Fail> {
-    let (domain, mode) = (below(state, 3) + 1, MODES[below(state, 3)]);
-    Ok(format!(in alloc; "{kind} d{domain} {mode}")?)
+fn named_mark(alloc: Global, line: &str) -> Result<NamedMark, Fail> {
+    let name = between_bars(alloc, line)?;
+    let mark = mark_of(alloc, line)?;
+    Ok(NamedMark { name, mark })
 }
 
-fn prune_line(alloc: Global, state: &mut u64) -> Result<String, Fail> {
-    let moment = below(state, 4);
-    Ok(format!(in alloc; "prune {moment}")?)
-}
-
-/// A random operation of the kind.
-fn line_of(alloc: Global, state: &mut u64, kind: &str) -> Result<String, Fail> {
-    match kind {
-        "create" | "update" | "delete" => entry_line(alloc, state, kind),
-        "set_agent" | "drop_agent" => agent_line(alloc, state, kind),
-        "prune" => prune_line(alloc, state),
-        _ => bundle_line(alloc, state, kind),
-    }
-}
-
-/// A random operation.
-fn line(alloc: Global, state: &mut u64) -> Result<String, Fail> {
-    let kind = KINDS[below(state, 12)];
-    line_of(alloc, state, kind)
-}
-
-/// A token in one batch of four, of which only the first that commits is kept.
-fn token_line(alloc: Global, state: &mut u64) -> Result<String, Fail> {
-    if below(state, 4) != 0 {
-        return Ok(String::new(alloc));
-    }
-    let number = below(state, 200);
-    Ok(format!(in alloc; "token {number}; ")?)
-}
-
-/// One to four random operations, and a token or none.
-fn lines(alloc: Global, state: &mut u64) -> Result<String, Fail> {
-    let mut lines = token_line(alloc, state)?;
-    lines.push_str(line(alloc, state)?.as_str())?;
-    for _ in 0..below(state, 4) {
-        lines.push_str("; ")?;
-        lines.push_str(line(alloc, state)?.as_str())?;
-    }
-    Ok(lines)
-}
-
-fn marks(alloc: Global) -> Result<Vec<Mark>, Fail> {
+fn all_marks(alloc: Global) -> Result<Vec<NamedMark>, Fail> {
     let mut marks = Vec::new(alloc);
     for line in MARKS.lines() {
-        if !line.is_empty() {
-            marks.push(mark_of(alloc, line)?)?;
-        }
+        marks.push(named_mark(alloc, line)?)?;
     }
     Ok(marks)
 }
 
-/// The versions of a history, and the operations of each version's batch; the first version has none.
-#[derive(Drop)]
-struct Played {
-    steps: Vec<Step>,
-    batches: Vec<String>,
-}
-
 /// A history of so many versions after the first.
-fn history(alloc: Global, seed: u64, count: usize) -> Result<Played, Fail> {
+fn history(alloc: Global, seed: u64, count: usize) -> Result<Vec<Step>, Fail> {
     let mut state = seed;
     let mut steps = first_step(alloc)?;
-    let mut batches = Vec::new(alloc);
-    batches.push(String::new(alloc))?;
     for _ in 0..100_000 {
         if steps.len() > count {
             break;
         }
-        let lines = lines(alloc, &mut state)?;
-        if go_on(alloc, &mut steps, lines.as_str())? {
-            batches.push(lines)?;
-        }
+        let text = batch_text(alloc, &mut state)?;
+        go_on(alloc, &mut steps, text.as_str())?;
     }
-    Ok(Played { steps, batches })
+    Ok(steps)
 }
+
+/// Which operations have to come as a batch of their own, and how many rows one of these has to write at least.
+const COMING: &str = "\
+1 create
+1 update
+1 delete
+1 prune
+1 set_agent
+1 drop_agent
+1 set_bundle
+1 drop_bundle restrict
+2 drop_bundle delete
+2 drop_bundle dissociate
+";
 
 /// The operations of a batch, without its token.
 fn without_token(batch: &str) -> &str {
+    if !batch.starts_with("token") {
+        return batch;
+    }
     match batch.split_once("; ") {
-        Some((first, ops)) if first.starts_with("token") => ops,
-        _ => batch,
+        Some((_, ops)) => ops,
+        None => batch,
     }
 }
 
-/// How many batches were one operation that begins and ends with these words and wrote at least so many rows?
-fn count_of(played: &Played, (start, end): (&str, &str), least: usize) -> usize {
-    played
-        .steps
-        .iter()
-        .zip(&played.batches)
-        .filter(|(step, batch)| {
-            let ops = without_token(batch);
-            !ops.contains(';')
-                && ops.starts_with(start)
-                && ops.ends_with(end)
-                && step.changes.len() >= least
-        })
-        .count()
+/// Was the batch one operation of this kind, in this mode, and wrote at least so many rows?
+fn is_alone(step: &Step, (kind, mode): (&str, &str), least: u64) -> bool {
+    let ops = without_token(step.batch.as_str());
+    !ops.contains(";")
+        && ops.starts_with(kind)
+        && ops.contains(mode)
+        && step.changes.len() as u64 >= least
 }
 
-/// Does this come, so that at least so many rows are written?
-fn comes(rt: &impl Abort, played: &Played, words: (&str, &str), least: usize) {
-    let (start, _) = words;
-    holds(rt, count_of(played, words, least) > 0, start);
+fn has_come(alloc: Global, steps: &[Step], line: &str) -> Result<bool, Fail> {
+    let words = words(alloc, line)?;
+    let least = number(words.as_slice(), 0)?;
+    let op = (word(words.as_slice(), 1), word(words.as_slice(), 2));
+    for step in steps {
+        if is_alone(step, op, least) {
+            return Ok(true);
+        }
+    }
+    Ok(false)
 }
 
 /// Every operation came alone and wrote something, and each way to drop a bundle met its users where it takes notice.
-fn every_operation_came(rt: &impl Abort, played: &Played) {
-    for kind in KINDS {
-        comes(rt, played, (kind, ""), 1);
-    }
-    comes(rt, played, ("drop_bundle", "restrict"), 1);
-    comes(rt, played, ("drop_bundle", "delete"), 2);
-    comes(rt, played, ("drop_bundle", "dissociate"), 2);
-}
-
-/// Every mark reads of this version what it reads of the lists.
-fn are_read(
-    rt: &impl Abort,
-    alloc: Global,
-    step: &Step,
-    listed: &Listed,
-    marks: &[Mark],
-) -> Result<(), Fail> {
-    for mark in marks {
-        let got = read_text(alloc, &step.version, mark)?;
-        let want = listed.text(alloc, mark)?;
-        is_text(rt, got.as_str(), want.as_str(), "at a mark");
+fn every_operation_came(rt: &impl Abort, alloc: Global, steps: &[Step]) -> Result<(), Fail> {
+    for line in COMING.lines() {
+        holds(rt, has_come(alloc, steps, line)?, line);
     }
     Ok(())
 }
 
-/// Each version reads what the lists have; answers how many rows were written at once, at most.
+/// The version reads these rows at the mark.
+fn reads(
+    rt: &impl Abort,
+    alloc: Global,
+    version: &Version,
+    mark: &Mark,
+    (want, at): (&str, &str),
+) -> Result<(), Fail> {
+    let got = read_text(alloc, version, mark)?;
+    is_text(rt, got.as_str(), want, at);
+    Ok(())
+}
+
+/// The version reads at every mark what the lists have.
+fn reads_named(
+    rt: &impl Abort,
+    alloc: Global,
+    version: &Version,
+    listed: &Listed,
+    marks: &[NamedMark],
+) -> Result<(), Fail> {
+    for NamedMark { name, mark } in marks {
+        let want = listed.named_text(alloc, name.as_str())?;
+        reads(rt, alloc, version, mark, (want.as_str(), name.as_str()))?;
+    }
+    Ok(())
+}
+
+/// The version reads a row, and it alone, at the mark of its own.
+fn reads_row(rt: &impl Abort, alloc: Global, version: &Version, row: &str) -> Result<(), Fail> {
+    let mark = mark_of(alloc, own_mark(row))?;
+    let got = read_text(alloc, version, &mark)?;
+    is_text(rt, got.as_str().trim_end(), told(row), row);
+    Ok(())
+}
+
+fn reads_rows(
+    rt: &impl Abort,
+    alloc: Global,
+    version: &Version,
+    rows: &[String],
+) -> Result<(), Fail> {
+    for row in rows {
+        reads_row(rt, alloc, version, row.as_str())?;
+    }
+    Ok(())
+}
+
+/// Has the version as many rows of each kind as the lists?
+fn is_counted(version: &Version, listed: &Listed) -> bool {
+    let count = version.count();
+    listed.count_of("|entry ") == count.entries
+        && listed.count_of("|agent ") == count.agents
+        && listed.count_of("|bundle ") == count.bundles
+        && listed.tokens().len() == count.tokens
+}
+
+/// The version has the rows of the lists.
+fn is_as_listed(
+    rt: &impl Abort,
+    alloc: Global,
+    version: &Version,
+    listed: &Listed,
+    marks: &[NamedMark],
+) -> Result<(), Fail> {
+    reads_named(rt, alloc, version, listed, marks)?;
+    reads_rows(rt, alloc, version, listed.rows())?;
+    reads_rows(rt, alloc, version, listed.tokens())?;
+    holds(rt, is_counted(version, listed), "the counts of rows");
+    Ok(())
+}
+
+/// Each version has the rows of the lists, in which its writes are made.
 fn are_as_listed(
     rt: &impl Abort,
     alloc: Global,
     steps: &[Step],
-    marks: &[Mark],
-) -> Result<usize, Fail> {
+    marks: &[NamedMark],
+) -> Result<(), Fail> {
     let mut listed = Listed::empty(alloc);
-    let mut longest = 0;
     for step in steps {
-        listed.apply(&step.changes, step.version.number())?;
-        longest = step.changes.len().max(longest);
-        are_read(rt, alloc, step, &listed, marks)?;
-        holds(rt, listed.are_counted(&step.version), "the counts of rows");
-        let are_placed = listed.are_placed(&step.version)?;
-        holds(rt, are_placed, "the places of tokens");
+        listed.apply(alloc, step.writes.as_str())?;
+        is_as_listed(rt, alloc, &step.version, &listed, marks)?;
     }
-    Ok(longest)
+    Ok(())
 }
 
-/// Each version of a history of a thousand reads what the lists have.
-fn reads_as_listed(
-    rt: &impl Abort,
-    alloc: Global,
-    played: &Played,
-    marks: &[Mark],
-) -> Result<(), Fail> {
-    holds(rt, played.steps.len() == 1001, "the count of versions");
-    every_operation_came(rt, played);
-    let longest = are_as_listed(rt, alloc, &played.steps, marks)?;
-    holds(rt, longest > 3, "a batch of more than three writes");
-    Ok(())
+/// Did a batch write more than three rows?
+fn is_some_long(steps: &[Step]) -> bool {
+    for step in steps {
+        if step.changes.len() > 3 {
+            return true;
+        }
+    }
+    false
 }
 
 #[test]
 fn each_mark_reads_what_the_lists_have(rt: HostRuntime) -> Result<(), Fail> {
-    let marks = marks(rt.alloc())?;
-    let played = history(rt.alloc(), 7, 1000)?;
-    reads_as_listed(&rt, rt.alloc(), &played, &marks)
+    let marks = all_marks(rt.alloc())?;
+    let steps = history(rt.alloc(), 7, 1000)?;
+    holds(&rt, steps.len() == 1001, "the count of versions");
+    every_operation_came(&rt, rt.alloc(), &steps)?;
+    holds(
+        &rt,
+        is_some_long(&steps),
+        "a batch of more than three writes",
+    );
+    are_as_listed(&rt, rt.alloc(), &steps, &marks)
 }
 
-/// How often what came.
-#[derive(Drop)]
-struct Counts {
-    unhit: u64,
-    unchanged: u64,
-    changed: u64,
-    unchanged_though_hit: u64,
-    changed_though_equal: u64,
-}
+/// What has to come of a mark between two versions.
+const OUTCOMES: &str = "\
+not hit
+unchanged though hit
+equal though changed
+other rows
+";
 
-fn nothing() -> Counts {
-    Counts {
-        unhit: 0,
-        unchanged: 0,
-        changed: 0,
-        unchanged_though_hit: 0,
-        changed_though_equal: 0,
+/// What came of a mark, where the writes between two versions hit it, or don't, the newer one tells that it is unchanged, or
+/// doesn't, and both read the same, or don't.
+fn outcome(is_hit: bool, is_unchanged: bool, is_equal: bool) -> &'static str {
+    if !is_hit {
+        "not hit"
+    } else if is_unchanged {
+        "unchanged though hit"
+    } else if is_equal {
+        "equal though changed"
+    } else {
+        "other rows"
     }
 }
 
-fn each_came(counts: &Counts) -> bool {
-    counts.unhit != 0
-        && counts.unchanged != 0
-        && counts.changed != 0
-        && counts.unchanged_though_hit != 0
-        && counts.changed_though_equal != 0
-}
-
-/// One more, where this holds.
-fn add(count: &mut u64, holds: bool) {
-    *count = count.wrapping_add(u64::from(holds));
-}
-
-impl Counts {
-    fn count(&mut self, is_hit: bool, is_unchanged: bool, is_equal: bool) {
-        add(&mut self.unhit, !is_hit);
-        add(&mut self.unchanged, is_unchanged);
-        add(&mut self.changed, !is_unchanged);
-        add(&mut self.unchanged_though_hit, is_unchanged && is_hit);
-        add(&mut self.changed_though_equal, !is_unchanged && is_equal);
+/// Adds what came, where it hasn't come before.
+fn note(seen: &mut String, outcome: &str) -> Result<(), Fail> {
+    if !seen.contains(outcome) {
+        seen.push_str(outcome)?;
+        seen.push_str("\n")?;
     }
+    Ok(())
 }
 
-/// Do both versions read the same at the mark?
-fn is_equal(
-    alloc: Global,
-    (newer, older): (&Version, &Version),
-    mark: &Mark,
-) -> Result<bool, Fail> {
-    let now = read_text(alloc, newer, mark)?;
-    let before = read_text(alloc, older, mark)?;
-    Ok(now.as_str() == before.as_str())
-}
-
-/// Compares a version with an older one at a mark that the writes since hit, or don't.
+/// Compares a version, which reads these rows at a mark, with an older one.
 fn compare(
     rt: &impl Abort,
     alloc: Global,
     (newer, older): (&Version, &Version),
-    (mark, is_hit): (&Mark, bool),
-    counts: &mut Counts,
-) -> Result<(), Fail> {
-    let is_unchanged = newer.unchanged(mark, older);
-    let is_equal = is_equal(alloc, (newer, older), mark)?;
+    (mark, now): (&Mark, &str),
+    is_hit: bool,
+) -> Result<&'static str, Fail> {
+    let before = read_text(alloc, older, mark)?;
+    let (is_unchanged, is_equal) = (newer.unchanged(mark, older), before.as_str() == now);
     holds(rt, is_equal || !is_unchanged, "unchanged, so equal");
     holds(rt, is_hit || is_unchanged, "not hit, so unchanged");
-    counts.count(is_hit, is_unchanged, is_equal);
-    Ok(())
+    Ok(outcome(is_hit, is_unchanged, is_equal))
 }
 
-/// Compares a version with each of the nine before it, at one mark.
+/// Compares a version with each one before it, from the last on, at one mark.
 fn compare_at(
     rt: &impl Abort,
     alloc: Global,
     steps: &[Step],
-    mark: &Mark,
-    counts: &mut Counts,
+    NamedMark { name, mark }: &NamedMark,
+    seen: &mut String,
 ) -> Result<(), Fail> {
     let Some((newer, earlier)) = steps.split_last() else {
         return Ok(());
     };
-    let mut is_hit = are_hit(mark, &newer.changes);
+    let now = read_text(alloc, &newer.version, mark)?;
+    let mut is_hit = newer.writes.contains(name.as_str());
     for older in earlier.iter().rev() {
         let versions = (&newer.version, &older.version);
-        compare(rt, alloc, versions, (mark, is_hit), counts)?;
-        is_hit = is_hit || are_hit(mark, &older.changes);
+        note(
+            seen,
+            compare(rt, alloc, versions, (mark, now.as_str()), is_hit)?,
+        )?;
+        is_hit = is_hit || older.writes.contains(name.as_str());
     }
     Ok(())
 }
 
-fn compare_at_all(
-    rt: &impl Abort,
-    alloc: Global,
-    steps: &[Step],
-    marks: &[Mark],
-    counts: &mut Counts,
-) -> Result<(), Fail> {
-    for mark in marks {
-        compare_at(rt, alloc, steps, mark, counts)?;
-    }
-    Ok(())
-}
-
-/// Compares each version with each of the nine before it, at each mark.
+/// Compares each version with each of the nine before it, at each mark: what came of them.
 fn compare_all(
     rt: &impl Abort,
     alloc: Global,
     steps: &[Step],
-    marks: &[Mark],
-) -> Result<Counts, Fail> {
-    let mut counts = nothing();
+    marks: &[NamedMark],
+) -> Result<String, Fail> {
+    let mut seen = String::new(alloc);
     for ten in steps.windows(10) {
-        compare_at_all(rt, alloc, ten, marks, &mut counts)?;
+        for named in marks {
+            compare_at(rt, alloc, ten, named, &mut seen)?;
+        }
     }
-    Ok(counts)
-}
-
-/// Each version of a history is compared, and everything that is counted comes.
-fn compares(rt: &impl Abort, alloc: Global, played: &Played, marks: &[Mark]) -> Result<(), Fail> {
-    every_operation_came(rt, played);
-    let counts = compare_all(rt, alloc, &played.steps, marks)?;
-    holds(rt, each_came(&counts), "each of the counts");
-    Ok(())
+    Ok(seen)
 }
 
 #[test]
 fn a_mark_is_unchanged_where_no_write_hits_it(rt: HostRuntime) -> Result<(), Fail> {
-    let marks = marks(rt.alloc())?;
-    let played = history(rt.alloc(), 12, 300)?;
-    compares(&rt, rt.alloc(), &played, &marks)
+    let marks = all_marks(rt.alloc())?;
+    let steps = history(rt.alloc(), 13, 300)?;
+    every_operation_came(&rt, rt.alloc(), &steps)?;
+    let seen = compare_all(&rt, rt.alloc(), &steps, &marks)?;
+    for outcome in OUTCOMES.lines() {
+        holds(&rt, seen.contains(outcome), outcome);
+    }
+    Ok(())
 }
 
 /// The writes of two versions, one after the other.
-fn both(middle: &Step, newer: &Step) -> Result<Changes, Fail> {
-    let mut changes = middle.changes.clone()?;
-    changes.append(newer.changes.clone()?)?;
+fn both(middle: &Changes, newer: &Changes) -> Result<Changes, AllocError> {
+    let mut changes = middle.clone()?;
+    changes.append(newer.clone()?)?;
     Ok(changes)
 }
 
-/// A mark reads through the writes of the next two versions what it reads of the second.
+/// A mark reads through writes what it reads of a newer version, but that places of that time are open, which reads as 0.
 fn reads_through(
     rt: &impl Abort,
     alloc: Global,
     (older, newer): (&Version, &Version),
     changes: &Changes,
-    mark: &Mark,
+    NamedMark { name, mark }: &NamedMark,
 ) -> Result<(), Fail> {
-    let through = older.read_after(mark, changes)?;
-    let got = reading_text(alloc, &through)?;
-    let want = read_text(alloc, newer, mark)?;
-    is_text(rt, got.as_str(), want.as_str(), "through the writes");
+    let got = through_text(alloc, older, mark, changes)?;
+    let want = read_up_to(alloc, newer, mark, number_of(older))?;
+    is_text(rt, got.as_str(), want.as_str(), name.as_str());
     Ok(())
 }
 
-/// Do the writes of two versions hit the mark? They do where those of one of the two do.
-fn is_hit_by(
-    rt: &impl Abort,
-    changes: &Changes,
-    (middle, newer): (&Step, &Step),
-    mark: &Mark,
-) -> bool {
-    let is_hit = changes.hits(mark);
-    let is_hit_by_one = are_hit(mark, &middle.changes) || are_hit(mark, &newer.changes);
-    holds(rt, is_hit == is_hit_by_one, "hit by one of the two");
-    is_hit
-}
-
-/// Each mark reads through the writes of the last two of three versions. Answers how many of the marks these writes hit.
+/// Each mark reads through the writes of the last two of three versions, which hit it where those of one of the two do. Answers how
+/// many of the marks they hit.
 fn hits_of(
     rt: &impl Abort,
     alloc: Global,
     (older, middle, newer): (&Step, &Step, &Step),
     changes: &Changes,
-    marks: &[Mark],
+    marks: &[NamedMark],
 ) -> Result<usize, Fail> {
     let mut hits: usize = 0;
-    for mark in marks {
-        reads_through(rt, alloc, (&older.version, &newer.version), changes, mark)?;
-        let is_hit = is_hit_by(rt, changes, (middle, newer), mark);
+    for named in marks {
+        reads_through(rt, alloc, (&older.version, &newer.version), changes, named)?;
+        let name = named.name.as_str();
+        let is_hit = changes.hits(&named.mark);
+        let is_hit_by_one = middle.writes.contains(name) || newer.writes.contains(name);
+        holds(rt, is_hit == is_hit_by_one, name);
         hits = hits.wrapping_add(usize::from(is_hit));
     }
     Ok(hits)
 }
 
 /// How many of the marks are hit?
-fn hits(rt: &impl Abort, alloc: Global, three: &[Step], marks: &[Mark]) -> Result<usize, Fail> {
+fn hits(
+    rt: &impl Abort,
+    alloc: Global,
+    three: &[Step],
+    marks: &[NamedMark],
+) -> Result<usize, Fail> {
     let [older, middle, newer] = three else {
         return Err(Fail::from("no three versions"));
     };
-    let changes = both(middle, newer)?;
+    let changes = both(&middle.changes, &newer.changes)?;
     hits_of(rt, alloc, (older, middle, newer), &changes, marks)
 }
 
@@ -463,21 +414,21 @@ fn all_read_through(
     rt: &impl Abort,
     alloc: Global,
     steps: &[Step],
-    marks: &[Mark],
+    marks: &[NamedMark],
 ) -> Result<(), Fail> {
-    let (mut hit, mut unhit) = (0, 0);
+    let (mut is_some_hit, mut is_some_unhit) = (false, false);
     for three in steps.windows(3) {
         let hits = hits(rt, alloc, three, marks)?;
-        add(&mut hit, hits != 0);
-        add(&mut unhit, hits != marks.len());
+        is_some_hit = is_some_hit || hits != 0;
+        is_some_unhit = is_some_unhit || hits != marks.len();
     }
-    holds(rt, hit != 0 && unhit != 0, "both, hit and unhit");
+    holds(rt, is_some_hit && is_some_unhit, "both, hit and unhit");
     Ok(())
 }
 
 #[test]
 fn each_mark_reads_through_writes_what_it_reads_after_them(rt: HostRuntime) -> Result<(), Fail> {
-    let marks = marks(rt.alloc())?;
-    let played = history(rt.alloc(), 5, 100)?;
-    all_read_through(&rt, rt.alloc(), &played.steps, &marks)
+    let marks = all_marks(rt.alloc())?;
+    let steps = history(rt.alloc(), 5, 100)?;
+    all_read_through(&rt, rt.alloc(), &steps, &marks)
 }

@@ -94,7 +94,7 @@ set_agent /spire/agent/m u:1
 set_bundle d1
 set_agent /spire/agent/m u:1
 set_bundle d1
-READS 2: agent /spire/agent/m => agent 1
+READS 2: agent /spire/agent/m => agent u:1
 READS 2: agent /spire/agent/n =>
 READS 2: bundle d1 => bundle 0
 READS 4: bundle d1 => bundle 1
@@ -111,7 +111,7 @@ SAME 5 4: agent /spire/agent/m => no
 SAME 5 0: agent /spire/agent/m => yes
 COUNT 4 => 0 1 1 0 at 4
 COUNT 5 => 0 0 1 0 at 5
-CLONE 4: agent /spire/agent/m => agent 1
+CLONE 4: agent /spire/agent/m => agent u:1
 CLONE 4: bundle d1 => bundle 1
 ";
 
@@ -167,7 +167,7 @@ READS 1: token 8 =>
 READS 3: token 7 => 1 ops at 1
 READS 3: token 8 => 2 ops at 3
 READS 3: token 9 =>
-READS 1: agent /spire/agent/m => agent 1
+READS 1: agent /spire/agent/m => agent u:1
 SAME 1 0: token 7 => no
 SAME 1 0: token 8 => yes
 SAME 2 1: token 7 => yes

@@ -1,0 +1,263 @@
+//! Rows, told as text. A line of a reading is such as ` 1.0|/a /x 10 u:1 d1`: what the row is in short, and behind the bar what else
+//! is to be compared. A line of writes is such as `|entry 1|all|group /a /x|children /a|users d1| => 1.0|/a /x 10 u:1 d1`: before it
+//! stand the marks that name the row, between bars, the first of which names it alone.
+
+use batch_texts::{Failed, of_number};
+use entry_book::{Agent, Bundle, Entry, KeptBatch};
+use spiffe_name::{SelectorSet, SpiffeId};
+use std::alloc::Global;
+use uuid::Uuid;
+use version_book::{Changes, Mark, RowWrite, RowsRead, TokenWrite, Version};
+
+/// The moments of random batches, in order, as marks.
+const MOMENTS: &str = "|expiring 1|expiring 2|expiring 3|expiring 4|";
+
+fn path(id: &SpiffeId) -> &str {
+    let text = id.as_str();
+    text.strip_prefix("spiffe://ex.org").unwrap_or(text)
+}
+
+/// Adds a word, and the number that an id is.
+fn add_number(alloc: Global, text: &mut String, word: &str, id: &Uuid) -> Result<(), Failed> {
+    let told = of_number(alloc, word, id)?;
+    Ok(text.push_str(told.as_str())?)
+}
+
+fn add_selectors(text: &mut String, selectors: &SelectorSet) -> Result<(), Failed> {
+    for selector in selectors.as_slice() {
+        text.push_str(" ")?;
+        text.push_str(selector.as_str())?;
+    }
+    Ok(())
+}
+
+fn add_domains(text: &mut String, entry: &Entry) -> Result<(), Failed> {
+    for domain in entry.domains().as_slice() {
+        text.push_str(" ")?;
+        text.push_str(domain.get().as_str())?;
+    }
+    Ok(())
+}
+
+/// Adds an entry: in short its number and, after a dot, its revision.
+fn add_entry(alloc: Global, text: &mut String, entry: &Entry) -> Result<(), Failed> {
+    add_number(alloc, text, "", entry.id())?;
+    let (revision, expiry) = (entry.revision(), entry.expiry());
+    let (parent, identity) = (path(entry.parent().get()), path(entry.identity().get()));
+    write!(text, ".{revision}|{parent} {identity} {expiry}")?;
+    add_selectors(text, entry.selectors().get())?;
+    add_domains(text, entry)?;
+    Ok(text.push_str("\n")?)
+}
+
+/// Adds an agent: in short its selectors.
+fn add_agent(text: &mut String, agent: &Agent) -> Result<(), Failed> {
+    text.push_str(" agent")?;
+    add_selectors(text, agent.selectors.get())?;
+    let path = path(agent.id.get());
+    Ok(write!(text, "|{path}\n")?)
+}
+
+/// Adds a bundle: in short its sequence.
+fn add_bundle(text: &mut String, bundle: &Bundle) -> Result<(), Failed> {
+    let (domain, sequence) = (bundle.domain.get().as_str(), bundle.sequence);
+    Ok(write!(text, " bundle {sequence}|{domain}\n")?)
+}
+
+/// Adds what is kept under a token: in short how many operations, and at which place.
+fn add_kept(
+    alloc: Global,
+    text: &mut String,
+    token: &Uuid,
+    ops: usize,
+    place: u64,
+) -> Result<(), Failed> {
+    write!(text, " {ops} ops at {place}")?;
+    add_number(alloc, text, "|token", token)?;
+    Ok(text.push_str("\n")?)
+}
+
+pub fn add_entries(alloc: Global, text: &mut String, entries: &[Entry]) -> Result<(), Failed> {
+    for entry in entries {
+        add_entry(alloc, text, entry)?;
+    }
+    Ok(())
+}
+
+pub fn add_agents(text: &mut String, agents: &[Agent]) -> Result<(), Failed> {
+    for agent in agents {
+        add_agent(text, agent)?;
+    }
+    Ok(())
+}
+
+pub fn add_bundles(text: &mut String, bundles: &[Bundle]) -> Result<(), Failed> {
+    for bundle in bundles {
+        add_bundle(text, bundle)?;
+    }
+    Ok(())
+}
+
+/// Adds what is kept under tokens. A place behind the last one is told as 0, which is how an open one reads.
+pub fn add_tokens(
+    alloc: Global,
+    text: &mut String,
+    tokens: &[KeptBatch],
+    last: u64,
+) -> Result<(), Failed> {
+    for kept in tokens {
+        let place = if kept.place > last { 0 } else { kept.place };
+        let ops = kept.ops.get().as_slice().len();
+        add_kept(alloc, text, &kept.token, ops, place)?;
+    }
+    Ok(())
+}
+
+fn add_reading(
+    alloc: Global,
+    text: &mut String,
+    reading: &RowsRead,
+    last: u64,
+) -> Result<(), Failed> {
+    add_entries(alloc, text, reading.entries())?;
+    add_agents(text, reading.agents())?;
+    add_bundles(text, reading.bundles())?;
+    add_tokens(alloc, text, reading.tokens(), last)
+}
+
+/// What was read, with places up to a last one.
+fn reading_text(alloc: Global, reading: &RowsRead, last: u64) -> Result<String, Failed> {
+    let mut text = String::new(alloc);
+    add_reading(alloc, &mut text, reading, last)?;
+    Ok(text)
+}
+
+/// What a version reads at a mark, with places up to a last one.
+pub fn read_up_to(
+    alloc: Global,
+    version: &Version,
+    mark: &Mark,
+    last: u64,
+) -> Result<String, Failed> {
+    reading_text(alloc, &version.read(mark)?, last)
+}
+
+/// What a version reads at a mark.
+pub fn read_text(alloc: Global, version: &Version, mark: &Mark) -> Result<String, Failed> {
+    read_up_to(alloc, version, mark, u64::MAX)
+}
+
+/// What a version reads at a mark through writes.
+pub fn through_text(
+    alloc: Global,
+    version: &Version,
+    mark: &Mark,
+    changes: &Changes,
+) -> Result<String, Failed> {
+    reading_text(alloc, &version.read_after(mark, changes)?, u64::MAX)
+}
+
+/// Adds the marks of the domains that an entry names.
+fn add_users(text: &mut String, entry: &Entry) -> Result<(), Failed> {
+    for domain in entry.domains().as_slice() {
+        text.push_str("users ")?;
+        text.push_str(domain.get().as_str())?;
+        text.push_str("|")?;
+    }
+    Ok(())
+}
+
+/// The marks of the moments before which an entry of this expiry expires: those behind it. An expiry of 0 is none.
+fn moments(alloc: Global, expiry: u64) -> Result<&'static str, Failed> {
+    let own = format!(in alloc; "|expiring {expiry}|")?;
+    match MOMENTS.split_once(own.as_str()) {
+        Some((_, later)) => Ok(later),
+        None => Ok(""),
+    }
+}
+
+/// Adds the marks that name an entry.
+fn add_marks(alloc: Global, text: &mut String, entry: &Entry) -> Result<(), Failed> {
+    add_number(alloc, text, "|entry", entry.id())?;
+    let (parent, identity) = (path(entry.parent().get()), path(entry.identity().get()));
+    write!(text, "|all|group {parent} {identity}|children {parent}|")?;
+    add_users(text, entry)?;
+    Ok(text.push_str(moments(alloc, entry.expiry())?)?)
+}
+
+/// Adds the entry of a write, where there is one, behind this sign.
+fn write_entry(
+    alloc: Global,
+    text: &mut String,
+    sign: &str,
+    row: &Option<Entry>,
+) -> Result<(), Failed> {
+    let Some(entry) = row else {
+        return Ok(());
+    };
+    text.push_str(sign)?;
+    add_marks(alloc, text, entry)?;
+    text.push_str(" =>")?;
+    add_entry(alloc, text, entry)
+}
+
+fn write_agent(text: &mut String, sign: &str, row: &Option<Agent>) -> Result<(), Failed> {
+    let Some(agent) = row else {
+        return Ok(());
+    };
+    let path = path(agent.id.get());
+    write!(text, "{sign}|agent {path}| =>")?;
+    add_agent(text, agent)
+}
+
+fn write_bundle(text: &mut String, sign: &str, row: &Option<Bundle>) -> Result<(), Failed> {
+    let Some(bundle) = row else {
+        return Ok(());
+    };
+    let domain = bundle.domain.get().as_str();
+    write!(text, "{sign}|bundle {domain}| =>")?;
+    add_bundle(text, bundle)
+}
+
+fn write_token(
+    alloc: Global,
+    text: &mut String,
+    write: &TokenWrite,
+    place: u64,
+) -> Result<(), Failed> {
+    add_number(alloc, text, "|token", &write.token)?;
+    text.push_str("| =>")?;
+    let ops = write.ops.get().as_slice().len();
+    add_kept(alloc, text, &write.token, ops, place)
+}
+
+fn add_write(alloc: Global, text: &mut String, write: &RowWrite, place: u64) -> Result<(), Failed> {
+    match write {
+        RowWrite::Entry(change) => {
+            write_entry(alloc, text, "-", &change.old)?;
+            write_entry(alloc, text, "", &change.new)
+        }
+        RowWrite::Agent(change) => {
+            write_agent(text, "-", &change.old)?;
+            write_agent(text, "", &change.new)
+        }
+        RowWrite::Bundle(change) => {
+            write_bundle(text, "-", &change.old)?;
+            write_bundle(text, "", &change.new)
+        }
+        RowWrite::Token(write) => write_token(alloc, text, write, place),
+    }
+}
+
+/// Adds the writes of the commit of a place: in order each row that goes, behind a minus, and each one that comes.
+pub fn add_writes(
+    alloc: Global,
+    text: &mut String,
+    changes: &Changes,
+    place: u64,
+) -> Result<(), Failed> {
+    for write in changes.writes() {
+        add_write(alloc, text, write, place)?;
+    }
+    Ok(())
+}
