@@ -3,7 +3,7 @@
 ghost use Rattle.std.specs.Prelude.{◌<◌, ◌^◌};
 
 use crate::engine::{Ended, number_lines, number_text};
-use crate::wanted::{holds, holds_at};
+use crate::wanted::holds;
 use reg_lines::{CountedDevice, Input, KEPT_BYTES, Line, Output};
 use std::alloc::{AllocError, Global};
 use std::process::Abort;
@@ -26,122 +26,125 @@ fn roomy_taker(
     Ok(taker)
 }
 
-/// Runs the engine over these devices.
-fn run(
-    alloc: Global,
-    giver: &mut Giver<'_>,
-    taker: &mut Taker,
-    most: u32,
-) -> Result<Result<(), Ended>, AllocError> {
-    let mut line = Line::new(alloc)?;
+/// Does the engine end well over these devices?
+fn ends_well(giver: &mut Giver<'_>, taker: &mut Taker, line: &mut Line, most: u32) -> bool {
     let mut input = Input::new(CountedDevice::new(giver));
     let mut output = Output::new(CountedDevice::new(taker));
-    Ok(number_lines(&mut input, &mut output, &mut line, u64::from(most)))
+    number_lines(&mut input, &mut output, line, u64::from(most)).is_ok()
 }
 
 #[test]
 fn memory_never_fails(rt: HostRuntime) -> Result<(), Fail> {
     let mut line = Line::new(rt.alloc())?;
     match number_text(rt.alloc(), TEXT, &mut line, 100) {
-        Ok(numbered) => {
-            holds(&rt, numbered.as_slice() == NUMBERED, "all lines");
-            Ok(())
-        }
-        Err(Ended::Input) => Err(Fail::from("a failed read")),
-        Err(Ended::Output) => Err(Fail::from("no memory for the output")),
+        Ok(numbered) => holds(&rt, numbered.as_slice() == NUMBERED, "all lines", 100),
+        Err(_) => return Err(Fail::from("a failed device")),
     }
+    Ok(())
 }
 
 #[test]
 fn lines_after_the_last_one_are_left(rt: HostRuntime) -> Result<(), Fail> {
-    let mut giver = Giver::new(TEXT, Pace::Byte, Trouble::NONE);
+    let mut line = Line::new(rt.alloc())?;
     let mut taker = roomy_taker(rt.alloc(), NUMBERED.len(), Pace::All, Trouble::NONE)?;
-    let ended = run(rt.alloc(), &mut giver, &mut taker, 2)?;
-    holds(&rt, ended.is_ok(), "two lines");
+    let mut giver = Giver::new(TEXT, Pace::Byte, Trouble::NONE);
+    holds(
+        &rt,
+        ends_well(&mut giver, &mut taker, &mut line, 2),
+        "ends well",
+        2,
+    );
     holds(
         &rt,
         taker.bytes.as_slice() == b"1:one\n2:\n".as_slice(),
-        "what is written",
+        "is written",
+        2,
     );
     holds(
         &rt,
         giver.rest == b"two\r\nthree\nlast".as_slice(),
-        "what is left",
+        "is left",
+        2,
     );
     Ok(())
 }
 
 /// The lines are numbered though the call of this number is interrupted.
-fn is_numbered(rt: &impl Abort, alloc: Global, call: u64) -> Result<(), Fail> {
-    let mut giver = Giver::new(TEXT, Pace::Byte, Trouble::interrupted_at(call));
+fn is_numbered(rt: &impl Abort, alloc: Global, line: &mut Line, call: u64) -> Result<(), Fail> {
     let trouble = Trouble::interrupted_at(call);
     let mut taker = roomy_taker(alloc, NUMBERED.len(), Pace::Byte, trouble)?;
-    let ended = run(alloc, &mut giver, &mut taker, 100)?;
-    holds_at(rt, ended.is_ok(), "ends well at", call);
-    holds_at(
+    let mut giver = Giver::new(TEXT, Pace::Byte, Trouble::interrupted_at(call));
+    holds(
         rt,
-        taker.bytes.as_slice() == NUMBERED,
-        "is numbered at",
+        ends_well(&mut giver, &mut taker, line, 100),
+        "ends well",
         call,
     );
+    holds(rt, taker.bytes.as_slice() == NUMBERED, "is numbered", call);
     Ok(())
 }
 
 #[test]
 fn an_interrupted_call_is_made_again(rt: HostRuntime) -> Result<(), Fail> {
+    let mut line = Line::new(rt.alloc())?;
     for call in 1..60u64 {
-        is_numbered(&rt, rt.alloc(), call)?;
+        is_numbered(&rt, rt.alloc(), &mut line, call)?;
     }
     Ok(())
 }
 
 #[test]
 fn a_writer_that_takes_nothing_has_failed(rt: HostRuntime) -> Result<(), Fail> {
+    let mut line = Line::new(rt.alloc())?;
     let mut full = [0u8; 5];
     let mut giver = Giver::new(TEXT, Pace::All, Trouble::NONE);
-    let mut line = Line::new(rt.alloc())?;
     let mut input = Input::new(CountedDevice::new(&mut giver));
     let mut output = Output::new(CountedDevice::new(full.as_mut_slice()));
     let ended = number_lines(&mut input, &mut output, &mut line, 100);
-    holds(&rt, ended == Err(Ended::Output), "a full writer");
+    holds(&rt, matches!(ended, Err(Ended::Output)), "a full writer", 5);
     drop(output);
-    holds(&rt, full == *b"1:one", "what it took");
+    holds(&rt, full == *b"1:one", "what it took", 5);
     Ok(())
 }
 
-/// Reads a long line of letters, and answers how much of it is kept and what comes next.
-fn long_line(alloc: Global, len: usize) -> Result<(usize, bool), Fail>
+/// So many letters, and a line behind them.
+fn long_text(alloc: Global, len: usize) -> Result<Vec<u8>, Fail>
     requires { len < 2 ^ 32 }
 {
     let mut text = vec![in alloc; b'x'; len]?;
     text.extend_from_slice(b"\nnext")?;
-    let mut line = Line::new(alloc)?;
-    let mut input = Input::new(CountedDevice::new(text.as_slice()));
-    input.read_line(&mut line).ok().ok_or("a failed read")?;
-    let kept = line.as_bytes().len();
-    input.read_line(&mut line).ok().ok_or("a failed read")?;
-    Ok((kept, line.as_bytes() == b"next".as_slice()))
+    Ok(text)
 }
 
-/// How many letters a line has, and how many of its bytes are kept.
-const KEPT: [(usize, usize); 4] = [
-    (1_048_575, 1_048_576),
-    (1_048_576, KEPT_BYTES),
-    (1_048_577, KEPT_BYTES),
-    (1_100_000, KEPT_BYTES),
-];
+/// How much is kept of the first line of a text, where the second one is `next`.
+fn kept(text: &[u8], line: &mut Line) -> Option<usize> {
+    let mut input = Input::new(CountedDevice::new(text));
+    input.read_line(line).ok()?;
+    let kept = line.as_bytes().len();
+    input.read_line(line).ok()?;
+    if line.as_bytes() != b"next".as_slice() {
+        return None;
+    }
+    Some(kept)
+}
+
+/// Of a line of so many letters so many bytes are kept.
+fn keeps(rt: &impl Abort, alloc: Global, len: usize, want: usize) -> Result<(), Fail>
+    requires { len < 2 ^ 32 }
+{
+    let mut line = Line::new(alloc)?;
+    let text = long_text(alloc, len)?;
+    let kept = kept(&text, &mut line).ok_or("another second line")?;
+    holds(rt, kept == want, "kept of", len as u64);
+    Ok(())
+}
 
 #[test]
 fn of_a_long_line_the_front_is_kept_and_the_rest_passed_over(rt: HostRuntime) -> Result<(), Fail> {
-    for (len, kept) in KEPT {
-        holds_at(
-            &rt,
-            long_line(rt.alloc(), len)? == (kept, true),
-            "bytes",
-            len as u64,
-        );
-    }
-    Ok(())
+    keeps(&rt, rt.alloc(), 1_048_575, 1_048_576)?;
+    keeps(&rt, rt.alloc(), 1_048_576, KEPT_BYTES)?;
+    keeps(&rt, rt.alloc(), 1_048_577, KEPT_BYTES)?;
+    keeps(&rt, rt.alloc(), 1_100_000, KEPT_BYTES)
 }
 
 /// Many bytes that don't repeat at the edges of a buffer.
@@ -153,19 +156,35 @@ fn many_bytes(alloc: Global) -> Result<Vec<u8>, Fail> {
     Ok(bytes)
 }
 
+/// Can the bytes be put into the writer, in pieces of this length?
+fn puts(taker: &mut Taker, bytes: &[u8], len: usize) -> bool
+    requires { 0 < len }
+{
+    let mut output = Output::new(CountedDevice::new(taker));
+    for piece in bytes.chunks(len) {
+        output.put(piece);
+    }
+    output.flush();
+    !output.has_failed()
+}
+
 /// The bytes come out whole where they are put in pieces of this length.
 fn comes_out(rt: &impl Abort, alloc: Global, bytes: &[u8], len: usize) -> Result<(), Fail>
     requires { 0 < len }
 {
     let mut taker = roomy_taker(alloc, bytes.len(), Pace::All, Trouble::NONE)?;
-    let mut output = Output::new(CountedDevice::new(&mut taker));
-    for piece in bytes.chunks(len) {
-        output.put(piece);
-    }
-    output.flush();
-    holds_at(rt, !output.has_failed(), "pieces of", len as u64);
-    drop(output);
-    holds_at(rt, taker.bytes.as_slice() == bytes, "pieces of", len as u64);
+    holds(
+        rt,
+        puts(&mut taker, bytes, len),
+        "put in pieces of",
+        len as u64,
+    );
+    holds(
+        rt,
+        taker.bytes.as_slice() == bytes,
+        "out in pieces of",
+        len as u64,
+    );
     Ok(())
 }
 
@@ -188,10 +207,7 @@ fn a_flush_is_a_call_of_the_device(rt: HostRuntime) -> Result<(), Fail> {
     output.flush();
     drop(output);
     // a write and a flush for each
-    holds(
-        &rt,
-        (taker.calls, taker.flushes) == (4, 2),
-        "calls and flushes",
-    );
+    holds(&rt, taker.calls == 4, "calls", taker.calls);
+    holds(&rt, taker.flushes == 2, "flushes", taker.flushes);
     Ok(())
 }

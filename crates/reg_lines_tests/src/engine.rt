@@ -11,7 +11,7 @@ use reg_lines::{
 use std::alloc::Global;
 
 /// Why the engine ended early.
-#[derive(Clone, Copy, Debug, PartialEq, Eq)]
+#[derive(Drop)]
 pub(crate) enum Ended {
     Input,
     Output,

@@ -1,55 +1,7 @@
 //! Which events do lines spell?
 
-use crate::answers::{line_of, new_ids, printed, trust_domain};
-use crate::spelled::with_batch;
-use crate::wanted::is_text;
-use call_machine::Event;
-use reg_lines::{Ids, read_event};
-use spiffe_name::Failure;
-use std::alloc::Global;
-use std::process::Abort;
+use crate::tables::{Asked, tells, tells_at, tells_in_a_row};
 use std::test::Fail;
-
-/// The event's name, its call, and the batch that it hands in.
-fn event_text(alloc: Global, event: &Event) -> Result<String, Fail> {
-    match event {
-        Event::Invoke(call, batch) => {
-            with_batch(alloc, format!(in alloc; "invoke {call}")?, batch)
-        }
-        Event::Begin(call) => Ok(format!(in alloc; "begin {call}")?),
-        Event::Step(call) => Ok(format!(in alloc; "step {call}")?),
-        Event::Commit(call) => Ok(format!(in alloc; "commit {call}")?),
-        Event::Reply(call) => Ok(format!(in alloc; "reply {call}")?),
-    }
-}
-
-/// What a line spells in the trust domain `ex.org`: an event; or the printed refusal. Want of memory is an error, so that
-/// no table has to know of it.
-fn spelled(alloc: Global, ids: &mut Ids, line: &[u8], number: u64) -> Result<String, Fail> {
-    let domain = trust_domain(alloc, "ex.org")?;
-    match read_event(alloc, &domain, ids, line, number) {
-        Ok(event) => event_text(alloc, &event),
-        Err(refusal) => {
-            if let Failure::NoMemory = &refusal.failure {
-                return Err(Fail::from("no memory"));
-            }
-            printed(alloc, &refusal)
-        }
-    }
-}
-
-/// Each line of the table is an event's line and what it spells, with what the lines before left of the ids.
-fn spells(rt: &impl Abort, alloc: Global, table: &str) -> Result<(), Fail> {
-    let mut ids = new_ids();
-    for case in table.lines() {
-        if let Some((text, want)) = case.split_once(" => ") {
-            let line = line_of(alloc, text)?;
-            let got = spelled(alloc, &mut ids, &line, 1)?;
-            is_text(rt, got.as_str(), want, text);
-        }
-    }
-    Ok(())
-}
 
 /// Lines, and what each spells.
 const TABLE: &str = r#"
@@ -160,7 +112,7 @@ const TABLE: &str = r#"
 
 #[test]
 fn the_keys_of_events_are_read_in_their_turn(rt: HostRuntime) -> Result<(), Fail> {
-    spells(&rt, rt.alloc(), TABLE)
+    tells(&rt, rt.alloc(), Asked::Event, TABLE)
 }
 
 /// Lines with the ids of the seed of zeros, and what each spells.
@@ -168,12 +120,12 @@ const DRAWN: &str = r#"
 # the first ids of the seed of zeros
 {"event":"invoke","call":1,"batch":{"ops":[{"op":"create","parent":"spiffe://ex.org/a","identity":"spiffe://ex.org/b","selectors":["u:1"]}]}} => invoke 1; create "76b8e0ad-a0f1-4d90-805d-6ae55386bd28" "spiffe://ex.org/a" "spiffe://ex.org/b" ["u:1"] "" [] 0
 # a line that is refused draws none
-{"event":"invoke","call":1,"batch":{"ops":[{"op":"create","parent":"spiffe://ex.org/a","identity":"spiffe://ex.org/b","selectors":["u:1"]},7]}} => {"code":"L5","field":"ops","line":1,"op":1}
-{"event":"invoke","call":1,"batch":{"ops":[{"op":"create","parent":"spiffe://ex.org/a","identity":"spiffe://ex.org/b","selectors":["u:1"]},{"op":"create","parent":"spiffe://ex.org","identity":"spiffe://ex.org/b","selectors":["u:1"]}]}} => {"code":"B4","line":1,"op":1}
-{"event":"invoke","call":1,"batch":{"ops":[{"op":"create","parent":"spiffe://ex.org/a","identity":"spiffe://ex.org/b","selectors":["u:1"]}]},"aa":1} => {"code":"L5","field":"aa","line":1}
-{"event":"invoke","call":1,"batch":{"ops":[{"op":"create","parent":"spiffe://ex.org/a","identity":"spiffe://ex.org/b","selectors":["u:1"]}],"tries":1}} => {"code":"L5","field":"tries","line":1}
+{"event":"invoke","call":1,"batch":{"ops":[{"op":"create","parent":"spiffe://ex.org/a","identity":"spiffe://ex.org/b","selectors":["u:1"]},7]}} => {"code":"L5","field":"ops","line":2,"op":1}
+{"event":"invoke","call":1,"batch":{"ops":[{"op":"create","parent":"spiffe://ex.org/a","identity":"spiffe://ex.org/b","selectors":["u:1"]},{"op":"create","parent":"spiffe://ex.org","identity":"spiffe://ex.org/b","selectors":["u:1"]}]}} => {"code":"B4","line":3,"op":1}
+{"event":"invoke","call":1,"batch":{"ops":[{"op":"create","parent":"spiffe://ex.org/a","identity":"spiffe://ex.org/b","selectors":["u:1"]}]},"aa":1} => {"code":"L5","field":"aa","line":4}
+{"event":"invoke","call":1,"batch":{"ops":[{"op":"create","parent":"spiffe://ex.org/a","identity":"spiffe://ex.org/b","selectors":["u:1"]}],"tries":1}} => {"code":"L5","field":"tries","line":5}
 # beside a token each create has its id
-{"event":"invoke","call":1,"batch":{"ops":[{"op":"create","parent":"spiffe://ex.org/a","identity":"spiffe://ex.org/b","selectors":["u:1"]}],"token":"00000000-0000-0000-0000-000000000009"}} => {"code":"L5","field":"id","line":1,"op":0}
+{"event":"invoke","call":1,"batch":{"ops":[{"op":"create","parent":"spiffe://ex.org/a","identity":"spiffe://ex.org/b","selectors":["u:1"]}],"token":"00000000-0000-0000-0000-000000000009"}} => {"code":"L5","field":"id","line":6,"op":0}
 # other events draw none
 {"event":"begin","call":1} => begin 1
 # the next ids, the same call or another
@@ -182,40 +134,19 @@ const DRAWN: &str = r#"
 
 #[test]
 fn only_batches_that_are_handed_in_draw_ids(rt: HostRuntime) -> Result<(), Fail> {
-    spells(&rt, rt.alloc(), DRAWN)
+    tells_in_a_row(&rt, rt.alloc(), Asked::Event, DRAWN)
 }
 
-/// Lines that aren't framed as they should be, each the seventh, and what is told of it.
-const FRAMES: [(&[u8], &str); 3] = [
-    (
-        b"{\"event\":\"begin\",\"call\":1}",
-        r#"{"code":"L3","line":7}"#,
-    ),
-    (b"\xff\n", r#"{"code":"L2","line":7}"#),
-    (b"{\"event\":\"begin\",\"call\":1}\r\n", "begin 1"),
-];
-
-fn frames_are_told(rt: &impl Abort, alloc: Global) -> Result<(), Fail> {
-    for (line, want) in FRAMES {
-        let got = spelled(alloc, &mut new_ids(), line, 7)?;
-        is_text(rt, got.as_str(), want, "an event");
-    }
-    Ok(())
-}
-
-/// An event with spaces behind it, so many bytes before its LF, is told so.
-fn long_is_told(rt: &impl Abort, alloc: Global, len: usize, want: &str) -> Result<(), Fail> {
-    let mut line = Vec::from_slice(alloc, b"{\"event\":\"reply\",\"call\":3}")?;
-    line.resize(len, b' ')?;
-    line.push(b'\n')?;
-    let got = spelled(alloc, &mut new_ids(), &line, 7)?;
-    is_text(rt, got.as_str(), want, "an event");
-    Ok(())
-}
+/// Lines that aren't framed as they should be, and lines as long as they can be and longer, each the seventh.
+const FRAMES: &str = r#"
+{"event":"begin","call":1}«» => {"code":"L3","line":7}
+«ff» => {"code":"L2","line":7}
+{"event":"begin","call":1}«0d» => begin 1
+{"event":"reply","call":3}«1048550* » => reply 3
+{"event":"reply","call":3}«1048551* » => {"code":"L1","line":7}
+"#;
 
 #[test]
 fn an_event_is_framed_as_any_line(rt: HostRuntime) -> Result<(), Fail> {
-    frames_are_told(&rt, rt.alloc())?;
-    long_is_told(&rt, rt.alloc(), 1_048_576, "reply 3")?;
-    long_is_told(&rt, rt.alloc(), 1_048_577, r#"{"code":"L1","line":7}"#)
+    tells_at(&rt, rt.alloc(), Asked::Event, 7, FRAMES)
 }

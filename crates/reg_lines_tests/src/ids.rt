@@ -1,7 +1,6 @@
 //! Which lines draw an id, and which id do they get?
 
-use crate::spelled::{spelled, spells_in_a_row};
-use crate::wanted::{holds, is_text};
+use crate::tables::{Asked, tells_in_a_row, tells_with};
 use reg_lines::{Ids, ids_law};
 use std::test::Fail;
 
@@ -32,34 +31,48 @@ const IN_A_ROW: &str = r#"
 
 #[test]
 fn only_creates_without_an_id_in_accepted_lines_draw_one(rt: HostRuntime) -> Result<(), Fail> {
-    spells_in_a_row(&rt, rt.alloc(), IN_A_ROW)
+    tells_in_a_row(&rt, rt.alloc(), Asked::Request, IN_A_ROW)
 }
+
+/// A create without an id.
+const CREATE: &str =
+    r#"{"ops":[{"op":"create","parent":"spiffe://ex.org/a","identity":"spiffe://ex.org/b","selectors":["u:1"]}]}"#;
 
 #[test]
 fn another_seed_gives_other_ids(rt: HostRuntime) -> Result<(), Fail> {
     let mut seed = [0; 32];
     seed[31] = 1;
-    let line =
-        b"{\"ops\":[{\"op\":\"create\",\"parent\":\"spiffe://ex.org/a\",\"identity\":\"spiffe://ex.org/b\",\"selectors\":[\"u:1\"]}]}\n";
-    let got = spelled(rt.alloc(), &mut Ids::of_seed(seed), line, 1)?;
     let want =
         r#"1; create "4540f05a-9f1f-4296-9773-6e7b208e3c96" "spiffe://ex.org/a" "spiffe://ex.org/b" ["u:1"] "" [] 0"#;
-    is_text(&rt, got.as_str(), want, "the first id of the seed");
-    Ok(())
+    tells_with(
+        &rt,
+        rt.alloc(),
+        Asked::Request,
+        Ids::of_seed(seed),
+        (CREATE, want),
+    )
 }
 
 /// The first bytes of the key of zeros in the stream 1 are those that OpenSSL's `chacha20` gives.
 #[test]
 fn another_stream_gives_other_ids(rt: HostRuntime) -> Result<(), Fail> {
     ids_law();
-    let line =
-        b"{\"ops\":[{\"op\":\"create\",\"parent\":\"spiffe://ex.org/a\",\"identity\":\"spiffe://ex.org/b\",\"selectors\":[\"u:1\"]}]}\n";
-    for (stream, id) in [
-        (0, "76b8e0ad-a0f1-4d90-805d-6ae55386bd28"),
-        (1, "ef3fdfd6-c615-48fb-b5cf-35bd3dd33b80"),
-    ] {
-        let got = spelled(rt.alloc(), &mut Ids::of_stream([0; 32], stream), line, 1)?;
-        holds(&rt, got.as_str().contains(id), got.as_str());
-    }
-    Ok(())
+    let want =
+        r#"1; create "76b8e0ad-a0f1-4d90-805d-6ae55386bd28" "spiffe://ex.org/a" "spiffe://ex.org/b" ["u:1"] "" [] 0"#;
+    tells_with(
+        &rt,
+        rt.alloc(),
+        Asked::Request,
+        Ids::of_stream([0; 32], 0),
+        (CREATE, want),
+    )?;
+    let want =
+        r#"1; create "ef3fdfd6-c615-48fb-b5cf-35bd3dd33b80" "spiffe://ex.org/a" "spiffe://ex.org/b" ["u:1"] "" [] 0"#;
+    tells_with(
+        &rt,
+        rt.alloc(),
+        Asked::Request,
+        Ids::of_stream([0; 32], 1),
+        (CREATE, want),
+    )
 }

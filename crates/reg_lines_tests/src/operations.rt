@@ -1,10 +1,6 @@
 //! Which keys has each operation, and what do they spell?
 
-use crate::answers::new_ids;
-use crate::spelled::{spelled, spells, spells_with};
-use crate::wanted::{holds_at, is_text};
-use std::alloc::Global;
-use std::process::Abort;
+use crate::tables::{Asked, tells};
 use std::test::Fail;
 
 /// Lines of operations on entries, and what each spells.
@@ -225,83 +221,42 @@ const AGENTS_AND_BUNDLES: &str = r#"
 
 #[test]
 fn operations_on_entries_are_read_key_by_key(rt: HostRuntime) -> Result<(), Fail> {
-    spells(&rt, rt.alloc(), ENTRIES)
+    tells(&rt, rt.alloc(), Asked::Request, ENTRIES)
 }
 
 #[test]
 fn operations_on_agents_and_bundles_are_read_key_by_key(rt: HostRuntime) -> Result<(), Fail> {
-    spells(&rt, rt.alloc(), AGENTS_AND_BUNDLES)
+    tells(&rt, rt.alloc(), Asked::Request, AGENTS_AND_BUNDLES)
 }
 
-/// What a line spells whose text has so many characters of two bytes each, written as escapes.
-fn with_text(alloc: Global, before: &str, count: usize) -> Result<String, Fail> {
-    let mut line = String::from_str(alloc, before)?;
-    for _ in 0..count {
-        line.push_str("\\u00e9")?;
-    }
-    line.push_str("\"}]}\n")?;
-    spelled(alloc, &mut new_ids(), line.as_bytes(), 1)
-}
-
-const HINT: &str =
-    r#"{"ops":[{"op":"create","parent":"spiffe://ex.org/a","identity":"spiffe://ex.org/b","selectors":["u:1"],"hint":""#;
-
-const TEXT: &str = r#"{"ops":[{"op":"set_bundle","domain":"b.org","text":""#;
-
-/// What a line spells whose text is so long begins so.
-fn begins(
-    rt: &impl Abort,
-    alloc: Global,
-    (before, count): (&str, usize),
-    want: &str,
-) -> Result<(), Fail> {
-    let got = with_text(alloc, before, count)?;
-    holds_at(rt, got.starts_with(want), want, count as u64);
-    Ok(())
-}
-
-/// A line whose text is so long is refused so.
-fn refuses(
-    rt: &impl Abort,
-    alloc: Global,
-    (before, count): (&str, usize),
-    want: &str,
-) -> Result<(), Fail> {
-    let got = with_text(alloc, before, count)?;
-    is_text(rt, got.as_str(), want, before);
-    Ok(())
-}
+/// Lines with texts of 1,024 and of 65,536 bytes, written as escapes, and with one more character each.
+const LONG_TEXTS: &str = r#"
+{"ops":[{"op":"create","parent":"spiffe://ex.org/a","identity":"spiffe://ex.org/b","selectors":["u:1"],"hint":"«512*\u00e9»"}]} => 1; create "76b8e0ad-a0f1-4d90-805d-6ae55386bd28" "spiffe://ex.org/a" "spiffe://ex.org/b" ["u:1"] "«512*é»" [] 0
+{"ops":[{"op":"create","parent":"spiffe://ex.org/a","identity":"spiffe://ex.org/b","selectors":["u:1"],"hint":"«513*\u00e9»"}]} => {"code":"B8","line":1,"op":0}
+{"ops":[{"op":"set_bundle","domain":"b.org","text":"«32768*\u00e9»"}]} => 1; set_bundle "b.org" "«32768*é»"
+{"ops":[{"op":"set_bundle","domain":"b.org","text":"«32769*\u00e9»"}]} => {"code":"B12","line":1,"op":0}
+"#;
 
 #[test]
 fn lengths_of_texts_are_of_bytes_after_escapes(rt: HostRuntime) -> Result<(), Fail> {
-    let alloc = rt.alloc();
-    begins(&rt, alloc, (HINT, 512), "1; create ")?;
-    refuses(&rt, alloc, (HINT, 513), r#"{"code":"B8","line":1,"op":0}"#)?;
-    begins(&rt, alloc, (TEXT, 32_768), "1; set_bundle ")?;
-    refuses(
-        &rt,
-        alloc,
-        (TEXT, 32_769),
-        r#"{"code":"B12","line":1,"op":0}"#,
-    )
+    tells(&rt, rt.alloc(), Asked::Request, LONG_TEXTS)
 }
 
-/// Lines in which each `*` stands for 254 letters written as escapes, and what each spells, with those letters as they
-/// are.
+/// Lines with long names, written as escapes.
 const LONG_NAMES: &str = r#"
 # an ID of 2,048 bytes, and one of 2,049
-{"ops":[{"op":"children","parent":"spiffe://ex.org/********"}]} => 1; children "spiffe://ex.org/********"
-{"ops":[{"op":"children","parent":"spiffe://ex.org/********x"}]} => {"code":"I1","field":"parent","line":1,"op":0}
-{"ops":[{"op":"show_agent","agent":"spiffe://ex.org/********\u0078"}]} => {"code":"I1","field":"agent","line":1,"op":0}
+{"ops":[{"op":"children","parent":"spiffe://ex.org/«2032*\u0078»"}]} => 1; children "spiffe://ex.org/«2032*x»"
+{"ops":[{"op":"children","parent":"spiffe://ex.org/«2032*\u0078»x"}]} => {"code":"I1","field":"parent","line":1,"op":0}
+{"ops":[{"op":"show_agent","agent":"spiffe://ex.org/«2032*\u0078»\u0078"}]} => {"code":"I1","field":"agent","line":1,"op":0}
 
 # a trust domain of 255 bytes, and one of 256
-{"ops":[{"op":"show_bundle","domain":"b*"}]} => 1; show_bundle "b*"
-{"ops":[{"op":"show_bundle","domain":"b*b"}]} => {"code":"I4","field":"domain","line":1,"op":0}
-{"ops":[{"op":"update","id":"00000000-0000-0000-0000-000000000001","parent":"spiffe://ex.org/a","identity":"spiffe://ex.org/b","selectors":["u:1"],"domains":["b*","a"]}]} => 1; update "00000000-0000-0000-0000-000000000001" "spiffe://ex.org/a" "spiffe://ex.org/b" ["u:1"] "" ["a","b*"] 0 any
-{"ops":[{"op":"update","id":"00000000-0000-0000-0000-000000000001","parent":"spiffe://ex.org/a","identity":"spiffe://ex.org/b","selectors":["u:1"],"domains":["b*\u0078","a"]}]} => {"code":"I4","field":"domains","line":1,"op":0}
+{"ops":[{"op":"show_bundle","domain":"b«254*\u0078»"}]} => 1; show_bundle "b«254*x»"
+{"ops":[{"op":"show_bundle","domain":"b«254*\u0078»b"}]} => {"code":"I4","field":"domain","line":1,"op":0}
+{"ops":[{"op":"update","id":"00000000-0000-0000-0000-000000000001","parent":"spiffe://ex.org/a","identity":"spiffe://ex.org/b","selectors":["u:1"],"domains":["b«254*\u0078»","a"]}]} => 1; update "00000000-0000-0000-0000-000000000001" "spiffe://ex.org/a" "spiffe://ex.org/b" ["u:1"] "" ["a","b«254*x»"] 0 any
+{"ops":[{"op":"update","id":"00000000-0000-0000-0000-000000000001","parent":"spiffe://ex.org/a","identity":"spiffe://ex.org/b","selectors":["u:1"],"domains":["b«254*\u0078»\u0078","a"]}]} => {"code":"I4","field":"domains","line":1,"op":0}
 "#;
 
 #[test]
 fn lengths_of_names_are_of_bytes_after_escapes(rt: HostRuntime) -> Result<(), Fail> {
-    spells_with(&rt, rt.alloc(), LONG_NAMES, 254, ("\\u0078", "x"))
+    tells(&rt, rt.alloc(), Asked::Request, LONG_NAMES)
 }

@@ -1,11 +1,7 @@
 //! Which keys has a page, what do they spell, and what is printed of its reply?
 
-use crate::answers::printed;
-use crate::spelled::spells;
-use crate::wanted::is_text;
-use entry_book::{OpReply, Sequence};
+use crate::tables::{Asked, tells};
 use std::test::Fail;
-use uuid::Uuid;
 
 /// Lines of pages, and what each spells.
 const PAGES: &str = r#"
@@ -77,20 +73,16 @@ const PAGES: &str = r#"
 
 #[test]
 fn pages_are_read_key_by_key(rt: HostRuntime) -> Result<(), Fail> {
-    spells(&rt, rt.alloc(), PAGES)
+    tells(&rt, rt.alloc(), Asked::Request, PAGES)
 }
+
+/// Pages of no entries, and of one entry each, on a book with nothing in it.
+const PRINTED: &str = r#"
+{"ops":[{"op":"page","size":1}]} => {"call":1,"place":0,"replies":[{"entries":[],"next":null}],"result":"answered"}
+{"ops":[{"op":"create","id":"00000000-0000-0000-0000-000000000001","parent":"spiffe://ex.org/a","identity":"spiffe://ex.org/b","selectors":["u:1"]},{"op":"create","id":"00000000-0000-0000-0000-000000000002","parent":"spiffe://ex.org/a","identity":"spiffe://ex.org/c","selectors":["u:1"]},{"op":"page","size":1},{"op":"page","size":1,"from":"00000000-0000-0000-0000-000000000001"}]} => {"call":1,"place":1,"replies":[{"entry":{"domains":[],"expiry":0,"hint":"","id":"00000000-0000-0000-0000-000000000001","identity":"spiffe://ex.org/b","parent":"spiffe://ex.org/a","revision":0,"selectors":["u:1"]}},{"entry":{"domains":[],"expiry":0,"hint":"","id":"00000000-0000-0000-0000-000000000002","identity":"spiffe://ex.org/c","parent":"spiffe://ex.org/a","revision":0,"selectors":["u:1"]}},{"entries":[{"domains":[],"expiry":0,"hint":"","id":"00000000-0000-0000-0000-000000000001","identity":"spiffe://ex.org/b","parent":"spiffe://ex.org/a","revision":0,"selectors":["u:1"]}],"next":"00000000-0000-0000-0000-000000000001"},{"entries":[{"domains":[],"expiry":0,"hint":"","id":"00000000-0000-0000-0000-000000000002","identity":"spiffe://ex.org/c","parent":"spiffe://ex.org/a","revision":0,"selectors":["u:1"]}],"next":null}],"result":"committed"}
+"#;
 
 #[test]
 fn the_id_after_which_the_next_page_begins_is_printed_or_null(rt: HostRuntime) -> Result<(), Fail> {
-    for (next, text) in [
-        (None, r#"{"entries":[],"next":null}"#),
-        (
-            Some(Uuid::from_u64_pair(0, 2)),
-            r#"{"entries":[],"next":"00000000-0000-0000-0000-000000000002"}"#,
-        ),
-    ] {
-        let reply = OpReply::Page(Sequence::empty(rt.alloc()), next);
-        is_text(&rt, printed(rt.alloc(), &reply)?.as_str(), text, "a page");
-    }
-    Ok(())
+    tells(&rt, rt.alloc(), Asked::Reply, PRINTED)
 }

@@ -1,12 +1,14 @@
 //! What is printed for the record of a call, and is it read as what it tells?
 
-use crate::answers::{failure_of, line_of, new_book, new_ids, printed, trust_domain};
-use crate::wanted::{holds, is_text};
+use crate::lines::line_of;
+use crate::printed::add;
+use crate::tables::{Asked, line_tells, new_book, reply_of, tells, tells_at, tells_in_a_row};
+use crate::wanted::is_text;
+use batch_texts::batch;
 use call_machine::{CallAnswer, KnownCall};
-use entry_book::{Batch, Reply};
+use entry_book::Batch;
 use plain_book::PlainBook;
-use reg_lines::{CallRecord, Ids, Record, read_record, read_request};
-use spiffe_name::Failure;
+use reg_lines::CallRecord;
 use std::alloc::Global;
 use std::process::Abort;
 use std::test::Fail;
@@ -30,110 +32,30 @@ const RECORDS: &str = r#"
 {"ops":[{"op":"page","size":1,"at":0,"parent":"spiffe://ex.org/a"}]} => {"batch":{"after":0,"ops":[{"at":0,"op":"page","parent":"spiffe://ex.org/a","size":1}]},"call":10,"invoked":5,"replied":9,"reply":{"call":10,"place":4,"replies":[{"entries":[],"next":null}],"result":"answered"}}
 "#;
 
-/// The record of the call of this number, whose line this is.
-fn recorded(
-    alloc: Global,
-    book: &mut PlainBook,
-    ids: &mut Ids,
-    line: &[u8],
-    call: u64,
-) -> Result<String, Fail> {
-    let request = match read_request(alloc, book.domain(), ids, line, call) {
-        Ok(request) => request,
-        Err(refusal) => return Err(failure_of(&refusal)),
-    };
-    let reply = book.run(&request.batch)?;
-    let record = CallRecord {
-        batch: &request.batch,
-        call,
-        invoked: 5,
-        replied: Some(9),
-        reply: &reply,
-    };
-    printed(alloc, &record)
-}
-
-/// What a record tells, in the text that is due for it.
-fn told_text(alloc: Global, told: &Record) -> Result<String, Fail> {
-    let batch = printed(alloc, &told.batch)?;
-    let replied = printed(alloc, &told.replied)?;
-    let reply = told.reply.to_string(alloc)?;
-    Ok(format!(in alloc;
-        "{{\"batch\":{batch},\"call\":{},\"invoked\":{},\"replied\":{replied},\"reply\":{reply}}}",
-        told.call, told.invoked
-    )?)
-}
-
-/// What the line of this number tells in the trust domain `ex.org`; or the printed refusal. Want of memory is an error.
-fn told(alloc: Global, line: &[u8], number: u64) -> Result<String, Fail> {
-    let domain = trust_domain(alloc, "ex.org")?;
-    match read_record(alloc, &domain, line, number) {
-        Ok(told) => told_text(alloc, &told),
-        Err(refusal) => {
-            if let Failure::NoMemory = &refusal.failure {
-                return Err(Fail::from("no memory"));
-            }
-            printed(alloc, &refusal)
-        }
-    }
-}
-
-/// The first line tells so.
-fn tells(rt: &impl Abort, alloc: Global, text: &str, want: &str) -> Result<(), Fail> {
-    let line = line_of(alloc, text)?;
-    let got = told(alloc, &line, 1)?;
-    is_text(rt, got.as_str(), want, text);
-    Ok(())
-}
-
-/// The line's record is printed so, and reads as itself.
-fn is_recorded(
-    rt: &impl Abort,
-    alloc: Global,
-    book: &mut PlainBook,
-    ids: &mut Ids,
-    call: u64,
-    (text, want): (&str, &str),
-) -> Result<(), Fail> {
-    let line = line_of(alloc, text)?;
-    let got = recorded(alloc, book, ids, &line, call)?;
-    is_text(rt, got.as_str(), want, text);
-    tells(rt, alloc, want, want)
+/// The record reads as itself.
+fn tells_itself(rt: &impl Abort, alloc: Global, record: &str) -> Result<(), Fail> {
+    let line = line_of(alloc, record)?;
+    line_tells(rt, alloc, Asked::Record, 1, &line, (record, record))
 }
 
 #[test]
 fn a_record_is_printed_and_reads_as_itself(rt: HostRuntime) -> Result<(), Fail> {
-    let alloc = rt.alloc();
-    let mut book = new_book(alloc)?;
-    let mut ids = new_ids();
-    let mut count = 0u64;
+    tells_in_a_row(&rt, rt.alloc(), Asked::Call, RECORDS)?;
     for case in RECORDS.lines() {
-        if let Some(case) = case.split_once(" => ") {
-            count = count.saturating_add(1);
-            is_recorded(&rt, alloc, &mut book, &mut ids, count, case)?;
+        if let Some((_, record)) = case.split_once(" => ") {
+            tells_itself(&rt, rt.alloc(), record)?;
         }
     }
     Ok(())
 }
 
-/// The batch of a line, and the reply of a book with nothing in it.
-fn called(alloc: Global, text: &str) -> Result<(Batch, Reply), Fail> {
-    let mut book = new_book(alloc)?;
-    let line = line_of(alloc, text)?;
-    let request = match read_request(alloc, book.domain(), &mut new_ids(), &line, 1) {
-        Ok(request) => request,
-        Err(refusal) => return Err(failure_of(&refusal)),
-    };
-    let reply = book.run(&request.batch)?;
-    Ok((request.batch, reply))
-}
-
-/// The record of what is known of the third call, which was handed in by the sixth event and hasn't replied.
-fn known_text(
+/// Adds the record of the third call, which was handed in by the sixth event and hasn't replied, where it has one.
+fn add_record(
     alloc: Global,
+    text: &mut String,
     batch: &Batch,
     answer: Option<CallAnswer<'_>>,
-) -> Result<Option<String>, Fail> {
+) -> Result<(), Fail> {
     let known = KnownCall {
         batch,
         invoked: 6,
@@ -142,9 +64,28 @@ fn known_text(
         answer,
     };
     match CallRecord::of(3, &known) {
-        Some(record) => Ok(Some(printed(alloc, &record)?)),
-        None => Ok(None),
+        Some(record) => add(alloc, text, "", &record),
+        None => Ok(text.push_str(", none")?),
     }
+}
+
+/// Adds the records of a call with a reply, of one with no answer, and of one that was a conflict.
+fn add_records(
+    alloc: Global,
+    text: &mut String,
+    book: &mut PlainBook,
+    batch: &Batch,
+) -> Result<(), Fail> {
+    let reply = reply_of(book, batch)?;
+    add_record(alloc, text, batch, Some(CallAnswer::Replied(&reply)))?;
+    add_record(alloc, text, batch, None)?;
+    add_record(alloc, text, batch, Some(CallAnswer::Conflict(0)))
+}
+
+/// The same on a book with nothing in it.
+fn add_first_records(alloc: Global, text: &mut String, batch: &Batch) -> Result<(), Fail> {
+    let mut book = new_book(alloc)?;
+    add_records(alloc, text, &mut book, batch)
 }
 
 const NOT_REPLIED: &str =
@@ -152,22 +93,11 @@ const NOT_REPLIED: &str =
 
 #[test]
 fn a_call_has_a_record_once_it_has_a_reply(rt: HostRuntime) -> Result<(), Fail> {
-    let alloc = rt.alloc();
-    let (batch, reply) = called(alloc, r#"{"ops":[{"op":"prune","before":7}]}"#)?;
-    let Some(got) = known_text(alloc, &batch, Some(CallAnswer::Replied(&reply)))? else {
-        return Err(Fail::from("no record"));
-    };
-    is_text(
-        &rt,
-        got.as_str(),
-        NOT_REPLIED,
-        "a call that has not replied",
-    );
-    tells(&rt, alloc, NOT_REPLIED, NOT_REPLIED)?;
-    let unanswered = known_text(alloc, &batch, None)?;
-    let refused = known_text(alloc, &batch, Some(CallAnswer::Conflict(0)))?;
-    holds(&rt, unanswered.is_none() && refused.is_none(), "no record");
-    Ok(())
+    let mut text = String::new(rt.alloc());
+    add_first_records(rt.alloc(), &mut text, &batch(rt.alloc(), "prune 7")?)?;
+    let first = text.as_str().strip_suffix(", none, none").unwrap_or("");
+    is_text(&rt, first, NOT_REPLIED, text.as_str());
+    tells_itself(&rt, rt.alloc(), NOT_REPLIED)
 }
 
 /// Lines that are no records, and the refusal of each.
@@ -199,32 +129,23 @@ const REFUSED: &str = r#"
 {"batch":{"ops":[]},"call":1,"invoked":1,"replied":null,"reply":{}} => {"code":"B1","line":1}
 "#;
 
+/// A record without its LF, as the twelfth line.
+const CUT: &str = r#"
+{"batch":{"after":0,"ops":[{"before":7,"op":"prune"}]},"call":3,"invoked":6,"replied":null,"reply":{"call":3,"place":1,"replies":[{"pruned":[]}],"result":"committed"}}«» => {"code":"L3","line":12}
+"#;
+
 #[test]
 fn a_line_that_is_no_record_is_refused(rt: HostRuntime) -> Result<(), Fail> {
-    let alloc = rt.alloc();
-    for case in REFUSED.lines() {
-        if let Some((text, want)) = case.split_once(" => ") {
-            tells(&rt, alloc, text, want)?;
-        }
-    }
-    let got = told(alloc, NOT_REPLIED.as_bytes(), 12)?;
-    is_text(
-        &rt,
-        got.as_str(),
-        r#"{"code":"L3","line":12}"#,
-        "a line that is cut",
-    );
-    Ok(())
+    tells(&rt, rt.alloc(), Asked::Record, REFUSED)?;
+    tells_at(&rt, rt.alloc(), Asked::Record, 12, CUT)
 }
 
-/// A record whose keys stand in another order, with what can be left out of its batch, and what it tells.
-const SHUFFLED: &str =
-    r#" {"reply":{"b":[1,null],"a":{}}, "replied":18446744073709551615,"call":0, "batch":{"ops":[{"op":"show_bundle","domain":"b.org"}],"token":null},"invoked":0} "#;
-
-const IN_ORDER: &str =
-    r#"{"batch":{"after":0,"ops":[{"domain":"b.org","op":"show_bundle"}]},"call":0,"invoked":0,"replied":18446744073709551615,"reply":{"a":{},"b":[1,null]}}"#;
+/// A record whose keys stand in another order, with what can be left out of its batch.
+const SHUFFLED: &str = r#"
+ {"reply":{"b":[1,null],"a":{}}, "replied":18446744073709551615,"call":0, "batch":{"ops":[{"op":"show_bundle","domain":"b.org"}],"token":null},"invoked":0}  => {"batch":{"after":0,"ops":[{"domain":"b.org","op":"show_bundle"}]},"call":0,"invoked":0,"replied":18446744073709551615,"reply":{"a":{},"b":[1,null]}}
+"#;
 
 #[test]
 fn a_record_is_read_in_any_order_of_its_keys(rt: HostRuntime) -> Result<(), Fail> {
-    tells(&rt, rt.alloc(), SHUFFLED, IN_ORDER)
+    tells(&rt, rt.alloc(), Asked::Record, SHUFFLED)
 }

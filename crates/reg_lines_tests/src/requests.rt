@@ -1,6 +1,6 @@
 //! Which fault of a line is told, and which operations do lines spell?
 
-use crate::spelled::{spells, spells_with};
+use crate::tables::{Asked, tells};
 use reg_lines::unknown_keys_law;
 use std::test::Fail;
 
@@ -173,28 +173,22 @@ true => {"code":"L4","line":1}
 #[test]
 fn lines_are_read_in_the_order_of_the_format(rt: HostRuntime) -> Result<(), Fail> {
     unknown_keys_law();
-    spells(&rt, rt.alloc(), TABLE)
+    tells(&rt, rt.alloc(), Asked::Request, TABLE)
 }
 
-/// Lines in which `*` stands for 63 more questions, and what each spells: 65 operations are too many, which is looked at
-/// after all of them were read.
+/// Lines with 64 operations, and with more: 65 are too many, which is looked at after all of them were read.
 const MANY: &str = r#"
-{"ops":[{"op":"show","id":"00000000-0000-0000-0000-000000000001"}*]} => 1; show "00000000-0000-0000-0000-000000000001"*
-{"ops":[{"op":"show","id":"00000000-0000-0000-0000-000000000001"}*,{"op":"show","id":"00000000-0000-0000-0000-000000000001"}]} => {"code":"B2","line":1}
-{"ops":[{"op":"show","id":"1"}*,{"op":"show","id":"00000000-0000-0000-0000-000000000001"}]} => {"code":"U1","field":"id","line":1,"op":0}
-{"ops":[{"op":"show","id":"00000000-0000-0000-0000-000000000001"}*,{"op":"show","id":"1"}]} => {"code":"U1","field":"id","line":1,"op":64}
-{"ops":[{"op":"show","id":"00000000-0000-0000-0000-000000000001"}*,{"op":"set_agent","agent":"spiffe://ex.org/spire/agent/n1","selectors":["unix"]}]} => {"code":"S2","field":"selectors","line":1,"op":64}
-{"ops":[{"op":"show","id":"00000000-0000-0000-0000-000000000001"}*,{"op":"set_agent","agent":"spiffe://ex.org/spire/agent/n1","selectors":["unix"]},7]} => {"code":"S2","field":"selectors","line":1,"op":64}
-{"ops":[{"op":"show","id":"00000000-0000-0000-0000-000000000001"},{"op":"set_agent","agent":"spiffe://ex.org/spire/agent/n1","selectors":["unix"]}*]} => {"code":"S2","field":"selectors","line":1,"op":1}
-{"ops":[{"op":"show","id":"00000000-0000-0000-0000-000000000001"}*,7]} => {"code":"L5","field":"ops","line":1,"op":64}
+{"ops":[{"op":"show","id":"00000000-0000-0000-0000-000000000001"}«63*,{"op":"show","id":"00000000-0000-0000-0000-000000000001"}»]} => 1; show "00000000-0000-0000-0000-000000000001"«63*; show "00000000-0000-0000-0000-000000000001"»
+{"ops":[{"op":"show","id":"00000000-0000-0000-0000-000000000001"}«63*,{"op":"show","id":"00000000-0000-0000-0000-000000000001"}»,{"op":"show","id":"00000000-0000-0000-0000-000000000001"}]} => {"code":"B2","line":1}
+{"ops":[{"op":"show","id":"1"}«63*,{"op":"show","id":"00000000-0000-0000-0000-000000000001"}»,{"op":"show","id":"00000000-0000-0000-0000-000000000001"}]} => {"code":"U1","field":"id","line":1,"op":0}
+{"ops":[{"op":"show","id":"00000000-0000-0000-0000-000000000001"}«63*,{"op":"show","id":"00000000-0000-0000-0000-000000000001"}»,{"op":"show","id":"1"}]} => {"code":"U1","field":"id","line":1,"op":64}
+{"ops":[{"op":"show","id":"00000000-0000-0000-0000-000000000001"}«63*,{"op":"show","id":"00000000-0000-0000-0000-000000000001"}»,{"op":"set_agent","agent":"spiffe://ex.org/spire/agent/n1","selectors":["unix"]}]} => {"code":"S2","field":"selectors","line":1,"op":64}
+{"ops":[{"op":"show","id":"00000000-0000-0000-0000-000000000001"}«63*,{"op":"show","id":"00000000-0000-0000-0000-000000000001"}»,{"op":"set_agent","agent":"spiffe://ex.org/spire/agent/n1","selectors":["unix"]},7]} => {"code":"S2","field":"selectors","line":1,"op":64}
+{"ops":[{"op":"show","id":"00000000-0000-0000-0000-000000000001"},{"op":"set_agent","agent":"spiffe://ex.org/spire/agent/n1","selectors":["unix"]}«63*,{"op":"show","id":"00000000-0000-0000-0000-000000000001"}»]} => {"code":"S2","field":"selectors","line":1,"op":1}
+{"ops":[{"op":"show","id":"00000000-0000-0000-0000-000000000001"}«63*,{"op":"show","id":"00000000-0000-0000-0000-000000000001"}»,7]} => {"code":"L5","field":"ops","line":1,"op":64}
 "#;
-
-/// One more question, and what it spells.
-const SHOW: &str = r#",{"op":"show","id":"00000000-0000-0000-0000-000000000001"}"#;
-
-const SHOWN: &str = r#"; show "00000000-0000-0000-0000-000000000001""#;
 
 #[test]
 fn one_operation_too_many_is_told_after_a_refused_one(rt: HostRuntime) -> Result<(), Fail> {
-    spells_with(&rt, rt.alloc(), MANY, 63, (SHOW, SHOWN))
+    tells(&rt, rt.alloc(), Asked::Request, MANY)
 }

@@ -1,55 +1,34 @@
 //! What is printed for texts, numbers and lists?
 
-use crate::answers::prints;
-use std::alloc::Global;
-use std::process::Abort;
+use crate::tables::{Asked, tells};
 use std::test::Fail;
 
-/// Texts, and what is printed for each.
-const TEXTS: [(&str, &str); 6] = [
-    ("", r#""""#),
-    ("plain", r#""plain""#),
-    ("a\"b\\c/d", r#""a\"b\\c/d""#),
-    ("\u{8}\t\n\u{c}\r", r#""\b\t\n\f\r""#),
-    (
-        "\u{0}\u{1}\u{b}\u{e}\u{1f} ",
-        r#""\u0000\u0001\u000b\u000e\u001f ""#,
-    ),
-    (
-        "\u{7f}\u{80}\u{fc}\u{2028}\u{1f600}",
-        "\"\u{7f}\u{80}\u{fc}\u{2028}\u{1f600}\"",
-    ),
-];
-
-fn prints_texts(rt: &impl Abort, alloc: Global, cases: &[(&str, &str)]) -> Result<(), Fail> {
-    for (text, want) in cases {
-        prints(rt, alloc, &String::from_str(alloc, text)?, want)?;
-    }
-    Ok(())
-}
+/// Texts, among them characters that are no letters: of one byte, of two, three and four.
+const TEXTS: &str = r#"
+text  => ""
+text plain => "plain"
+text a"b\c/d => "a\"b\\c/d"
+text «08»«09»«0a»«0c»«0d» => "\b\t\n\f\r"
+text «00»«01»«0b»«0e»«1f»«20» => "\u0000\u0001\u000b\u000e\u001f "
+text «7f»«c2»«80»ü«e2»«80»«a8»😀 => "«7f»«c2»«80»ü«e2»«80»«a8»😀"
+"#;
 
 #[test]
 fn texts_have_the_escapes_of_their_kind(rt: HostRuntime) -> Result<(), Fail> {
-    prints_texts(&rt, rt.alloc(), &TEXTS)
+    tells(&rt, rt.alloc(), Asked::Value, TEXTS)
 }
 
-/// The empty list, and one of two lists.
-fn prints_lists(rt: &impl Abort, alloc: Global) -> Result<(), Fail> {
-    let mut lists = Vec::new(alloc);
-    prints(rt, alloc, &lists, "[]")?;
-    for list in [[1u64, 2], [30, 4]] {
-        lists.push(list.to_vec(alloc)?)?;
-    }
-    prints(rt, alloc, &lists, "[[1,2],[30,4]]")
-}
+const OTHERS: &str = "
+number 0 => 0
+number 10 => 10
+number 18446744073709551615 => 18446744073709551615
+lists  => []
+lists 1 2; 30 4 => [[1,2],[30,4]]
+some 7 => 7
+none => null
+";
 
 #[test]
 fn numbers_lists_and_nothing_are_printed_compactly(rt: HostRuntime) -> Result<(), Fail> {
-    let alloc = rt.alloc();
-    prints(&rt, alloc, &0u64, "0")?;
-    prints(&rt, alloc, &10u64, "10")?;
-    prints(&rt, alloc, &u64::MAX, "18446744073709551615")?;
-    prints_lists(&rt, alloc)?;
-    prints(&rt, alloc, &Some(7u64), "7")?;
-    prints(&rt, alloc, &None::<u64>, "null")
+    tells(&rt, rt.alloc(), Asked::Value, OTHERS)
 }

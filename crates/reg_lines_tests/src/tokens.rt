@@ -1,6 +1,6 @@
 //! What do the keys `after` and `token` of a line spell, and what do they ask of its operations?
 
-use crate::spelled::{spells, spells_in_a_row};
+use crate::tables::{Asked, tells, tells_in_a_row};
 use std::test::Fail;
 
 /// Lines, and what each spells.
@@ -67,7 +67,7 @@ const TABLE: &str = r#"
 
 #[test]
 fn the_least_place_and_the_token_are_read_in_their_turn(rt: HostRuntime) -> Result<(), Fail> {
-    spells(&rt, rt.alloc(), TABLE)
+    tells(&rt, rt.alloc(), Asked::Request, TABLE)
 }
 
 /// Lines read one after another with the ids of the seed of zeros, and what each spells: the one with a token draws no id.
@@ -79,5 +79,5 @@ const IN_A_ROW: &str = r#"
 
 #[test]
 fn a_line_with_a_token_draws_no_id(rt: HostRuntime) -> Result<(), Fail> {
-    spells_in_a_row(&rt, rt.alloc(), IN_A_ROW)
+    tells_in_a_row(&rt, rt.alloc(), Asked::Request, IN_A_ROW)
 }

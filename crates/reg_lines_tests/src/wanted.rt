@@ -7,12 +7,7 @@ pub(crate) fn is_text(rt: &impl Abort, got: &str, want: &str, at: &str) {
     assert_eq!(rt; got, want, "{at}");
 }
 
-/// It holds.
-pub(crate) fn holds(rt: &impl Abort, it: bool, at: &str) {
-    assert!(rt; it, "{at}");
-}
-
 /// It holds at this number.
-pub(crate) fn holds_at(rt: &impl Abort, it: bool, at: &str, number: u64) {
+pub(crate) fn holds(rt: &impl Abort, it: bool, at: &str, number: u64) {
     assert!(rt; it, "{at} {number}");
 }
