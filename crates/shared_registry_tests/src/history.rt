@@ -1,241 +1,177 @@
-//! Is there one list of committed batches that explains all that the threads were answered? Random batches over few names are run
-//! by eight threads, and each answer is recorded with its place. Afterwards the list is rebuilt from the places, and each answer is
-//! held against a plain book that is run through it.
+//! Is there one list of committed batches that explains all that eight threads were answered? The list is rebuilt from the places of
+//! the answers, and each answer is held against a plain book that is run through it.
 
+use crate::calls::{Call, calls_of_all, is_of_batch};
 use crate::failed::Failed;
-use crate::plays::{Play, plays};
-use crate::site::Site;
-use crate::telling::outcome_text;
-use crate::threads::joined;
-use batch_texts::{batch, batch_text, below, reply_text, trust_domain};
-use entry_book::{Batch, Outcome as Answer, Reply};
+use crate::plays::talks;
+use crate::site::{Site, without_tries};
+use crate::talks::{THREADS, Talk};
+use crate::telling::{kind_of, place_of};
+use crate::turnstile::Turnstile;
+use crate::wanted::{holds, is_number, is_text};
+use batch_texts::{batch, reply_text, trust_domain};
+use entry_book::{Batch, Reply};
 use plain_book::PlainBook;
-use shared_registry::{Naming, OpenGate, Outcome, Seat};
+use shared_registry::{Naming, Point};
 use std::alloc::Global;
 use std::env;
 use std::process::Abort;
 use std::sync::Wait;
 use std::test::Fail;
-use std::thread::{Threads, map_vec};
+use std::thread::Threads;
+use std::time::Clock;
 
-/// How many calls each of the eight threads makes, where nothing else is said.
+/// How many random calls each of the eight threads makes, where nothing else is said.
 const CALLS: u64 = 500;
 
-/// What kind of answer it was.
-#[derive(Clone, Copy, Debug, PartialEq, Eq)]
-enum Kind {
-    Committed,
-    Repeated,
-    Refused,
-    Conflict,
-    Answered,
-}
+/// What may become of a batch.
+const KINDS: &str = "committed repeated refused conflict answered";
 
-const KINDS: [Kind; 5] = [
-    Kind::Committed,
-    Kind::Repeated,
-    Kind::Refused,
-    Kind::Conflict,
-    Kind::Answered,
-];
+/// The place of a call, whether it wasn't committed there, and its index.
+type Turn = (u64, bool, usize);
 
-/// What a call was told: of which kind, at which place, and as text.
-#[derive(Drop)]
-struct Told {
-    kind: Kind,
-    place: u64,
-    text: String,
-}
-
-/// A call: its batch as text, how far its seat had seen before, and what it was told.
-#[derive(Drop)]
-struct Call {
-    text: String,
-    before: u64,
-    told: Told,
-}
-
-fn told_by_reply(alloc: Global, reply: &Reply) -> Result<Told, Failed> {
-    let kind = match &reply.outcome {
-        Answer::Refused(_) => Kind::Refused,
-        _ => Kind::Answered,
-    };
-    Ok(Told {
-        kind,
-        place: reply.place,
-        text: reply_text(alloc, reply)?,
-    })
-}
-
-/// Of which kind is what became of changes, and at which place? Where memory was wanting or the seat wasn't let in, it is of none.
-fn kind_of(outcome: &Outcome) -> Result<(Kind, u64), Failed> {
-    match outcome {
-        Outcome::Committed(place, _) => Ok((Kind::Committed, *place)),
-        Outcome::Repeated(place, _) => Ok((Kind::Repeated, *place)),
-        Outcome::Conflict(place) => Ok((Kind::Conflict, *place)),
-        Outcome::Refused(reply) => Ok((Kind::Refused, reply.get().place)),
-        Outcome::NoMemory => Err(Failed::NoMemory),
-        Outcome::NoEntry => Err(Failed::NotLetIn),
-    }
-}
-
-fn told_by_outcome(alloc: Global, outcome: &Outcome) -> Result<Told, Failed> {
-    let (kind, place) = kind_of(outcome)?;
-    Ok(Told {
-        kind,
-        place,
-        text: outcome_text(alloc, outcome)?,
-    })
-}
-
-/// What the batch is told, with so many tries where it is one of changes.
-fn tells<J: Naming, R: Wait>(
-    rt: &R,
-    alloc: Global,
-    site: &Site<J>,
-    seat: &mut Seat<J>,
-    batch: Batch,
-    tries: u32,
-) -> Result<Told, Failed> {
-    if batch.is_query() {
-        let reply = site.query(seat, batch)?;
-        return told_by_reply(alloc, reply.get());
-    }
-    let outcome = site.submit(rt, seat, &OpenGate, batch, tries)?;
-    told_by_outcome(alloc, &outcome)
-}
-
-/// One random call of a seat.
-fn calls_once<J: Naming, R: Wait>(
-    rt: &R,
-    alloc: Global,
-    site: &Site<J>,
-    seat: &mut Seat<J>,
-    state: &mut u64,
-) -> Result<Call, Failed> {
-    let before = seat.place();
-    let text = batch_text(alloc, state, before)?;
-    let tries = below(state, 3) as u32 + 1;
-    let batch = batch(alloc, text.as_str())?;
-    let told = tells(rt, alloc, site, seat, batch, tries)?;
-    Ok(Call { text, before, told })
-}
-
-/// So many random calls of a seat.
-fn calls_of<J: Naming, R: Wait>(
-    rt: &R,
-    alloc: Global,
-    site: &Site<J>,
-    mut seat: Seat<J>,
-    count: u64,
-) -> Result<Vec<Call>, Failed> {
-    let mut state = seat.number() as u64;
-    let mut calls = Vec::new(alloc);
-    for _ in 0..count {
-        calls.push(calls_once(rt, alloc, site, &mut seat, &mut state)?)?;
-    }
-    Ok(calls)
-}
-
-/// So many random calls of each of eight seats, on as many threads.
-fn calls_of_all<J: Naming + Send + Sync, R: Threads + Wait + Sync>(
-    rt: &R,
-    alloc: Global,
-    site: &Site<J>,
-    each: u64,
-) -> Result<Vec<Call>, Failed> {
-    let seats = site.seats(rt, alloc, 8)?;
-    let done = map_vec(
-        rt,
-        seats,
-        &|seat: Seat<J>| -> Result<Vec<Call>, Failed> { calls_of(rt, alloc, site, seat, each) },
-    )?;
-    joined(alloc, done)
-}
-
-/// The indexes of the calls in the order in which the plain book runs them: by their places, and at each place the one first that
-/// was committed there.
-fn in_order(alloc: Global, calls: &[Call]) -> Result<Vec<(u64, bool, usize)>, Failed> {
+/// The order in which the plain book runs the calls: by their places, and at each place the one first that was committed there.
+fn in_order(alloc: Global, calls: &[Call]) -> Result<Vec<Turn>, Failed> {
     let mut order = Vec::new(alloc);
     for (index, call) in calls.iter().enumerate() {
-        let told = &call.told;
-        order.push((told.place, told.kind != Kind::Committed, index))?;
+        let told = call.told.as_str();
+        order.push((place_of(told)?, kind_of(told) != "committed", index))?;
     }
     order.sort()?;
     Ok(order)
 }
 
-/// What the plain book answers, as text.
-fn plain_text(alloc: Global, book: &mut PlainBook, text: &str) -> Result<String, Failed> {
-    let batch = batch(alloc, text)?;
+/// What the plain book answers.
+fn plain_reply(book: &mut PlainBook, batch: &Batch) -> Result<Reply, Failed> {
     if batch.domain() != book.domain() {
-        return Err(Failed::NotAsked);
+        return Err(Failed("a batch isn't for the plain book"));
     }
-    let reply = book.run(&batch)?;
+    Ok(book.run(batch)?)
+}
+
+fn told_by(alloc: Global, reply: Reply) -> Result<String, Failed> {
     Ok(reply_text(alloc, &reply)?)
 }
 
+/// What the plain book answers, as text.
+fn plain_text(alloc: Global, book: &mut PlainBook, text: &str) -> Result<String, Failed> {
+    let batch = batch(alloc, without_tries(text))?;
+    let reply = plain_reply(book, &batch);
+    drop(batch);
+    told_by(alloc, reply?)
+}
+
 /// The plain book, which has come to the call's place or is one short of it, answers as the call was answered. A conflict has no
-/// answer of the plain book: something was committed since the call was made.
-fn check_call<R: Abort>(
-    rt: &R,
+/// answer of the plain book.
+fn check_call(
+    rt: &impl Abort,
     alloc: Global,
     book: &mut PlainBook,
     call: &Call,
 ) -> Result<(), Failed> {
-    let told = &call.told;
-    if told.kind == Kind::Conflict {
-        assert!(rt; told.place > call.before);
+    let (text, told) = (call.text.as_str(), call.told.as_str());
+    if !is_of_batch(call) || kind_of(told) == "conflict" {
         return Ok(());
     }
-    let want = plain_text(alloc, book, call.text.as_str())?;
-    assert_eq!(rt; told.text.as_str(), want.as_str(), "{}", call.text);
-    assert_eq!(rt; book.place(), told.place);
-    assert!(rt; told.kind == Kind::Repeated || told.place >= call.before);
+    let want = plain_text(alloc, book, text)?;
+    is_text(rt, told, want.as_str(), text);
+    is_number(rt, book.place(), place_of(told)?, text);
     Ok(())
 }
 
 /// Holds all calls against one plain book, which ends at this place.
-fn check_calls<R: Abort>(rt: &R, alloc: Global, calls: &[Call], place: u64) -> Result<(), Failed> {
+fn check_calls(
+    rt: &impl Abort,
+    alloc: Global,
+    calls: &[Call],
+    order: &[Turn],
+    place: u64,
+) -> Result<(), Failed> {
     let mut book = PlainBook::new(alloc, trust_domain(alloc, "ex.org")?)?;
-    for (_, _, index) in in_order(alloc, calls)? {
-        if let Some(call) = calls.get(index) {
+    for (_, _, index) in order {
+        if let Some(call) = calls.get(*index) {
             check_call(rt, alloc, &mut book, call)?;
         }
     }
-    assert_eq!(rt; book.place(), place);
+    is_number(rt, book.place(), place, "the last place");
     Ok(())
 }
 
-/// How many calls were told so.
-fn count_of(calls: &[Call], kind: Kind) -> u64 {
-    calls.iter().filter(|call| call.told.kind == kind).count() as u64
+/// Batches were committed at each place up to this one, one at each.
+fn check_places(rt: &impl Abort, order: &[Turn], place: u64) {
+    let mut last: u64 = 0;
+    for (place, is_later, _) in order {
+        if !*is_later {
+            last = last.wrapping_add(1);
+            is_number(rt, *place, last, "a place");
+        }
+    }
+    is_number(rt, last, place, "the last place");
 }
 
-/// Prints how many calls were told in which way; none of these numbers is 0.
-fn check_counts<R: Abort + Print>(rt: &R, calls: &[Call]) -> Result<(), Failed> {
-    for kind in KINDS {
+/// How many calls were told so.
+fn count_of(calls: &[Call], kind: &str) -> u64 {
+    let mut count: u64 = 0;
+    for call in calls {
+        count = count.wrapping_add((kind_of(call.told.as_str()) == kind) as u64);
+    }
+    count
+}
+
+/// How many calls were told in which way, and how often a batch of changes began.
+fn counts_text(alloc: Global, calls: &[Call], begun: u64) -> Result<String, Failed> {
+    let mut text = String::new(alloc);
+    for kind in KINDS.split_whitespace() {
         let count = count_of(calls, kind);
-        println!(rt; "{kind:?} {count}")?;
-        assert!(rt; count > 0, "{kind:?}");
+        text.push_str(format!(in alloc; "{kind} {count}; ")?.as_str())?;
+    }
+    text.push_str(format!(in alloc; "begun {begun}")?.as_str())?;
+    Ok(text)
+}
+
+/// These are the counts. Where none are wanted they are printed, and none of them is 0.
+fn check_counts(rt: &(impl Abort + Print), counts: &str, want: &str) -> Result<(), Failed> {
+    if !want.is_empty() {
+        is_text(rt, counts, want, "counts");
+        return Ok(());
+    }
+    println!(rt; "{counts}")?;
+    for count in counts.split("; ") {
+        holds(rt, !count.ends_with(" 0"), count);
     }
     Ok(())
 }
 
-/// So many random calls of each of eight threads, all of which one list of committed batches explains.
-pub fn history<J: Naming + Send + Sync, R: Threads + Wait + Abort + Print + Sync>(
-    rt: &R,
+/// One list of committed batches explains the calls: there is one for each place up to this one, and the plain book that runs them
+/// answers as calls were answered whose answers aren't known beforehand.
+fn check_list(
+    rt: &impl Abort,
     alloc: Global,
-    site: &Site<J>,
-    each: u64,
+    talk: Talk,
+    calls: &[Call],
+    place: u64,
 ) -> Result<(), Failed> {
-    let mut last = site.seat(rt)?;
-    let calls = calls_of_all(rt, alloc, site, each)?;
-    site.news(rt, &mut last)?;
-    let place = last.place();
-    check_calls(rt, alloc, calls.as_slice(), place)?;
-    assert_eq!(rt; count_of(calls.as_slice(), Kind::Committed), place);
-    check_counts(rt, calls.as_slice())
+    let order = in_order(alloc, calls)?;
+    check_places(rt, order.as_slice(), place);
+    match talk {
+        Talk::Creates | Talk::Ring => Ok(()),
+        _ => check_calls(rt, alloc, calls, order.as_slice(), place),
+    }
+}
+
+/// The talk of eight threads, the first batches of which all begin before one goes on, and which one list of committed batches explains. So many calls were told in which way.
+pub fn explains<J: Naming + Send + Sync, R: Threads + Wait + Clock + Abort + Print + Sync>(
+    site: &Site<J, R>,
+    talk: Talk,
+    want: &str,
+) -> Result<(), Failed> {
+    let gate = Turnstile::new(site.rt, Point::AfterBegin, 0, THREADS);
+    let calls = calls_of_all(site, &gate, talk)?;
+    let begun = gate.passes()?;
+    let place = site.place()?;
+    check_list(site.rt, site.alloc, talk, calls.as_slice(), place)?;
+    let counts = counts_text(site.alloc, calls.as_slice(), begun)?;
+    check_counts(site.rt, counts.as_str(), want)
 }
 
 /// The number of calls is the word behind the test's name, where its program is given one.
@@ -245,5 +181,5 @@ fn answers_of_eight_threads_are_those_of_one_list(rt: HostRuntime) -> Result<(),
         Some(word) => word.parse::<u64>()?,
         None => CALLS,
     };
-    plays(&rt, rt.alloc(), Play::History(each))
+    talks(&rt, rt.alloc(), Talk::Draws(each), "")
 }

@@ -1,15 +1,12 @@
-//! Which test is played, at a site of its own?
+//! What is played, at a site of its own?
 
 ghost use Rattle.std.specs.Prelude.{◌≡◌};
 
 use crate::failed::{Failed, as_fail};
-use crate::history::history;
-use crate::long::checkpoint;
-use crate::overtaken::{all_tries, last_try, two_creates, under_the_lock};
-use crate::ring::ring;
-use crate::seats::{all_seats, new_seats, one_seat};
+use crate::history::explains;
+use crate::scripts::plays_script;
 use crate::site::Site;
-use crate::together::{many_creates, one_token};
+use crate::talks::Talk;
 use batch_texts::trust_domain;
 use shared_registry::{Naming, Opened};
 use spiffe_name::TrustDomain;
@@ -21,43 +18,21 @@ use std::test::Fail;
 use std::thread::Threads;
 use std::time::Clock;
 
-/// What happens at a site that begins with the empty book: each is the function of its name.
+/// What happens at a site that begins with the empty book.
 #[derive(Clone, Copy)]
-pub enum Play {
-    OneSeat,
-    NewSeats,
-    AllSeats,
-    Checkpoint,
-    TwoCreates,
-    AllTries,
-    LastTry,
-    UnderTheLock,
-    ManyCreates,
-    OneToken,
-    Ring,
-    /// With so many calls of each thread.
-    History(u64),
+enum Play<'a> {
+    Script(&'a str),
+    /// A talk of eight threads, and how many calls are told in which way.
+    Talk(Talk, &'a str),
 }
 
 fn plays_on<J: Naming + Send + Sync, R: Threads + Wait + Clock + Abort + Print + Sync>(
-    rt: &R,
-    alloc: Global,
-    site: &Site<J>,
+    site: &Site<J, R>,
     play: Play,
 ) -> Result<(), Failed> {
     match play {
-        Play::OneSeat => one_seat(rt, alloc, site),
-        Play::NewSeats => new_seats(rt, alloc, site),
-        Play::AllSeats => all_seats(rt, alloc, site),
-        Play::Checkpoint => checkpoint(rt, alloc, site),
-        Play::TwoCreates => two_creates(rt, alloc, site),
-        Play::AllTries => all_tries(rt, alloc, site),
-        Play::LastTry => last_try(rt, alloc, site),
-        Play::UnderTheLock => under_the_lock(rt, alloc, site),
-        Play::ManyCreates => many_creates(rt, alloc, site),
-        Play::OneToken => one_token(rt, alloc, site),
-        Play::Ring => ring(rt, alloc, site),
-        Play::History(each) => history(rt, alloc, site, each),
+        Play::Script(script) => plays_script(site, script),
+        Play::Talk(talk, counts) => explains(site, talk, counts),
     }
 }
 
@@ -73,14 +48,14 @@ fn plays_at<J: Naming + Send + Sync, R: Threads + Wait + Clock + Abort + Print +
     requires history { opened.seen.book ≡ J.history }
     requires domain { (domain ≡ J.domain) × (own ≡ J.domain) }
 {
-    let site = Site::<J>::open(alloc, opened, domain, own)?;
-    let played = plays_on(rt, alloc, &site, play);
-    site.close(rt);
+    let site = Site::<J, R>::open(rt, alloc, opened, domain, own)?;
+    let played = plays_on(&site, play);
+    site.close();
     played
 }
 
 /// Plays at a site of its own.
-pub fn plays<R: Threads + Wait + Clock + Abort + Print + Sync>(
+fn plays_anew<R: Threads + Wait + Clock + Abort + Print + Sync>(
     rt: &R,
     alloc: Global,
     play: Play,
@@ -89,4 +64,23 @@ pub fn plays<R: Threads + Wait + Clock + Abort + Print + Sync>(
     let own = domain.clone()?;
     let played = plays_at::<Brand, R>(rt, alloc, Opened::new(), domain, own, play);
     as_fail(played)
+}
+
+/// Plays a script.
+pub fn plays<R: Threads + Wait + Clock + Abort + Print + Sync>(
+    rt: &R,
+    alloc: Global,
+    script: &str,
+) -> Result<(), Fail> {
+    plays_anew(rt, alloc, Play::Script(script))
+}
+
+/// Plays a talk of eight threads, of which so many calls are told in which way.
+pub fn talks<R: Threads + Wait + Clock + Abort + Print + Sync>(
+    rt: &R,
+    alloc: Global,
+    talk: Talk,
+    counts: &str,
+) -> Result<(), Fail> {
+    plays_anew(rt, alloc, Play::Talk(talk, counts))
 }

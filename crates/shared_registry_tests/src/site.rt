@@ -1,149 +1,230 @@
-//! A registry of `ex.org`, on which threads run batches.
+//! A registry of `ex.org`, on which threads run batches, and the letters between its seats.
 
 ghost use Rattle.std.specs.Prelude.{◌≡◌};
 
 use crate::failed::Failed;
-use crate::telling::outcome_text;
-use batch_texts::{batch, reply_text};
-use entry_book::{Batch, Reply, Shared};
-use shared_registry::{Gate, Naming, OpenGate, Opened, Outcome, Receipt, Registry, Seat};
+use crate::talks::THREADS;
+use crate::telling::{outcome_text, seat_text};
+use crate::turnstile::TURNS;
+use batch_texts::{batch, placed, reply_text};
+use entry_book::Batch;
+use shared_registry::{Gate, Naming, Opened, Receipt, Registry, Seat};
 use spiffe_name::TrustDomain;
 use std::alloc::Global;
-use std::process::Abort;
-use std::sync::Wait;
+use std::collections::VecDeque;
+use std::sync::{Mutex, Wait};
+use std::thread;
+use std::time::{Clock, Duration};
 
-/// A registry, and its trust domain.
-pub struct Site<J: Naming> {
+/// What one seat sends to another: a receipt, and how far it had then seen.
+#[derive(Drop)]
+struct Letter<J: Naming> {
+    receipt: Receipt<J>,
+    place: u64,
+}
+
+/// The letters that wait for one seat.
+type Mailbox<J> = Mutex<VecDeque<Letter<J>>>;
+
+/// A mailbox for each of as many seats as there are threads.
+fn mailboxes<J: Naming>(alloc: Global) -> Result<Vec<Mailbox<J>>, Failed> {
+    let mut mailboxes = Vec::new(alloc);
+    for _ in 0..THREADS {
+        mailboxes.push(Mutex::new(VecDeque::new(alloc)))?;
+    }
+    Ok(mailboxes)
+}
+
+/// How many tries a batch has, which may stand before it, as in `tries 16; delete 1`.
+fn tries_of(text: &str) -> Result<u32, Failed> {
+    let Some(rest) = text.strip_prefix("tries ") else {
+        return Ok(1);
+    };
+    let (tries, _) = rest.split_once("; ").unwrap_or((rest, ""));
+    Ok(tries.parse::<u32>()?)
+}
+
+/// The text of the batch, behind its tries.
+pub fn without_tries(text: &str) -> &str {
+    if !text.starts_with("tries ") {
+        return text;
+    }
+    text.split_once("; ").unwrap_or((text, "")).1
+}
+
+/// A registry, its trust domain, and the mailboxes of its seats, with what threads run it by.
+pub struct Site<'a, J: Naming, R: Wait + Clock> {
+    pub rt: &'a R,
+    pub alloc: Global,
     registry: Registry<J>,
     domain: TrustDomain,
+    mailboxes: Vec<Mailbox<J>>,
     ghost own: { domain ≡ J.domain },
 }
 
-impl<J: Naming> Site<J> {
+impl<'a, J: Naming, R: Wait + Clock> Site<'a, J, R> {
     ghost use Rattle.std.specs.Prelude.{◌≡◌};
 
     /// A site of this history and trust domain, which is told twice.
     pub fn open(
+        rt: &'a R,
         alloc: Global,
         opened: Opened,
         domain: TrustDomain,
         own: TrustDomain,
-    ) -> Result<Site<J>, Failed>
+    ) -> Result<Site<'a, J, R>, Failed>
         requires history { opened.seen.book ≡ J.history }
         requires domain { (domain ≡ J.domain) × (own ≡ J.domain) }
     {
         let registry = Registry::<J>::new(alloc, opened, domain)?;
-        Ok(Site {
-            registry,
-            domain: own,
-        })
+        match mailboxes(alloc) {
+            Ok(mailboxes) => Ok(Site {
+                rt,
+                alloc,
+                registry,
+                domain: own,
+                mailboxes,
+            }),
+            Err(failed) => {
+                registry.close(rt);
+                Err(failed)
+            }
+        }
     }
 
-    pub fn close<R: Wait>(self, rt: &R) {
+    pub fn close(self) {
         let Site {
+            rt,
+            alloc: _,
             registry,
             domain: _,
+            mailboxes: _,
         } = self;
         registry.close(rt);
     }
 
-    pub fn seat<R: Wait>(&self, rt: &R) -> Result<Seat<J>, Failed> {
-        Ok(self.registry.seat(rt)?)
-    }
-
-    /// So many seats.
-    pub fn seats<R: Wait>(
-        &self,
-        rt: &R,
-        alloc: Global,
-        count: u64,
-    ) -> Result<Vec<Seat<J>>, Failed> {
-        let mut seats = Vec::new(alloc);
-        for _ in 0..count {
-            seats.push(self.seat(rt)?)?;
-        }
-        Ok(seats)
-    }
-
-    pub fn news<R: Wait>(&self, rt: &R, seat: &mut Seat<J>) -> Result<Receipt<J>, Failed> {
-        Ok(self.registry.news(rt, seat)?)
+    pub fn seat(&self) -> Result<Seat<J>, Failed> {
+        Ok(self.registry.seat(self.rt)?)
     }
 
     /// How many items are kept.
-    pub fn kept<R: Wait>(&self, rt: &R) -> u64 {
-        self.registry.kept(rt)
+    pub fn kept(&self) -> u64 {
+        self.registry.kept(self.rt)
     }
 
-    /// The answer to a query.
-    pub fn query(&self, seat: &mut Seat<J>, batch: Batch) -> Result<Shared<Reply>, Failed> {
+    /// The last place, as a new seat hears of it.
+    pub fn place(&self) -> Result<u64, Failed> {
+        let mut seat = self.seat()?;
+        self.registry.news(self.rt, &mut seat)?;
+        Ok(seat.place())
+    }
+
+    /// The answer to a query, as text.
+    fn asks(&self, seat: &mut Seat<J>, batch: Batch) -> Result<String, Failed> {
         if batch.domain() != &self.domain || !batch.is_query() || !seat.has_calls() {
-            return Err(Failed::NotAsked);
+            return Err(Failed("a batch isn't for a query"));
         }
-        Ok(self.registry.query(seat, batch)?)
+        let reply = self.registry.query(seat, batch)?;
+        Ok(reply_text(self.alloc, reply.get())?)
     }
 
-    /// What becomes of a batch of changes.
-    pub fn submit<R: Wait, G: Gate>(
+    /// What becomes of a batch of changes, as text.
+    fn does<G: Gate>(
         &self,
-        rt: &R,
         seat: &mut Seat<J>,
         gate: &G,
         batch: Batch,
         tries: u32,
-    ) -> Result<Outcome, Failed> {
+    ) -> Result<String, Failed> {
         if batch.domain() != &self.domain || batch.is_query() || !seat.has_calls() || tries == 0 {
-            return Err(Failed::NotAsked);
+            return Err(Failed("a batch isn't to be handed in"));
         }
-        Ok(self.registry.submit(rt, seat, gate, batch, tries))
+        let outcome = self.registry.submit(self.rt, seat, gate, batch, tries);
+        outcome_text(self.alloc, &outcome)
     }
 
-    /// The answer to the query that a text tells, as text.
-    pub fn asks(&self, alloc: Global, seat: &mut Seat<J>, text: &str) -> Result<String, Failed> {
-        let batch = batch(alloc, text)?;
-        let reply = self.query(seat, batch)?;
-        Ok(reply_text(alloc, reply.get())?)
+    /// What becomes of the batch that a text tells, with its tries.
+    fn runs<G: Gate>(&self, seat: &mut Seat<J>, gate: &G, text: &str) -> Result<String, Failed> {
+        let tries = tries_of(text)?;
+        let batch = batch(self.alloc, without_tries(text))?;
+        if batch.is_query() {
+            return self.asks(seat, batch);
+        }
+        self.does(seat, gate, batch, tries)
     }
 
-    /// What becomes of the changes that a text tells, as text.
-    pub fn does<R: Wait, G: Gate>(
+    /// What becomes of the last of so many batches.
+    fn runs_often(
         &self,
-        rt: &R,
-        alloc: Global,
+        seat: &mut Seat<J>,
+        gate: &impl Gate,
+        text: &str,
+    ) -> Result<String, Failed> {
+        let (times, text) = text.split_once(" ").unwrap_or((text, ""));
+        for _ in 1..times.parse::<u64>()? {
+            self.runs(seat, gate, text)?;
+        }
+        self.runs(seat, gate, text)
+    }
+
+    fn posts(&self, letter: Letter<J>, to: u64) -> Result<(), Failed> {
+        let Some(mailbox) = self.mailboxes.get(to as usize) else {
+            return Err(Failed("no such mailbox"));
+        };
+        mailbox.lock(self.rt).push_back(letter)?;
+        Ok(())
+    }
+
+    /// Sends a receipt of all that was committed to a mailbox, and says how far the seat has then seen.
+    fn sends(&self, seat: &mut Seat<J>, to: &str) -> Result<String, Failed> {
+        let to = to.parse::<u64>()?;
+        let receipt = self.registry.news(self.rt, seat)?;
+        let place = seat.place();
+        self.posts(Letter { receipt, place }, to)?;
+        Ok(placed(self.alloc, "sent", place)?)
+    }
+
+    /// Waits for a letter.
+    fn letter(&self, number: u64) -> Result<Letter<J>, Failed> {
+        let Some(mailbox) = self.mailboxes.get(number as usize) else {
+            return Err(Failed("no such mailbox"));
+        };
+        for _ in 0..TURNS {
+            let letter = mailbox.lock(self.rt).pop_front();
+            if let Some(letter) = letter {
+                return Ok(letter);
+            }
+            thread::sleep(self.rt, Duration::from_millis(1));
+        }
+        Err(Failed("no letter came, as where there is no memory for a thread"))
+    }
+
+    /// Learns a letter's receipt, and says what its place is.
+    fn takes(&self, seat: &mut Seat<J>, number: u64) -> Result<String, Failed> {
+        let letter = self.letter(number)?;
+        let place = letter.place;
+        seat.learn(&letter.receipt);
+        drop(letter);
+        Ok(placed(self.alloc, "taken", place)?)
+    }
+
+    /// What is told to a seat, with the mailbox of a number, that says a line: `SEND 2` sends a receipt to mailbox 2, `TAKE` waits
+    /// for a letter and learns its receipt, `SEAT` tells the seat, `TIMES 3` runs the batch behind it so often; other lines run a
+    /// batch, whose changes pass the gate.
+    pub fn answer<G: Gate>(
+        &self,
         seat: &mut Seat<J>,
         gate: &G,
-        text: &str,
-        tries: u32,
+        number: u64,
+        line: &str,
     ) -> Result<String, Failed> {
-        let batch = batch(alloc, text)?;
-        let outcome = self.submit(rt, seat, gate, batch, tries)?;
-        outcome_text(alloc, &outcome)
-    }
-
-    /// The query that the text tells is answered so.
-    pub fn check_answer<R: Abort>(
-        &self,
-        rt: &R,
-        alloc: Global,
-        seat: &mut Seat<J>,
-        text: &str,
-        want: &str,
-    ) -> Result<(), Failed> {
-        let told = self.asks(alloc, seat, text)?;
-        assert_eq!(rt; told.as_str(), want, "{text}");
-        Ok(())
-    }
-
-    /// The changes that the text tells come to this with one try.
-    pub fn check_outcome<R: Wait + Abort>(
-        &self,
-        rt: &R,
-        alloc: Global,
-        seat: &mut Seat<J>,
-        text: &str,
-        want: &str,
-    ) -> Result<(), Failed> {
-        let told = self.does(rt, alloc, seat, &OpenGate, text, 1)?;
-        assert_eq!(rt; told.as_str(), want, "{text}");
-        Ok(())
+        let (word, rest) = line.split_once(" ").unwrap_or((line, ""));
+        match word {
+            "SEND" => self.sends(seat, rest),
+            "TAKE" => self.takes(seat, number),
+            "SEAT" => seat_text(self.alloc, seat),
+            "TIMES" => self.runs_often(seat, gate, rest),
+            _ => self.runs(seat, gate, line),
+        }
     }
 }

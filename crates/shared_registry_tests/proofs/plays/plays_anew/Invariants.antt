@@ -1,4 +1,4 @@
-use Rattle.shared_registry_tests.proofs.plays.plays.Given as goal
+use Rattle.shared_registry_tests.proofs.plays.plays_anew.Given as goal
 
 -- the history that was just opened, and its trust domain
 abbrev pub ghosts-plays_at : goal.ghosts-plays_at

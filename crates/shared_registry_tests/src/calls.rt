@@ -1,0 +1,162 @@
+//! What are eight threads told that talk to a registry at once?
+
+use crate::failed::Failed;
+use crate::site::Site;
+use crate::talks::{THREADS, Talk, lines_of};
+use crate::telling::{kind_of, place_of};
+use crate::turnstile::Turnstile;
+use crate::wanted::{holds, is_number, is_text};
+use batch_texts::{batch_text, below};
+use shared_registry::{Naming, Seat};
+use std::alloc::Global;
+use std::process::Abort;
+use std::sync::Wait;
+use std::thread::{Threads, map_indices};
+use std::time::Clock;
+
+/// What was said, and what was told.
+#[derive(Drop)]
+pub struct Call {
+    pub text: String,
+    pub told: String,
+}
+
+/// Is it what became of a batch, and not of a letter?
+pub fn is_of_batch(call: &Call) -> bool {
+    !matches!(kind_of(call.told.as_str()), "sent" | "taken")
+}
+
+/// A random batch, with its tries.
+fn drawn(alloc: Global, state: &mut u64, place: u64) -> Result<String, Failed> {
+    let text = batch_text(alloc, state, place)?;
+    let tries = below(state, 3) + 1;
+    let text = text.as_str();
+    Ok(format!(in alloc; "tries {tries}; {text}")?)
+}
+
+/// What is said by a line.
+fn text_of(alloc: Global, line: &str, state: &mut u64, place: u64) -> Result<String, Failed> {
+    if line == "DRAW" {
+        return drawn(alloc, state, place);
+    }
+    let (text, _) = line.split_once(" => ").unwrap_or((line, ""));
+    Ok(String::from_str(alloc, text)?)
+}
+
+/// Behind what became of the batch, and its place, this is told, where the line wants anything.
+fn check_told(rt: &impl Abort, line: &str, told: &str) {
+    if let Some((_, want)) = line.split_once(" => ") {
+        let (_, replies) = told.split_once("; ").unwrap_or((told, ""));
+        is_text(rt, replies, want, line);
+    }
+}
+
+/// A call is told the place that its seat has then seen, or the place of its commit where it is repeated. The seat has seen no less
+/// than it had seen or heard of before, and more where there was a conflict. Answers what the next call has to see at least: of the
+/// place of a letter the seat has heard.
+fn check_place(rt: &impl Abort, told: &str, least: u64, seen: u64) -> Result<u64, Failed> {
+    let place = place_of(told)?;
+    let kind = kind_of(told);
+    if kind == "taken" {
+        return Ok(least.max(place));
+    }
+    if kind != "repeated" {
+        is_number(rt, seen, place, told);
+    }
+    holds(rt, seen >= least, told);
+    holds(rt, kind != "conflict" || seen > least, told);
+    Ok(seen)
+}
+
+fn calls_once<J: Naming, R: Wait + Clock>(
+    site: &Site<J, R>,
+    seat: &mut Seat<J>,
+    gate: &Turnstile<R>,
+    thread: u64,
+    text: String,
+) -> Result<Call, Failed> {
+    let told = site.answer(seat, gate, thread, text.as_str())?;
+    Ok(Call { text, told })
+}
+
+/// The calls of a seat that says these lines.
+fn calls_of<J: Naming, R: Wait + Clock + Abort>(
+    site: &Site<J, R>,
+    seat: &mut Seat<J>,
+    gate: &Turnstile<R>,
+    thread: u64,
+    lines: &str,
+) -> Result<Vec<Call>, Failed> {
+    let mut calls = Vec::new(site.alloc);
+    let (mut state, mut least) = (thread, 0);
+    for line in lines.lines() {
+        let text = text_of(site.alloc, line, &mut state, seat.place())?;
+        let call = calls_once(site, seat, gate, thread, text)?;
+        check_told(site.rt, line, call.told.as_str());
+        least = check_place(site.rt, call.told.as_str(), least, seat.place())?;
+        calls.push(call)?;
+    }
+    Ok(calls)
+}
+
+/// So many of the calls were of batches.
+fn check_count(rt: &impl Abort, calls: &[Call], count: u64) {
+    let mut batches: u64 = 0;
+    for call in calls {
+        batches = batches.wrapping_add(is_of_batch(call) as u64);
+    }
+    is_number(rt, batches, count, "calls");
+}
+
+/// The calls of one thread, at a seat of its own.
+fn calls_of_thread<J: Naming, R: Wait + Clock + Abort>(
+    site: &Site<J, R>,
+    gate: &Turnstile<R>,
+    talk: Talk,
+    thread: u64,
+) -> Result<Vec<Call>, Failed> {
+    let lines = lines_of(site.alloc, talk, thread)?;
+    let mut seat = site.seat()?;
+    let calls = calls_of(site, &mut seat, gate, thread, lines.as_str())?;
+    check_count(site.rt, calls.as_slice(), seat.calls());
+    Ok(calls)
+}
+
+/// The same. When that thread is done, no other waits for it at the gate.
+fn thread_calls<J: Naming, R: Wait + Clock + Abort>(
+    site: &Site<J, R>,
+    gate: &Turnstile<R>,
+    talk: Talk,
+    thread: u64,
+) -> Result<Vec<Call>, Failed> {
+    let calls = calls_of_thread(site, gate, talk, thread);
+    gate.opens();
+    calls
+}
+
+/// What all threads made, in order. The error is the first one's that failed.
+fn joined(alloc: Global, done: Vec<Result<Vec<Call>, Failed>>) -> Result<Vec<Call>, Failed> {
+    let mut all = Vec::new(alloc);
+    for one in done {
+        let mut made = one?;
+        all.append(&mut made)?;
+    }
+    Ok(all)
+}
+
+/// The calls of all threads.
+pub fn calls_of_all<J: Naming + Send + Sync, R: Threads + Wait + Clock + Abort + Sync>(
+    site: &Site<J, R>,
+    gate: &Turnstile<R>,
+    talk: Talk,
+) -> Result<Vec<Call>, Failed> {
+    let done = map_indices(
+        site.rt,
+        site.alloc,
+        THREADS as usize,
+        &|thread: usize| -> Result<Vec<Call>, Failed> {
+            thread_calls(site, gate, talk, thread as u64)
+        },
+    )?;
+    joined(site.alloc, done)
+}

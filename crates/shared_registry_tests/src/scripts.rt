@@ -1,0 +1,209 @@
+//! Scripts of several seats of one thread, or of two where a batch is held on its way.
+//!
+//! `NEW` takes a seat, and `GONE` lets all go; `LEFT` says whether there is a seat more, and `KEPT` how many items are kept. A line
+//! that begins with a number is said by the seat of that number. What stands behind ` => ` is what is told.
+//!
+//! A script may hold a batch of the last seat, `HOLD after its begin: delete 1` or `HOLD under the lock: delete 1`. Each of the
+//! lines behind it is played when that batch came to the point once more, by another thread, before it lets that one on. Behind
+//! `DONE => ` stands how often the batch came there, and what it was told.
+
+use crate::failed::Failed;
+use crate::site::Site;
+use crate::telling::seat_text;
+use crate::turnstile::Turnstile;
+use crate::wanted::is_text;
+use shared_registry::{Naming, OpenGate, Point, Seat};
+use std::process::Abort;
+use std::sync::Wait;
+use std::thread::{Threads, join};
+use std::time::Clock;
+
+/// What is told to the seat whose number begins the line.
+fn seat_answer<J: Naming, R: Wait + Clock>(
+    site: &Site<J, R>,
+    seats: &mut [Seat<J>],
+    line: &str,
+) -> Result<String, Failed> {
+    let (word, rest) = line.split_once(" ").unwrap_or((line, ""));
+    let number = word.parse::<u64>()?;
+    match seats.get_mut(number as usize) {
+        Some(seat) => site.answer(seat, &OpenGate, number, rest),
+        None => Err(Failed("no such seat in a script")),
+    }
+}
+
+/// Takes a seat, and tells it.
+fn takes_seat<J: Naming, R: Wait + Clock>(
+    site: &Site<J, R>,
+    seats: &mut Vec<Seat<J>>,
+) -> Result<String, Failed> {
+    let seat = site.seat()?;
+    let told = seat_text(site.alloc, &seat)?;
+    seats.push(seat)?;
+    Ok(told)
+}
+
+/// Is there a seat more?
+fn seat_left<J: Naming, R: Wait + Clock>(site: &Site<J, R>) -> &'static str {
+    match site.seat() {
+        Ok(_) => "one",
+        Err(_) => "none",
+    }
+}
+
+fn answer<J: Naming, R: Wait + Clock>(
+    site: &Site<J, R>,
+    seats: &mut Vec<Seat<J>>,
+    line: &str,
+) -> Result<String, Failed> {
+    match line {
+        "NEW" => takes_seat(site, seats),
+        "GONE" => {
+            seats.clear();
+            Ok(String::from_str(site.alloc, "gone")?)
+        }
+        "LEFT" => Ok(String::from_str(site.alloc, seat_left(site))?),
+        "KEPT" => {
+            let kept = site.kept();
+            Ok(format!(in site.alloc; "{kept}")?)
+        }
+        _ => seat_answer(site, seats.as_mut_slice(), line),
+    }
+}
+
+fn question_of(line: &str) -> &str {
+    line.split_once(" => ").unwrap_or((line, "")).0
+}
+
+/// This is what the line wants to be told, where it wants anything.
+fn check_told(rt: &impl Abort, line: &str, told: &str) {
+    if let Some((question, want)) = line.split_once(" => ") {
+        is_text(rt, told, want, question);
+    }
+}
+
+fn plays_lines<J: Naming, R: Wait + Clock + Abort>(
+    site: &Site<J, R>,
+    seats: &mut Vec<Seat<J>>,
+    lines: &str,
+) -> Result<(), Failed> {
+    for line in lines.lines() {
+        let told = answer(site, seats, question_of(line))?;
+        check_told(site.rt, line, told.as_str());
+    }
+    Ok(())
+}
+
+/// Plays a line when the batch that is held came so often, and lets that on.
+fn plays_beside<J: Naming, R: Wait + Clock + Abort>(
+    site: &Site<J, R>,
+    seats: &mut [Seat<J>],
+    gate: &Turnstile<R>,
+    line: &str,
+    count: u64,
+) -> Result<(), Failed> {
+    if !gate.holds(count) {
+        return Err(Failed("nobody came, as where there is no memory for a thread"));
+    }
+    let told = seat_answer(site, seats, question_of(line))?;
+    check_told(site.rt, line, told.as_str());
+    gate.lets_on(count);
+    Ok(())
+}
+
+fn plays_all_beside<J: Naming, R: Wait + Clock + Abort>(
+    site: &Site<J, R>,
+    seats: &mut [Seat<J>],
+    gate: &Turnstile<R>,
+    lines: &str,
+) -> Result<(), Failed> {
+    let mut count: u64 = 0;
+    for line in lines.lines() {
+        count = count.wrapping_add(1);
+        plays_beside(site, seats, gate, line, count)?;
+    }
+    Ok(())
+}
+
+/// Plays the lines beside the batch that is held. Then it is held no longer, however that went.
+fn overtakes<J: Naming, R: Wait + Clock + Abort>(
+    site: &Site<J, R>,
+    seats: &mut [Seat<J>],
+    gate: &Turnstile<R>,
+    lines: &str,
+) -> Result<(), Failed> {
+    let played = plays_all_beside(site, seats, gate, lines);
+    gate.opens();
+    played
+}
+
+/// What the batch is told that a line holds. Nothing is asserted of it here: the lines beside it may have failed.
+fn is_held<J: Naming, R: Wait + Clock>(
+    site: &Site<J, R>,
+    seat: &mut Seat<J>,
+    gate: &Turnstile<R>,
+    line: &str,
+) -> Result<String, Failed> {
+    let (_, text) = line.split_once(": ").unwrap_or((line, ""));
+    let told = site.answer(seat, gate, 0, text);
+    gate.leaves();
+    told
+}
+
+/// What the last seat's batch is told, which the first of the lines holds; the others are played beside it.
+fn told_beside<J: Naming + Send + Sync, R: Threads + Wait + Clock + Abort + Sync>(
+    site: &Site<J, R>,
+    seats: &mut [Seat<J>],
+    gate: &Turnstile<R>,
+    lines: &str,
+) -> Result<String, Failed> {
+    let (line, beside) = lines.split_once("\n").unwrap_or((lines, ""));
+    let Some((held, others)) = seats.split_last_mut() else {
+        return Err(Failed("no seat in a script"));
+    };
+    let (told, played) = join(
+        site.rt,
+        || is_held(site, held, gate, line),
+        || overtakes(site, others, gate, beside),
+    );
+    played?;
+    told
+}
+
+/// The point at which a line holds a batch.
+fn point_of(line: &str) -> Point {
+    if line.starts_with("under the lock: ") {
+        return Point::BeforeCommit;
+    }
+    Point::AfterBegin
+}
+
+/// How often the batch that the first line holds came to its point, and what it is told.
+fn plays_held<J: Naming + Send + Sync, R: Threads + Wait + Clock + Abort + Sync>(
+    site: &Site<J, R>,
+    seats: &mut Vec<Seat<J>>,
+    lines: &str,
+) -> Result<String, Failed> {
+    let last = seats.len().saturating_sub(1);
+    let gate = Turnstile::new(site.rt, point_of(lines), last, u64::MAX);
+    let told = told_beside(site, seats.as_mut_slice(), &gate, lines)?;
+    let (passes, told) = (gate.passes()?, told.as_str());
+    Ok(format!(in site.alloc; "{passes}; {told}")?)
+}
+
+/// Plays a script.
+pub fn plays_script<J: Naming + Send + Sync, R: Threads + Wait + Clock + Abort + Sync>(
+    site: &Site<J, R>,
+    script: &str,
+) -> Result<(), Failed> {
+    let mut seats = Vec::new(site.alloc);
+    let (before, rest) = script.split_once("HOLD ").unwrap_or((script, ""));
+    plays_lines(site, &mut seats, before)?;
+    if let Some((lines, rest)) = rest.split_once("DONE => ") {
+        let (want, after) = rest.split_once("\n").unwrap_or((rest, ""));
+        let told = plays_held(site, &mut seats, lines)?;
+        is_text(site.rt, told.as_str(), want, "DONE");
+        plays_lines(site, &mut seats, after)?;
+    }
+    Ok(())
+}
