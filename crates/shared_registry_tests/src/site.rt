@@ -7,7 +7,7 @@ use crate::talks::THREADS;
 use crate::telling::{outcome_text, seat_text};
 use crate::turnstile::TURNS;
 use batch_texts::{batch, placed, reply_text};
-use entry_book::Batch;
+use entry_book::{Batch, Reply, Shared};
 use shared_registry::{Gate, Naming, Opened, Receipt, Registry, Seat};
 use spiffe_name::TrustDomain;
 use std::alloc::Global;
@@ -50,6 +50,26 @@ pub fn without_tries(text: &str) -> &str {
         return text;
     }
     text.split_once("; ").unwrap_or((text, "")).1
+}
+
+/// The answer to a query. There is nothing here to wait with.
+fn query<J: Naming>(
+    registry: &Registry<J>,
+    own: &TrustDomain,
+    seat: &mut Seat<J>,
+    batch: Batch,
+) -> Result<Shared<Reply>, Failed>
+    requires { own.now ≡ J.domain }
+{
+    if batch.domain() != own || !batch.is_query() || !seat.has_calls() {
+        return Err(Failed("a batch isn't for a query"));
+    }
+    Ok(registry.query(seat, batch)?)
+}
+
+/// Learns a receipt. There is nothing here to wait with, either.
+fn learn<J: Naming>(seat: &mut Seat<J>, receipt: &Receipt<J>) {
+    seat.learn(receipt);
 }
 
 /// A registry, its trust domain, and the mailboxes of its seats, with what threads run it by.
@@ -121,10 +141,7 @@ impl<'a, J: Naming, R: Wait + Clock> Site<'a, J, R> {
 
     /// The answer to a query, as text.
     fn asks(&self, seat: &mut Seat<J>, batch: Batch) -> Result<String, Failed> {
-        if batch.domain() != &self.domain || !batch.is_query() || !seat.has_calls() {
-            return Err(Failed("a batch isn't for a query"));
-        }
-        let reply = self.registry.query(seat, batch)?;
+        let reply = query(&self.registry, &self.domain, seat, batch)?;
         Ok(reply_text(self.alloc, reply.get())?)
     }
 
@@ -203,7 +220,7 @@ impl<'a, J: Naming, R: Wait + Clock> Site<'a, J, R> {
     fn takes(&self, seat: &mut Seat<J>, number: u64) -> Result<String, Failed> {
         let letter = self.letter(number)?;
         let place = letter.place;
-        seat.learn(&letter.receipt);
+        learn(seat, &letter.receipt);
         drop(letter);
         Ok(placed(self.alloc, "taken", place)?)
     }
