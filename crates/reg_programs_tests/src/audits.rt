@@ -1,7 +1,7 @@
 //! Records, and the verdicts on them.
 
-use crate::engine::told_of_words;
-use crate::wanted::{holds, is_written};
+use crate::engine::program_writes;
+use crate::lines::add_line_of;
 use reg_programs::Outcome;
 use std::alloc::Global;
 use std::process::Abort;
@@ -11,23 +11,43 @@ use std::test::Fail;
 fn is_audited(
     rt: &impl Abort,
     alloc: Global,
-    lines: &str,
+    lines: &[u8],
     outcome: Outcome,
-    wanted: &str,
+    want: &str,
 ) -> Result<(), Fail> {
-    let words = ["regd", "audit", "--domain", "ex.org"];
-    let (ended, bytes) = told_of_words(rt, alloc, &words, lines.as_bytes())?;
-    is_written(rt, &bytes, wanted);
-    holds(rt, ended == outcome, wanted);
+    program_writes(
+        rt,
+        alloc,
+        "regd|audit|--domain|ex.org",
+        outcome,
+        lines,
+        want,
+    )
+}
+
+/// The lines are no good record, or a list of them: this is their verdict.
+fn is_denied(rt: &impl Abort, alloc: Global, lines: &[u8], verdict: &str) -> Result<(), Fail> {
+    let want = format!(in alloc; "{verdict}\n")?;
+    is_audited(rt, alloc, lines, Outcome::Denied, want.as_str())
+}
+
+/// Each line of the table that tells a verdict is that on the lines before it, folded as in `lines`, up to the verdict before.
+fn are_denied(rt: &impl Abort, alloc: Global, table: &str) -> Result<(), Fail> {
+    let mut lines = Vec::new(alloc);
+    for line in table.lines() {
+        if line.starts_with("{\"audit\":") {
+            is_denied(rt, alloc, &lines, line)?;
+            lines.clear();
+        } else if !line.is_empty() {
+            add_line_of(alloc, &mut lines, line)?;
+        }
+    }
     Ok(())
 }
 
-/// Each of these lists of records gets its verdict.
-fn are_denied(rt: &impl Abort, alloc: Global, tables: &[(&str, &str)]) -> Result<(), Fail> {
-    for (lines, wanted) in tables {
-        is_audited(rt, alloc, lines, Outcome::Denied, wanted)?;
-    }
-    Ok(())
+/// Records that are all good.
+fn are_good(rt: &impl Abort, alloc: Global, lines: &str, want: &str) -> Result<(), Fail> {
+    is_audited(rt, alloc, lines.as_bytes(), Outcome::Done, want)
 }
 
 /// Two creates of the same group: the second one is refused with the first one's id.
@@ -38,24 +58,17 @@ const CREATED: &str =
 
 #[test]
 fn records_of_two_calls_are_audited_yes(rt: HostRuntime) -> Result<(), Fail> {
-    is_audited(
+    are_good(
         &rt,
         rt.alloc(),
         CREATED,
-        Outcome::Done,
         "{\"audit\":\"yes\",\"calls\":2}\n",
     )
 }
 
 #[test]
 fn no_records_are_audited_yes(rt: HostRuntime) -> Result<(), Fail> {
-    is_audited(
-        &rt,
-        rt.alloc(),
-        "",
-        Outcome::Done,
-        "{\"audit\":\"yes\",\"calls\":0}\n",
-    )
+    are_good(&rt, rt.alloc(), "", "{\"audit\":\"yes\",\"calls\":0}\n")
 }
 
 /// A committed call may not have replied, and the keys and escapes of a reply may stand otherwise than they are written.
@@ -66,78 +79,55 @@ const UNREPLIED: &str =
 
 #[test]
 fn a_committed_call_may_not_have_replied(rt: HostRuntime) -> Result<(), Fail> {
-    is_audited(
+    are_good(
         &rt,
         rt.alloc(),
         UNREPLIED,
-        Outcome::Done,
         "{\"audit\":\"yes\",\"calls\":2}\n",
     )
 }
 
 /// Of two records each cause, and where several hold the first: the number of a call before its stamps, these before the order,
 /// and that before the reply.
-const BAD_SECOND: [(&str, &str); 6] = [
-    (
-        r#"{"batch":{"ops":[{"op":"show_bundle","domain":"b.org"}]},"call":1,"invoked":5,"replied":9,"reply":{"call":1,"place":0,"replies":[{"bundle":null}],"result":"answered"}}
+const BAD_SECOND: &str = r#"
+{"batch":{"ops":[{"op":"show_bundle","domain":"b.org"}]},"call":1,"invoked":5,"replied":9,"reply":{"call":1,"place":0,"replies":[{"bundle":null}],"result":"answered"}}
 {"batch":{"ops":[{"op":"show_bundle","domain":"b.org"}]},"call":1,"invoked":4,"replied":4,"reply":{}}
-"#,
-        "{\"audit\":\"no\",\"line\":2,\"why\":\"call\"}\n",
-    ),
-    (
-        r#"{"batch":{"ops":[{"op":"show_bundle","domain":"b.org"}]},"call":1,"invoked":5,"replied":9,"reply":{"call":1,"place":0,"replies":[{"bundle":null}],"result":"answered"}}
+{"audit":"no","line":2,"why":"call"}
+{"batch":{"ops":[{"op":"show_bundle","domain":"b.org"}]},"call":1,"invoked":5,"replied":9,"reply":{"call":1,"place":0,"replies":[{"bundle":null}],"result":"answered"}}
 {"batch":{"ops":[{"op":"show_bundle","domain":"b.org"}]},"call":2,"invoked":4,"replied":4,"reply":{}}
-"#,
-        "{\"audit\":\"no\",\"line\":2,\"why\":\"stamps\"}\n",
-    ),
-    (
-        r#"{"batch":{"ops":[{"op":"show_bundle","domain":"b.org"}]},"call":1,"invoked":5,"replied":9,"reply":{"call":1,"place":0,"replies":[{"bundle":null}],"result":"answered"}}
+{"audit":"no","line":2,"why":"stamps"}
+{"batch":{"ops":[{"op":"show_bundle","domain":"b.org"}]},"call":1,"invoked":5,"replied":9,"reply":{"call":1,"place":0,"replies":[{"bundle":null}],"result":"answered"}}
 {"batch":{"ops":[{"op":"show_bundle","domain":"b.org"}]},"call":2,"invoked":1,"replied":null,"reply":{"call":2,"place":0,"replies":[{"bundle":null}],"result":"answered"}}
-"#,
-        "{\"audit\":\"no\",\"line\":2,\"why\":\"stamps\"}\n",
-    ),
-    (
-        r#"{"batch":{"ops":[{"op":"show_bundle","domain":"b.org"}]},"call":1,"invoked":5,"replied":9,"reply":{"call":1,"place":0,"replies":[{"bundle":null}],"result":"answered"}}
+{"audit":"no","line":2,"why":"stamps"}
+{"batch":{"ops":[{"op":"show_bundle","domain":"b.org"}]},"call":1,"invoked":5,"replied":9,"reply":{"call":1,"place":0,"replies":[{"bundle":null}],"result":"answered"}}
 {"batch":{"ops":[{"op":"show_bundle","domain":"b.org"}]},"call":2,"invoked":1,"replied":4,"reply":{}}
-"#,
-        "{\"audit\":\"no\",\"line\":2,\"why\":\"order\"}\n",
-    ),
-    (
-        r#"{"batch":{"ops":[{"op":"show_bundle","domain":"b.org"}]},"call":1,"invoked":5,"replied":9,"reply":{"call":1,"place":0,"replies":[{"bundle":null}],"result":"answered"}}
+{"audit":"no","line":2,"why":"order"}
+{"batch":{"ops":[{"op":"show_bundle","domain":"b.org"}]},"call":1,"invoked":5,"replied":9,"reply":{"call":1,"place":0,"replies":[{"bundle":null}],"result":"answered"}}
 {"batch":{"ops":[{"op":"show_bundle","domain":"b.org"}]},"call":2,"invoked":1,"replied":5,"reply":{"call":1,"place":0,"replies":[{"bundle":null}],"result":"answered"}}
-"#,
-        "{\"audit\":\"no\",\"line\":2,\"why\":\"reply\"}\n",
-    ),
-    (
-        r#"{"batch":{"ops":[{"op":"show_bundle","domain":"b.org"}]},"call":1,"invoked":5,"replied":9,"reply":{"call":1,"place":0,"replies":[{"bundle":null}],"result":"answered"}}
+{"audit":"no","line":2,"why":"reply"}
+{"batch":{"ops":[{"op":"show_bundle","domain":"b.org"}]},"call":1,"invoked":5,"replied":9,"reply":{"call":1,"place":0,"replies":[{"bundle":null}],"result":"answered"}}
 {"batch":{"ops":[{"op":"show_bundle","domain":"b.org"}]},"call":2,"invoked":1,"replied":5,"reply":{"call":2,"place":0.0,"replies":[{"bundle":null}],"result":"answered"}}
-"#,
-        "{\"audit\":\"no\",\"line\":2,\"why\":\"reply\"}\n",
-    ),
-];
+{"audit":"no","line":2,"why":"reply"}
+"#;
 
 #[test]
 fn the_first_cause_is_told(rt: HostRuntime) -> Result<(), Fail> {
-    are_denied(&rt, rt.alloc(), &BAD_SECOND)
+    are_denied(&rt, rt.alloc(), BAD_SECOND)
 }
 
 /// Lines that spell no record; a create has to have its id.
-const NO_RECORDS: [(&str, &str); 4] = [
-    ("\n", "{\"audit\":\"no\",\"line\":1,\"why\":\"L2\"}\n"),
-    ("{}", "{\"audit\":\"no\",\"line\":1,\"why\":\"L3\"}\n"),
-    (
-        r#"{"batch":{"ops":[]},"call":1,"invoked":5,"replied":9,"reply":{}}
-"#,
-        "{\"audit\":\"no\",\"line\":1,\"why\":\"B1\"}\n",
-    ),
-    (
-        r#"{"batch":{"ops":[{"op":"create","parent":"spiffe://ex.org/spire/agent/n1","identity":"spiffe://ex.org/web","selectors":["u:1"]}]},"call":1,"invoked":5,"replied":9,"reply":{}}
-"#,
-        "{\"audit\":\"no\",\"line\":1,\"why\":\"L5\"}\n",
-    ),
-];
+const NO_RECORDS: &str = r#"
+«0*»
+{"audit":"no","line":1,"why":"L2"}
+{}«»
+{"audit":"no","line":1,"why":"L3"}
+{"batch":{"ops":[]},"call":1,"invoked":5,"replied":9,"reply":{}}
+{"audit":"no","line":1,"why":"B1"}
+{"batch":{"ops":[{"op":"create","parent":"spiffe://ex.org/spire/agent/n1","identity":"spiffe://ex.org/web","selectors":["u:1"]}]},"call":1,"invoked":5,"replied":9,"reply":{}}
+{"audit":"no","line":1,"why":"L5"}
+"#;
 
 #[test]
 fn a_line_that_spells_no_record_is_told_by_its_code(rt: HostRuntime) -> Result<(), Fail> {
-    are_denied(&rt, rt.alloc(), &NO_RECORDS)
+    are_denied(&rt, rt.alloc(), NO_RECORDS)
 }

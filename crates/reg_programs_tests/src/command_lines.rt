@@ -2,7 +2,7 @@
 
 use crate::wanted::{holds, is_text};
 use reg_programs::{
-    CommandLineFault, Ended, Outcome, Program, RunFault, ServeFault, Settings,
+    CommandLineFault, Ended, Outcome, Program, RunFault, ServeFault, ServerPlan, Settings,
     a_line_gives_its_domain,
 };
 use spiffe_name::IdRefusal;
@@ -11,7 +11,7 @@ use std::process::Abort;
 use std::test::Fail;
 
 /// The words of a command line, which stand between bars.
-fn words_of<'a>(alloc: Global, line: &'a str) -> Result<Vec<&'a str>, Fail> {
+pub fn words_of<'a>(alloc: Global, line: &'a str) -> Result<Vec<&'a str>, Fail> {
     let mut words = Vec::new(alloc);
     for word in line.split('|') {
         words.push(word)?;
@@ -21,34 +21,52 @@ fn words_of<'a>(alloc: Global, line: &'a str) -> Result<Vec<&'a str>, Fail> {
 
 /// The status of an end, and its text with `$` for each line feed.
 fn told_of(alloc: Global, ended: Ended) -> Result<String, Fail> {
-    let text = ended.told.to_string(alloc)?.replace(alloc, "\n", "$")?;
-    Ok(format!(in alloc; "{} {text}", ended.status)?)
+    let status = ended.status;
+    let text = ended.told.to_string(alloc)?;
+    let text = text.replace(alloc, "\n", "$")?;
+    Ok(format!(in alloc; "{status} {text}")?)
 }
 
-/// What is told of a command line; of settings the program, the domain and the last byte of the seed.
+/// A program, and the word by which a command line names it.
+fn program_text(alloc: Global, program: Program) -> Result<String, Fail> {
+    let name = program.name();
+    let program = match program {
+        Program::Plain => "plain",
+        Program::Schedule => "schedule",
+        Program::Record => "record",
+        Program::Audit => "audit",
+        Program::Serve => "serve",
+    };
+    Ok(format!(in alloc; "{program} by {name}")?)
+}
+
+/// What settings ask for: the program, the domain and the last byte of the seed; of a server its address, its workers and its
+/// connections.
+fn settings_text(alloc: Global, settings: &Settings) -> Result<String, Fail> {
+    if let Some(plan) = settings.server() {
+        let ServerPlan {
+            listen,
+            workers,
+            connections,
+        } = plan;
+        return Ok(format!(in alloc; "{listen} {workers} {connections}")?);
+    }
+    let [.., last] = settings.seed();
+    let program = program_text(alloc, settings.program())?;
+    let domain = settings.domain();
+    Ok(format!(in alloc; "{program} {domain} {last}")?)
+}
+
+/// What is told of a command line.
 fn told(alloc: Global, words: &[&str]) -> Result<String, Fail> {
     match Settings::from_words(alloc, words) {
-        Ok(settings) => {
-            let [.., last] = settings.seed();
-            let program = settings.program().name();
-            Ok(format!(in alloc; "0 {program} {} {last}", settings.domain())?)
-        }
+        Ok(settings) => settings_text(alloc, &settings),
         Err(CommandLineFault::NoMemory) => Err(Fail::from("no memory")),
         Err(fault) => told_of(alloc, Ended::of(Err(fault))),
     }
 }
 
-/// Each line of the table is a command line and what is told of it: all of it, or what stands before a `*`.
-fn are_told(rt: &impl Abort, alloc: Global, table: &str) -> Result<(), Fail> {
-    for case in table.lines() {
-        if let Some((line, want)) = case.split_once(" => ") {
-            let told = told(alloc, &words_of(alloc, line)?)?;
-            is_or_begins(rt, told.as_str(), want);
-        }
-    }
-    Ok(())
-}
-
+/// The text is this one, or begins with what stands before a `*`.
 fn is_or_begins(rt: &impl Abort, got: &str, want: &str) {
     match want.strip_suffix('*') {
         Some(start) => holds(rt, got.starts_with(start), got),
@@ -56,221 +74,197 @@ fn is_or_begins(rt: &impl Abort, got: &str, want: &str) {
     }
 }
 
+/// A command line, and what is told of it.
+fn is_told(rt: &impl Abort, alloc: Global, line: &str, want: &str) -> Result<(), Fail> {
+    let words = words_of(alloc, line)?;
+    let told = told(alloc, &words)?;
+    is_or_begins(rt, told.as_str(), want);
+    Ok(())
+}
+
+/// Each line of the table is a command line and what is told of it: all of it, or what stands before a `*`.
+fn are_told(rt: &impl Abort, alloc: Global, table: &str) -> Result<(), Fail> {
+    for case in table.lines() {
+        if let Some((line, want)) = case.split_once(" => ") {
+            is_told(rt, alloc, line, want)?;
+        }
+    }
+    Ok(())
+}
+
+/// A domain by each form of its option, and behind any name of the program.
+const DOMAINS: &str = "
+regd|plain|--domain|ex.org => plain by plain ex.org 0
+./out/regd|plain|--domain=ex.org => plain by plain ex.org 0
+|plain|--domain|ex.org|-- => plain by plain ex.org 0
+";
+
 #[test]
 fn settings_have_the_domain_that_was_given(rt: HostRuntime) -> Result<(), Fail> {
     a_line_gives_its_domain();
-    are_told(
-        &rt,
-        rt.alloc(),
-        "\
-regd|plain|--domain|ex.org => 0 plain ex.org 0
-./out/regd|plain|--domain=ex.org => 0 plain ex.org 0
-|plain|--domain|ex.org|-- => 0 plain ex.org 0",
-    )
+    are_told(&rt, rt.alloc(), DOMAINS)
 }
 
-/// The program that is asked for by these words.
-fn program_of(alloc: Global, line: &str) -> Result<Program, Fail> {
-    let words = words_of(alloc, line)?;
-    let settings = Settings::from_words(alloc, &words)
-        .ok()
-        .ok_or("no settings")?;
-    Ok(settings.program())
-}
+const RECORDS: &str = "
+regd|plain|--domain|ex.org => plain by plain ex.org 0
+regd|schedule|--domain|ex.org => schedule by schedule ex.org 0
+regd|schedule|--domain|ex.org|--record => record by schedule ex.org 0
+regd|schedule|--record|--domain=ex.org => record by schedule ex.org 0
+regd|plain|--domain|ex.org|--record => 2 error: unexpected argument '--record' found$*
+";
 
 #[test]
 fn records_are_asked_for_by_a_word_of_their_own(rt: HostRuntime) -> Result<(), Fail> {
-    let lines = [
-        ("regd|plain|--domain|ex.org", Program::Plain),
-        ("regd|schedule|--domain|ex.org", Program::Schedule),
-        ("regd|schedule|--domain|ex.org|--record", Program::Record),
-        ("regd|schedule|--record|--domain=ex.org", Program::Record),
-    ];
-    for (line, program) in lines {
-        holds(&rt, program_of(rt.alloc(), line)? == program, line);
-    }
-    are_told(
-        &rt,
-        rt.alloc(),
-        "\
-regd|plain|--domain|ex.org => 0 plain *
-regd|schedule|--domain|ex.org => 0 schedule *
-regd|schedule|--domain|ex.org|--record => 0 schedule *
-regd|schedule|--record|--domain=ex.org => 0 schedule *
-regd|plain|--domain|ex.org|--record => 2 error: unexpected argument '--record' found$*",
-    )
+    are_told(&rt, rt.alloc(), RECORDS)
 }
 
 /// The seed is that of zeros but for its last byte, as its last two digits say.
-#[test]
-fn a_seed_is_64_lower_case_hexadecimal_digits(rt: HostRuntime) -> Result<(), Fail> {
-    are_told(
-        &rt,
-        rt.alloc(),
-        "\
-regd|plain|--domain|ex.org|--seed|00000000000000000000000000000000000000000000000000000000000000ab => 0 plain ex.org 171
+const SEEDS: &str = "
+regd|plain|--domain|ex.org|--seed|00000000000000000000000000000000000000000000000000000000000000ab => plain by plain ex.org 171
 regd|plain|--domain|ex.org|--seed|00000000000000000000000000000000000000000000000000000000000000aB => 2 regd: seed$
 regd|plain|--domain|ex.org|--seed|00000000000000000000000000000000000000000000000000000000000000ag => 2 regd: seed$
 regd|plain|--domain|ex.org|--seed|00000000000000000000000000000000000000000000000000000000000000a => 2 regd: seed$
 regd|plain|--domain|ex.org|--seed|00000000000000000000000000000000000000000000000000000000000000ab0 => 2 regd: seed$
 regd|plain|--domain|ex.org|--seed|000000000000000000000000000000000000000000000000000000000000ab => 2 regd: seed$
-regd|plain|--seed||--domain|ex.org => 2 regd: seed$",
-    )
-}
+regd|plain|--seed||--domain|ex.org => 2 regd: seed$
+";
 
 #[test]
-fn a_domain_that_is_none_is_refused_with_its_code(rt: HostRuntime) -> Result<(), Fail> {
-    are_told(
-        &rt,
-        rt.alloc(),
-        "\
+fn a_seed_is_64_lower_case_hexadecimal_digits(rt: HostRuntime) -> Result<(), Fail> {
+    are_told(&rt, rt.alloc(), SEEDS)
+}
+
+const NO_DOMAINS: &str = "
 regd|plain|--seed|x|--domain|a/b => 2 regd: domain I5$
 regd|plain|--domain|Ex.org => 2 regd: domain I5$
 regd|plain|--domain| => 2 regd: domain I3$
-regd|plain|--domain=a/b => 2 regd: domain I5$",
-    )
+regd|plain|--domain=a/b => 2 regd: domain I5$
+";
+
+#[test]
+fn a_domain_that_is_none_is_refused_with_its_code(rt: HostRuntime) -> Result<(), Fail> {
+    are_told(&rt, rt.alloc(), NO_DOMAINS)
 }
 
 /// The parser's refusals come before the domain's, which is bad here wherever it is given.
-#[test]
-fn the_parser_refuses_every_other_word(rt: HostRuntime) -> Result<(), Fail> {
-    let told = told(rt.alloc(), &[])?;
-    let want = "2 error: 'regd' requires a subcommand but one was not provided$*";
-    is_or_begins(&rt, told.as_str(), want);
-    are_told(
-        &rt,
-        rt.alloc(),
-        "\
+const OTHER_WORDS: &str = "
 regd => 2 error: 'regd' requires a subcommand but one was not provided$*
 regd|session|--domain|A => 2 error: unrecognized subcommand 'session'$*
 regd|plain => 2 error: the following required arguments were not provided:$  --domain <D>$*
 regd|plain|--domain => 2 error: a value is required for '--domain <D>' but none was supplied$*
 regd|plain|--domain|A|--nope => 2 error: unexpected argument '--nope' found$*
 regd|--help => 2 A workload registration server$$Usage: regd <COMMAND>$*
-regd|plain|--domain|A|-h => 2 Answers request lines on a plain book*",
-    )
+regd|plain|--domain|A|-h => 2 Answers request lines on a plain book*
+";
+
+#[test]
+fn the_parser_refuses_every_other_word(rt: HostRuntime) -> Result<(), Fail> {
+    let told = told(rt.alloc(), &[])?;
+    let want = "2 error: 'regd' requires a subcommand but one was not provided$*";
+    is_or_begins(&rt, told.as_str(), want);
+    are_told(&rt, rt.alloc(), OTHER_WORDS)
 }
 
-/// What a command line asks of a server: its address, its workers and its connections, or else its fault.
-fn asked(alloc: Global, words: &[&str]) -> Result<String, Fail> {
-    match Settings::from_words(alloc, words) {
-        Ok(settings) => {
-            let plan = settings.server().ok_or("no server")?;
-            Ok(format!(in alloc; "{} {} {}", plan.listen, plan.workers, plan.connections)?)
-        }
-        Err(fault) => told_of(alloc, Ended::of(Err(fault))),
-    }
-}
-
-/// Each line of the table has the words behind `regd|serve` and what comes of them, or a beginning of it before a `*`.
-fn servers_are_asked_for(rt: &impl Abort, alloc: Global, table: &str) -> Result<(), Fail> {
-    for case in table.lines() {
-        if let Some((line, want)) = case.split_once(" => ") {
-            let line = format!(in alloc; "regd|serve|{line}")?;
-            let asked = asked(alloc, &words_of(alloc, line.as_str())?)?;
-            is_or_begins(rt, asked.as_str(), want);
-        }
-    }
-    Ok(())
-}
+const SERVERS: &str = "
+regd|serve|--domain|ex.org|--connections|1|--listen|127.0.0.1:0|--workers|1 => 127.0.0.1:0 1 1
+regd|serve|--domain|ex.org|--connections|65535|--listen|0.0.0.0:65535|--workers|32 => 0.0.0.0:65535 32 65535
+regd|serve|--domain|ex.org|--connections|1|--listen|localhost:80|--workers|1 => 2 regd: listen$
+regd|serve|--domain|ex.org|--connections|1|--listen|[::1]:80|--workers|1 => 2 regd: listen$
+regd|serve|--domain|ex.org|--connections|1|--listen|127.0.0.1|--workers|1 => 2 regd: listen$
+regd|serve|--domain|ex.org|--connections|1|--listen|127.0.0.1:65536|--workers|1 => 2 regd: listen$
+";
 
 #[test]
 fn a_server_is_asked_for_by_its_address_and_its_numbers(rt: HostRuntime) -> Result<(), Fail> {
-    servers_are_asked_for(
-        &rt,
-        rt.alloc(),
-        "\
---domain|ex.org|--connections|1|--listen|127.0.0.1:0|--workers|1 => 127.0.0.1:0 1 1
---domain|ex.org|--connections|65535|--listen|0.0.0.0:65535|--workers|32 => 0.0.0.0:65535 32 65535
---domain|ex.org|--connections|1|--listen|localhost:80|--workers|1 => 2 regd: listen$
---domain|ex.org|--connections|1|--listen|[::1]:80|--workers|1 => 2 regd: listen$
---domain|ex.org|--connections|1|--listen|127.0.0.1|--workers|1 => 2 regd: listen$
---domain|ex.org|--connections|1|--listen|127.0.0.1:65536|--workers|1 => 2 regd: listen$",
-    )
+    are_told(&rt, rt.alloc(), SERVERS)
 }
 
 /// The parser's refusals come first, and then the domain, the seed and the address.
+const FAULTS_OF_SERVERS: &str = "
+regd|serve|--domain|A|--seed|x|--listen|here|--workers|0|--connections|1 => 2 error: invalid value '0' for '--workers <N>'*
+regd|serve|--domain|A|--seed|x|--listen|here|--workers|33|--connections|1 => 2 error: invalid value '33' for '--workers <N>'*
+regd|serve|--domain|A|--seed|x|--listen|here|--workers|two|--connections|1 => 2 error: invalid value 'two' for '--workers <N>'*
+regd|serve|--domain|A|--seed|x|--listen|here|--workers|1|--connections|0 => 2 error: invalid value '0' for '--connections <C>'*
+regd|serve|--domain|A|--seed|x|--listen|here|--workers|1|--connections|65536 => 2 error: invalid value '65536' for '--connections <C>'*
+regd|serve|--domain|A|--seed|x|--listen|here|--workers|1|--connections|1 => 2 regd: domain I5$
+regd|serve|--domain|ex.org|--seed|x|--listen|here|--workers|1|--connections|1 => 2 regd: seed$
+regd|serve|--domain|ex.org|--seed|0000000000000000000000000000000000000000000000000000000000000000|--listen|here|--workers|1|--connections|1 => 2 regd: listen$
+";
+
 #[test]
 fn the_first_fault_of_a_server_is_told(rt: HostRuntime) -> Result<(), Fail> {
-    servers_are_asked_for(
-        &rt,
-        rt.alloc(),
-        "\
---domain|A|--seed|x|--listen|here|--workers|0|--connections|1 => 2 error: invalid value '0' for '--workers <N>'*
---domain|A|--seed|x|--listen|here|--workers|33|--connections|1 => 2 error: invalid value '33' for '--workers <N>'*
---domain|A|--seed|x|--listen|here|--workers|two|--connections|1 => 2 error: invalid value 'two' for '--workers <N>'*
---domain|A|--seed|x|--listen|here|--workers|1|--connections|0 => 2 error: invalid value '0' for '--connections <C>'*
---domain|A|--seed|x|--listen|here|--workers|1|--connections|65536 => 2 error: invalid value '65536' for '--connections <C>'*
---domain|A|--seed|x|--listen|here|--workers|1|--connections|1 => 2 regd: domain I5$
---domain|ex.org|--seed|x|--listen|here|--workers|1|--connections|1 => 2 regd: seed$
---domain|ex.org|--seed|0000000000000000000000000000000000000000000000000000000000000000|--listen|here|--workers|1|--connections|1 => 2 regd: listen$",
-    )
+    are_told(&rt, rt.alloc(), FAULTS_OF_SERVERS)
 }
 
-/// Adds what is told of an end, as a line that a dot ends.
-fn add_end(alloc: Global, all: &mut String, ended: Ended) -> Result<(), Fail> {
-    let told = told_of(alloc, ended)?;
-    all.push_str(told.as_str())?;
-    all.push_str(".\n")?;
+/// The end that this word names.
+fn end(word: &str) -> Result<Ended, Fail> {
+    match word {
+        "done" => Ok(Ended::of(Ok(Ok(Outcome::Done)))),
+        "denied" => Ok(Ended::of(Ok(Ok(Outcome::Denied)))),
+        "input" => Ok(Ended::of(Ok(Err(RunFault::Input)))),
+        "output" => Ok(Ended::of(Ok(Err(RunFault::Output)))),
+        "memory" => Ok(Ended::of(Ok(Err(RunFault::NoMemory)))),
+        "domain" => Ok(Ended::of(Err(CommandLineFault::Domain(IdRefusal::DomainTooLong)))),
+        "seed" => Ok(Ended::of(Err(CommandLineFault::Seed))),
+        "address" => Ok(Ended::of(Err(CommandLineFault::Address))),
+        "not-text" => Ok(Ended::of(Err(CommandLineFault::NotText))),
+        "line-memory" => Ok(Ended::of(Err(CommandLineFault::NoMemory))),
+        _ => end_of_server(word),
+    }
+}
+
+fn end_of_server(word: &str) -> Result<Ended, Fail> {
+    match word {
+        "served" => Ok(Ended::of_server(Ok(()))),
+        "server-output" => Ok(Ended::of_server(Err(ServeFault::Output))),
+        "server-memory" => Ok(Ended::of_server(Err(ServeFault::NoMemory))),
+        "listen" => Ok(Ended::of_server(Err(ServeFault::Listen))),
+        "accept" => Ok(Ended::of_server(Err(ServeFault::Accept))),
+        "no-seat" => Ok(Ended::of_server(Err(ServeFault::NoSeat))),
+        _ => Err(Fail::from("no such end")),
+    }
+}
+
+/// Each line of the table names an end, and says what is told of it.
+fn are_ends(rt: &impl Abort, alloc: Global, table: &str) -> Result<(), Fail> {
+    for case in table.lines() {
+        if let Some((word, want)) = case.split_once(" => ") {
+            let told = told_of(alloc, end(word)?)?;
+            is_text(rt, told.as_str(), want, word);
+        }
+    }
     Ok(())
 }
+
+/// Behind the status of an end without a text there is a space.
+const ENDS: &str = "
+done => 0 \n
+denied => 3 \n
+input => 1 regd: input failed$
+output => 1 regd: output failed$
+memory => 1 regd: out of memory$
+domain => 2 regd: domain I4$
+seed => 2 regd: seed$
+address => 2 regd: listen$
+not-text => 2 regd: a word isn't UTF-8$
+line-memory => 1 regd: out of memory$
+";
 
 #[test]
 fn each_end_has_its_status_and_its_text(rt: HostRuntime) -> Result<(), Fail> {
-    let ends = [
-        Ok(Ok(Outcome::Done)),
-        Ok(Ok(Outcome::Denied)),
-        Ok(Err(RunFault::Input)),
-        Ok(Err(RunFault::Output)),
-        Ok(Err(RunFault::NoMemory)),
-        Err(CommandLineFault::Domain(IdRefusal::DomainTooLong)),
-        Err(CommandLineFault::Seed),
-        Err(CommandLineFault::Address),
-        Err(CommandLineFault::NotText),
-        Err(CommandLineFault::NoMemory),
-    ];
-    let mut all = String::new(rt.alloc());
-    for answered in ends {
-        add_end(rt.alloc(), &mut all, Ended::of(answered))?;
-    }
-    let want = "\
-0 .
-3 .
-1 regd: input failed$.
-1 regd: output failed$.
-1 regd: out of memory$.
-2 regd: domain I4$.
-2 regd: seed$.
-2 regd: listen$.
-2 regd: a word isn't UTF-8$.
-1 regd: out of memory$.
-";
-    is_text(&rt, all.as_str(), want, "ends of programs");
-    Ok(())
+    are_ends(&rt, rt.alloc(), ENDS)
 }
+
+const ENDS_OF_SERVERS: &str = "
+served => 0 \n
+server-output => 1 regd: output failed$
+server-memory => 1 regd: out of memory$
+listen => 1 regd: listen failed$
+accept => 1 regd: accept failed$
+no-seat => 1 regd: no seat$
+";
 
 #[test]
 fn each_end_of_a_server_has_its_status_and_its_text(rt: HostRuntime) -> Result<(), Fail> {
-    let ends = [
-        Ok(()),
-        Err(ServeFault::Output),
-        Err(ServeFault::NoMemory),
-        Err(ServeFault::Listen),
-        Err(ServeFault::Accept),
-        Err(ServeFault::NoSeat),
-    ];
-    let mut all = String::new(rt.alloc());
-    for served in ends {
-        add_end(rt.alloc(), &mut all, Ended::of_server(served))?;
-    }
-    let want = "\
-0 .
-1 regd: output failed$.
-1 regd: out of memory$.
-1 regd: listen failed$.
-1 regd: accept failed$.
-1 regd: no seat$.
-";
-    is_text(&rt, all.as_str(), want, "ends of servers");
-    Ok(())
+    are_ends(&rt, rt.alloc(), ENDS_OF_SERVERS)
 }

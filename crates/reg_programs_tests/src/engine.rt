@@ -1,11 +1,13 @@
-//! The engine over memory: what a run answers, and tables of what it has to answer.
+//! The engines over memory: what a run answers, and tables of what it has to answer.
 
 ghost use Rattle.std.specs.Prelude.{◌≡◌, IfOk, None};
 
-use crate::sessions::answers_alone;
+use crate::command_lines::words_of;
+use crate::lines::add_line_of;
+use crate::sessions::run_alone;
 use crate::wanted::{holds, is_text, is_written};
 use reg_lines::{CountedDevice, Input, Output};
-use reg_programs::{Outcome, RunFault, Settings, plain, run_settings};
+use reg_programs::{Outcome, RunFault, Settings, plain, record_schedule, run_settings, schedule};
 use serde_json::Value;
 use spiffe_name::TrustDomain;
 use std::alloc::Global;
@@ -17,80 +19,95 @@ use test_devices::{Giver, Pace, Taker, Trouble};
 /// The seed that is taken where none is given.
 pub const FIRST_SEED: [u8; 32] = [0; 32];
 
-/// Runs the engine of `ex.org` with the first seed over these devices.
-pub fn run(
-    alloc: Global,
-    giver: &mut Giver<'_>,
-    taker: &mut Taker,
-) -> Result<Result<(), RunFault>, Fail> {
-    run_with(alloc, "ex.org", FIRST_SEED, giver, taker)
+/// What answers lines.
+#[derive(Clone, Copy)]
+pub enum Engine {
+    Plain,
+    /// A seat that is alone on a registry with an empty book.
+    Session,
+    Schedule,
+    /// A schedule of which the records are left.
+    Record,
 }
 
-fn run_with(
+/// Runs an engine that is no session over these devices.
+fn run_over(
     alloc: Global,
-    domain: &str,
+    engine: Engine,
+    domain: TrustDomain,
     seed: [u8; 32],
+    giver: &mut Giver<'_>,
+    taker: &mut Taker,
+) -> Result<(), RunFault> {
+    let mut input = Input::new(CountedDevice::new(giver));
+    let mut output = Output::new(CountedDevice::new(taker));
+    match engine {
+        Engine::Plain | Engine::Session => plain(alloc, domain, seed, &mut input, &mut output),
+        Engine::Schedule => schedule(alloc, domain, seed, &mut input, &mut output),
+        Engine::Record => record_schedule(alloc, domain, seed, &mut input, &mut output),
+    }
+}
+
+/// Runs an engine over these devices.
+fn run_with(
+    rt: &(impl Abort + Wait),
+    alloc: Global,
+    engine: Engine,
+    (domain, seed): (&str, [u8; 32]),
     giver: &mut Giver<'_>,
     taker: &mut Taker,
 ) -> Result<Result<(), RunFault>, Fail> {
     let domain = TrustDomain::parse(alloc, domain)?;
-    let mut input = Input::new(CountedDevice::new(giver));
-    let mut output = Output::new(CountedDevice::new(taker));
-    Ok(plain(alloc, domain, seed, &mut input, &mut output))
+    match engine {
+        Engine::Session => run_alone(rt, alloc, domain, seed, giver, taker),
+        _ => Ok(run_over(alloc, engine, domain, seed, giver, taker)),
+    }
 }
 
-/// What the engine of `ex.org` with the first seed answers to these bytes, in lines that are compact, and a session, too.
-pub fn answers(rt: &(impl Abort + Wait), alloc: Global, bytes: &[u8]) -> Result<Vec<u8>, Fail> {
-    answers_with(rt, alloc, "ex.org", FIRST_SEED, bytes)
+/// Runs the engine of `ex.org` with the first seed over these devices.
+pub fn run(
+    rt: &(impl Abort + Wait),
+    alloc: Global,
+    engine: Engine,
+    giver: &mut Giver<'_>,
+    taker: &mut Taker,
+) -> Result<Result<(), RunFault>, Fail> {
+    run_with(rt, alloc, engine, ("ex.org", FIRST_SEED), giver, taker)
 }
 
-/// The same of the engine of another trust domain, or with another seed.
+/// What an engine answers to these bytes.
+fn answers_of(
+    rt: &(impl Abort + Wait),
+    alloc: Global,
+    engine: Engine,
+    (domain, seed): (&str, [u8; 32]),
+    bytes: &[u8],
+) -> Result<Vec<u8>, Fail> {
+    let mut giver = Giver::new(bytes, Pace::All, Trouble::NONE);
+    let mut taker = Taker::new(alloc, Pace::All, Trouble::NONE);
+    match run_with(rt, alloc, engine, (domain, seed), &mut giver, &mut taker)? {
+        Ok(()) => Ok(taker.bytes),
+        Err(_) => Err(Fail::from("the run failed")),
+    }
+}
+
+/// What `regd plain` with this trust domain and seed answers to these bytes, in lines that are compact, and a session, too.
 pub fn answers_with(
     rt: &(impl Abort + Wait),
     alloc: Global,
-    domain: &str,
-    seed: [u8; 32],
+    (domain, seed): (&str, [u8; 32]),
     bytes: &[u8],
 ) -> Result<Vec<u8>, Fail> {
-    let mut giver = Giver::new(bytes, Pace::All, Trouble::NONE);
-    let mut taker = Taker::new(alloc, Pace::All, Trouble::NONE);
-    let ended = run_with(alloc, domain, seed, &mut giver, &mut taker)?;
-    let answers = compact_bytes(rt, alloc, ended, taker)?;
-    let alone = answers_alone(rt, alloc, domain, seed, bytes)?;
-    is_written(rt, &alone, str::from_utf8(&answers)?);
+    let answers = answers_of(rt, alloc, Engine::Plain, (domain, seed), bytes)?;
+    are_compact(rt, alloc, &answers)?;
+    let alone = answers_of(rt, alloc, Engine::Session, (domain, seed), bytes)?;
+    is_written(rt, &alone, str::from_utf8(&answers)?)?;
     Ok(answers)
 }
 
-/// What a run of these words of a command line answers to these bytes, in lines that are compact.
-pub fn answers_of_words(
-    rt: &impl Abort,
-    alloc: Global,
-    words: &[&str],
-    bytes: &[u8],
-) -> Result<Vec<u8>, Fail> {
-    let (outcome, answers) = told_of_words(rt, alloc, words, bytes)?;
-    holds(rt, outcome == Outcome::Done, "the run ended otherwise");
-    Ok(answers)
-}
-
-/// The same, and how the run ended.
-pub fn told_of_words(
-    rt: &impl Abort,
-    alloc: Global,
-    words: &[&str],
-    bytes: &[u8],
-) -> Result<(Outcome, Vec<u8>), Fail> {
-    let settings = settings_of_words(alloc, words)?;
-    let mut giver = Giver::new(bytes, Pace::All, Trouble::NONE);
-    let mut taker = Taker::new(alloc, Pace::All, Trouble::NONE);
-    let mut input = Input::new(CountedDevice::new(&mut giver));
-    let mut output = Output::new(CountedDevice::new(&mut taker));
-    let ended = run_settings(alloc, settings, &mut input, &mut output);
-    drop(output);
-    let Ok(outcome) = ended else {
-        return Err(Fail::from("the run failed"));
-    };
-    Ok((outcome, compact_bytes(rt, alloc, Ok(()), taker)?))
+/// The same for `ex.org` with the first seed.
+pub fn answers(rt: &(impl Abort + Wait), alloc: Global, bytes: &[u8]) -> Result<Vec<u8>, Fail> {
+    answers_with(rt, alloc, ("ex.org", FIRST_SEED), bytes)
 }
 
 /// The settings that the words give, which ask for no server.
@@ -106,97 +123,126 @@ fn settings_of_words(alloc: Global, words: &[&str]) -> Result<Settings, Fail>
     }
 }
 
-/// What a run that ended well has written; each of its lines is compact.
-fn compact_bytes(
+/// Runs the program that settings ask for over these devices.
+fn run_program(
+    alloc: Global,
+    settings: Settings,
+    giver: &mut Giver<'_>,
+    taker: &mut Taker,
+) -> Result<Outcome, RunFault>
+    requires { settings.server ≡ None }
+{
+    let mut input = Input::new(CountedDevice::new(giver));
+    let mut output = Output::new(CountedDevice::new(taker));
+    run_settings(alloc, settings, &mut input, &mut output)
+}
+
+/// What the program of a command line answers to these bytes, in lines that are compact. Its run has this outcome.
+fn answers_of_words(
     rt: &impl Abort,
     alloc: Global,
-    ended: Result<(), RunFault>,
-    taker: Taker,
+    line: &str,
+    outcome: Outcome,
+    bytes: &[u8],
 ) -> Result<Vec<u8>, Fail> {
-    let Ok(()) = ended else {
-        return Err(Fail::from("the run failed"));
-    };
-    are_compact(rt, alloc, str::from_utf8(&taker.bytes)?)?;
+    let settings = settings_of_words(alloc, &words_of(alloc, line)?)?;
+    let mut giver = Giver::new(bytes, Pace::All, Trouble::NONE);
+    let mut taker = Taker::new(alloc, Pace::All, Trouble::NONE);
+    let ended = run_program(alloc, settings, &mut giver, &mut taker);
+    holds(rt, ended == Ok(outcome), "how the run ends");
+    are_compact(rt, alloc, &taker.bytes)?;
     Ok(taker.bytes)
+}
+
+/// The program of a command line has this outcome over these bytes, and writes this.
+pub fn program_writes(
+    rt: &impl Abort,
+    alloc: Global,
+    line: &str,
+    outcome: Outcome,
+    bytes: &[u8],
+    want: &str,
+) -> Result<(), Fail> {
+    let got = answers_of_words(rt, alloc, line, outcome, bytes)?;
+    is_written(rt, &got, want)
 }
 
 /// A run's input, and the output that it has to give.
 #[derive(Drop)]
 pub struct Table {
-    pub asked: String,
+    pub asked: Vec<u8>,
     pub wanted: String,
 }
 
 impl Table {
-    /// The lines of a table that begin with `{` are requests and their answers in turn, and an order line behind them; its
-    /// other lines tell what is shown.
+    /// The lines of a table that begin with `{` or `«` are requests and their answers in turn, and an order line behind them;
+    /// its other lines tell what is shown. A request is folded as in `lines`.
     pub fn of(alloc: Global, text: &str) -> Result<Table, Fail> {
         let mut table = Table {
-            asked: String::new(alloc),
+            asked: Vec::new(alloc),
             wanted: String::new(alloc),
         };
+        table.read(alloc, text)?;
+        Ok(table)
+    }
+
+    /// Adds the lines of another table.
+    pub fn read(&mut self, alloc: Global, text: &str) -> Result<(), Fail> {
         let mut is_answer = false;
         for line in text.lines() {
-            if line.starts_with('{') {
-                if is_answer || line.starts_with("{\"order\":") {
-                    add_line(&mut table.wanted, line)?;
-                } else {
-                    add_line(&mut table.asked, line)?;
-                }
+            if line.starts_with("{") || line.starts_with("«") {
+                self.add(alloc, line, is_answer)?;
                 is_answer = !is_answer;
             }
         }
-        Ok(table)
+        Ok(())
     }
-}
 
-fn add_line(text: &mut String, line: &str) -> Result<(), Fail> {
-    text.push_str(line)?;
-    text.push('\n')?;
-    Ok(())
+    fn add(&mut self, alloc: Global, line: &str, is_answer: bool) -> Result<(), Fail> {
+        if is_answer || line.starts_with("{\"order\":") {
+            self.wanted.push_str(line)?;
+            self.wanted.push_str("\n")?;
+            return Ok(());
+        }
+        add_line_of(alloc, &mut self.asked, line)
+    }
 }
 
 /// The requests of the table, in one run of the engine of `ex.org` with the first seed, get the answers beside them.
 pub fn are_answered(rt: &(impl Abort + Wait), alloc: Global, text: &str) -> Result<(), Fail> {
-    are_answered_with(rt, alloc, "ex.org", FIRST_SEED, text)
-}
-
-/// The events of the table, in one run of `regd schedule` for `ex.org`, get the answers beside them, and then the order line.
-pub fn are_played(rt: &impl Abort, alloc: Global, text: &str) -> Result<(), Fail> {
-    let table = Table::of(alloc, text)?;
-    let words = ["regd", "schedule", "--domain", "ex.org"];
-    let got = answers_of_words(rt, alloc, &words, table.asked.as_bytes())?;
-    is_written(rt, &got, table.wanted.as_str());
-    Ok(())
+    are_answered_with(rt, alloc, ("ex.org", FIRST_SEED), text)
 }
 
 /// The same of an engine of another trust domain, or with another seed.
 pub fn are_answered_with(
     rt: &(impl Abort + Wait),
     alloc: Global,
-    domain: &str,
-    seed: [u8; 32],
+    domain_and_seed: (&str, [u8; 32]),
     text: &str,
 ) -> Result<(), Fail> {
     let table = Table::of(alloc, text)?;
-    let got = answers_with(rt, alloc, domain, seed, table.asked.as_bytes())?;
-    is_written(rt, &got, table.wanted.as_str());
+    let got = answers_with(rt, alloc, domain_and_seed, &table.asked)?;
+    is_written(rt, &got, table.wanted.as_str())
+}
+
+/// The lines of the table, in one run of the program of a command line, get the answers beside them, and then the order line.
+pub fn are_answered_by(rt: &impl Abort, alloc: Global, line: &str, text: &str) -> Result<(), Fail> {
+    let table = Table::of(alloc, text)?;
+    let want = table.wanted.as_str();
+    program_writes(rt, alloc, line, Outcome::Done, &table.asked, want)
+}
+
+/// A line is the text that `serde_json` writes of the value that it reads there.
+fn is_compact(rt: &impl Abort, alloc: Global, line: &str) -> Result<(), Fail> {
+    let value = Value::from_str(alloc, line)?;
+    let again = value.to_string(alloc)?;
+    is_text(rt, again.as_str(), line, "compact");
     Ok(())
 }
 
-/// Each line is the text that `serde_json` writes of the value that it reads there.
-fn are_compact(rt: &impl Abort, alloc: Global, lines: &str) -> Result<(), Fail> {
-    for line in lines.lines() {
-        let value = Value::from_str(alloc, line)?;
-        is_text(rt, value.to_string(alloc)?.as_str(), line, "compact");
+fn are_compact(rt: &impl Abort, alloc: Global, lines: &[u8]) -> Result<(), Fail> {
+    for line in str::from_utf8(lines)?.lines() {
+        is_compact(rt, alloc, line)?;
     }
     Ok(())
-}
-
-/// A text with spaces behind it, so many bytes in all, and what ends them.
-pub fn padded(alloc: Global, text: &str, len: usize, end: &str) -> Result<Vec<u8>, Fail> {
-    let mut line = Vec::from_slice(alloc, text.as_bytes())?;
-    line.resize(len, b' ')?;
-    line.extend_from_slice(end.as_bytes())?;
-    Ok(line)
 }

@@ -1,8 +1,7 @@
 //! Which ids are given: of the words of ChaCha20's stream 0, which the cipher's published test vectors give for these
 //! seeds.
 
-use crate::engine::{FIRST_SEED, Table, answers_of_words, are_answered, are_answered_with};
-use crate::wanted::is_written;
+use crate::engine::{FIRST_SEED, are_answered, are_answered_by, are_answered_with};
 use std::test::Fail;
 
 /// The first id of the seed of zeros; then the forms in which an id is read.
@@ -66,7 +65,7 @@ const OF_ANOTHER_SEED: &str = r#"
 fn ids_of_another_seed(rt: HostRuntime) -> Result<(), Fail> {
     let mut seed = FIRST_SEED;
     seed[31] = 1;
-    are_answered_with(&rt, rt.alloc(), "ex.org", seed, OF_ANOTHER_SEED)
+    are_answered_with(&rt, rt.alloc(), ("ex.org", seed), OF_ANOTHER_SEED)
 }
 
 /// The first id of that seed, in another trust domain.
@@ -75,18 +74,10 @@ const OF_WORDS: &str = r#"
 {"call":1,"place":1,"replies":[{"entry":{"domains":[],"expiry":0,"hint":"","id":"4540f05a-9f1f-4296-9773-6e7b208e3c96","identity":"spiffe://b.org/web","parent":"spiffe://b.org/spire/agent/n1","revision":0,"selectors":["u:1"]}}],"result":"committed"}
 "#;
 
+const WORDS: &str =
+    "regd|plain|--seed|0000000000000000000000000000000000000000000000000000000000000001|--domain|b.org";
+
 #[test]
 fn words_give_the_domain_and_the_seed_of_a_run(rt: HostRuntime) -> Result<(), Fail> {
-    let words = [
-        "regd",
-        "plain",
-        "--seed",
-        "0000000000000000000000000000000000000000000000000000000000000001",
-        "--domain",
-        "b.org",
-    ];
-    let table = Table::of(rt.alloc(), OF_WORDS)?;
-    let got = answers_of_words(&rt, rt.alloc(), &words, table.asked.as_bytes())?;
-    is_written(&rt, &got, table.wanted.as_str());
-    Ok(())
+    are_answered_by(&rt, rt.alloc(), WORDS, OF_WORDS)
 }

@@ -3,8 +3,10 @@
 //! The crate has tests alone, over the public calls of `reg_programs`:
 //!
 //! - `command_lines`: command lines and what is told of them, word for word.
-//! - `engine`: runs of the engines over memory, told by tables. On it stand `story`, `operations`, `refusals`, `ids`, `limits`,
-//!   `pages`, `places`, `tokens`, `runs` (request lines), `schedules` (event lines), `records` and `audits` (recorded calls).
+//! - `engine`: runs of the engines over memory, told by tables; `lines` unfolds theirs. On it stand `story`, `operations`,
+//!   `refusals`, `ids`, `limits`, `pages`, `places`, `tokens`, `runs` (request lines), `schedules` (event lines), `records` and
+//!   `audits` (recorded calls).
+//! - `failing`: runs over a reader or a writer that fails.
 //! - `sessions`: the lines of one connection over memory; `serving`: a server over TCP, both ends in one process.
 //! - `wanted`: what a test wants to see.
 #![tactic(auto)]
@@ -16,9 +18,13 @@ mod command_lines;
 #[cfg(test)]
 mod engine;
 #[cfg(test)]
+mod failing;
+#[cfg(test)]
 mod ids;
 #[cfg(test)]
 mod limits;
+#[cfg(test)]
+mod lines;
 #[cfg(test)]
 mod operations;
 #[cfg(test)]

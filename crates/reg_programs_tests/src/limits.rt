@@ -1,137 +1,120 @@
 //! A book at its limits, filled by request lines.
 
-use crate::engine::answers;
+use crate::engine::{Table, answers};
 use crate::wanted::is_written;
 use std::alloc::Global;
 use std::process::Abort;
 use std::sync::Wait;
 use std::test::Fail;
 
-/// The lines of a run, and the answers to its last ones.
-#[derive(Drop)]
-struct Filling {
-    asked: String,
-}
+/// What a book is filled with: each operation with a number of its own in the place of `#`.
+const ENTRY: &str =
+    r#"{"op":"create","parent":"spiffe://ex.org/spire/agent/n1","identity":"spiffe://ex.org/#","selectors":["u:1"]}"#;
 
-impl Filling {
-    fn new(alloc: Global) -> Filling {
-        Filling {
-            asked: String::new(alloc),
-        }
-    }
+const AGENT: &str = r#"{"op":"set_agent","agent":"spiffe://ex.org/spire/agent/#","selectors":[]}"#;
 
-    fn line(&mut self, ops: &str) -> Result<(), Fail> {
-        self.asked.push_str("{\"ops\":[")?;
-        self.asked.push_str(ops)?;
-        self.asked.push_str("]}\n")?;
-        Ok(())
-    }
+const BUNDLE: &str = r#"{"op":"set_bundle","domain":"d#","text":""}"#;
 
-    /// So many batches of 64 operations of this kind, each with a number of its own.
-    fn fill(&mut self, alloc: Global, batches: u32, kind: Kind) -> Result<(), Fail> {
-        for batch in 0..batches {
-            let mut ops = String::new(alloc);
-            for place in 0..64u32 {
-                if place > 0 {
-                    ops.push_str(",")?;
-                }
-                let number = batch.wrapping_mul(64).wrapping_add(place);
-                ops.push_str(op(alloc, kind, number)?.as_str())?;
-            }
-            self.line(ops.as_str())?;
-        }
-        Ok(())
-    }
-}
-
-/// What a book is filled with.
-#[derive(Clone, Copy)]
-enum Kind {
-    Entry,
-    Agent,
-    Bundle,
-}
-
-/// The operation that adds the row of a number.
-fn op(alloc: Global, kind: Kind, number: u32) -> Result<String, Fail> {
-    match kind {
-        Kind::Entry => {
-            Ok(format!(in alloc;
-                "{{\"op\":\"create\",\"parent\":\"spiffe://ex.org/spire/agent/n1\",\"identity\":\"spiffe://ex.org/{number}\",\"selectors\":[\"u:1\"]}}"
-            )?)
-        }
-        Kind::Agent => {
-            Ok(format!(in alloc;
-                "{{\"op\":\"set_agent\",\"agent\":\"spiffe://ex.org/spire/agent/{number}\",\"selectors\":[]}}"
-            )?)
-        }
-        Kind::Bundle => {
-            Ok(format!(in alloc;
-                "{{\"op\":\"set_bundle\",\"domain\":\"d{number}\",\"text\":\"\"}}"
-            )?)
-        }
-    }
-}
-
-/// Are these the last lines of the answers?
-fn ends_with(
-    rt: &(impl Abort + Wait),
+/// Adds this operation with this number, and what stands before it.
+fn add_op(
     alloc: Global,
-    filling: &Filling,
-    wanted: &str,
+    asked: &mut String,
+    before: &str,
+    op: &str,
+    number: u32,
 ) -> Result<(), Fail> {
-    let bytes = answers(rt, alloc, filling.asked.as_bytes())?;
-    let from = bytes.len().saturating_sub(wanted.len());
-    is_written(rt, bytes.as_slice().split_at(from).1, wanted);
+    asked.push_str(before)?;
+    let number = format!(in alloc; "{number}")?;
+    asked.push_str(op.replace(alloc, "#", number.as_str())?.as_str())?;
     Ok(())
 }
 
-/// Where each kind of row is at its limit, one row more is refused, entries before agents and agents before bundles; a
-/// batch that takes one away too, or replaces one, isn't.
-#[test]
-fn full_book(rt: HostRuntime) -> Result<(), Fail> {
-    let alloc = rt.alloc();
-    let mut filling = Filling::new(alloc);
-    filling.fill(alloc, 256, Kind::Entry)?;
-    filling.fill(alloc, 64, Kind::Agent)?;
-    filling.fill(alloc, 16, Kind::Bundle)?;
-    let entry = op(alloc, Kind::Entry, 16_384)?;
-    let agent = op(alloc, Kind::Agent, 4_096)?;
-    let bundle = op(alloc, Kind::Bundle, 1_024)?;
-    filling.line(format!(in alloc; "{bundle},{agent},{entry}")?.as_str())?;
-    filling.line(format!(in alloc; "{bundle},{agent}")?.as_str())?;
-    filling.line(bundle.as_str())?;
-    let gone = "{\"op\":\"drop_agent\",\"agent\":\"spiffe://ex.org/spire/agent/0\"}";
-    filling.line(format!(in alloc; "{agent},{gone}")?.as_str())?;
-    filling.line(op(alloc, Kind::Bundle, 0)?.as_str())?;
-    filling.line("{\"op\":\"show_bundle\",\"domain\":\"d1024\"}")?;
-    ends_with(&rt, alloc, &filling, FULL)
+/// Adds so many lines of 64 operations of this kind.
+fn fill(alloc: Global, asked: &mut String, op: &str, lines: u32) -> Result<(), Fail> {
+    for number in 0..lines.saturating_mul(64) {
+        let before = if number % 64 == 0 { "{\"ops\":[" } else { "," };
+        add_op(alloc, asked, before, op, number)?;
+        if number % 64 == 63 {
+            asked.push_str("]}\n")?;
+        }
+    }
+    Ok(())
 }
 
+const CHANGE: &str = "{\"ops\":[{\"op\":\"prune\",\"before\":0}]}\n";
+
+/// So many lines, each with a change.
+pub fn changes(alloc: Global, count: usize) -> Result<String, Fail> {
+    Ok(CHANGE.repeat(alloc, count)?)
+}
+
+/// Are the requests of a table, behind these lines, answered as it says?
+fn end_with(rt: &(impl Abort + Wait), alloc: Global, lines: &str, table: &str) -> Result<(), Fail> {
+    let table = Table::of(alloc, table)?;
+    let mut asked = Vec::from_slice(alloc, lines.as_bytes())?;
+    asked.extend_from_slice(&table.asked)?;
+    let got = answers(rt, alloc, &asked)?;
+    let from = got.len().saturating_sub(table.wanted.len());
+    is_written(rt, got.as_slice().split_at(from).1, table.wanted.as_str())
+}
+
+/// The book has as many entries, agents and bundles as it can have.
 const FULL: &str = r#"
+one row more is refused, entries before agents and agents before bundles
+{"ops":[{"op":"set_bundle","domain":"d1024","text":""},{"op":"set_agent","agent":"spiffe://ex.org/spire/agent/4096","selectors":[]},{"op":"create","parent":"spiffe://ex.org/spire/agent/n1","identity":"spiffe://ex.org/16384","selectors":["u:1"]}]}
 {"call":337,"code":"W3","place":336,"result":"refused"}
+{"ops":[{"op":"set_bundle","domain":"d1024","text":""},{"op":"set_agent","agent":"spiffe://ex.org/spire/agent/4096","selectors":[]}]}
 {"call":338,"code":"W4","place":336,"result":"refused"}
+{"ops":[{"op":"set_bundle","domain":"d1024","text":""}]}
 {"call":339,"code":"W5","place":336,"result":"refused"}
+a batch that takes one away too, or replaces one, isn't
+{"ops":[{"op":"set_agent","agent":"spiffe://ex.org/spire/agent/4096","selectors":[]},{"op":"drop_agent","agent":"spiffe://ex.org/spire/agent/0"}]}
 {"call":340,"place":337,"replies":[{"agent":{"id":"spiffe://ex.org/spire/agent/4096","selectors":[]}},{"agent":{"id":"spiffe://ex.org/spire/agent/0","selectors":[]}}],"result":"committed"}
+{"ops":[{"op":"set_bundle","domain":"d0","text":""}]}
 {"call":341,"place":338,"replies":[{"bundle":{"domain":"d0","sequence":1,"text":""}}],"result":"committed"}
+{"ops":[{"op":"show_bundle","domain":"d1024"}]}
 {"call":342,"place":338,"replies":[{"bundle":null}],"result":"answered"}
 "#;
 
-/// After 65,537 committed batches the history goes on: a refused operation is refused for itself, and questions are answered.
 #[test]
-fn long_history(rt: HostRuntime) -> Result<(), Fail> {
-    let alloc = rt.alloc();
-    let mut filling = Filling::new(alloc);
-    for _ in 0..65_537u32 {
-        filling.line("{\"op\":\"prune\",\"before\":0}")?;
-    }
-    filling.line("{\"op\":\"drop_agent\",\"agent\":\"spiffe://ex.org/spire/agent/n1\"}")?;
-    filling.line("{\"op\":\"show_bundle\",\"domain\":\"d0\"}")?;
-    ends_with(&rt, alloc, &filling, GONE_ON)
+fn full_book(rt: HostRuntime) -> Result<(), Fail> {
+    let mut lines = String::new(rt.alloc());
+    fill(rt.alloc(), &mut lines, ENTRY, 256)?;
+    fill(rt.alloc(), &mut lines, AGENT, 64)?;
+    fill(rt.alloc(), &mut lines, BUNDLE, 16)?;
+    end_with(&rt, rt.alloc(), lines.as_str(), FULL)
 }
 
+/// A limit is held against the book after all operations of a batch, and belongs to none of them. A batch that it
+/// refuses has drawn its ids.
+const ONE_MORE: &str = r#"
+{"ops":[{"op":"create","parent":"spiffe://ex.org/spire/agent/n1","identity":"spiffe://ex.org/web","selectors":["u:1"]},{"op":"set_bundle","domain":"d1024","text":""}]}
+{"call":17,"code":"W5","place":16,"result":"refused"}
+{"ops":[{"op":"set_bundle","domain":"new","text":""},{"op":"drop_bundle","domain":"d0"},{"op":"show_bundle","domain":"d0"}]}
+{"call":18,"place":17,"replies":[{"bundle":{"domain":"new","sequence":0,"text":""}},{"deleted":[],"dissociated":[]},{"bundle":null}],"result":"committed"}
+{"ops":[{"op":"create","parent":"spiffe://ex.org/spire/agent/n1","identity":"spiffe://ex.org/web","selectors":["u:1"]}]}
+{"call":19,"place":18,"replies":[{"entry":{"domains":[],"expiry":0,"hint":"","id":"bdd219b8-a08d-4d1a-a836-efcc8b770dc7","identity":"spiffe://ex.org/web","parent":"spiffe://ex.org/spire/agent/n1","revision":0,"selectors":["u:1"]}}],"result":"committed"}
+"#;
+
+#[test]
+fn one_bundle_too_many(rt: HostRuntime) -> Result<(), Fail> {
+    let mut lines = String::new(rt.alloc());
+    fill(rt.alloc(), &mut lines, BUNDLE, 16)?;
+    end_with(&rt, rt.alloc(), lines.as_str(), ONE_MORE)
+}
+
+/// After 65,537 committed batches the history goes on: a refused operation is refused for itself, and questions are answered.
 const GONE_ON: &str = r#"
+{"ops":[{"op":"prune","before":0}]}
 {"call":65537,"place":65537,"replies":[{"pruned":[]}],"result":"committed"}
+{"ops":[{"op":"drop_agent","agent":"spiffe://ex.org/spire/agent/n1"}]}
 {"call":65538,"code":"O7","op":0,"place":65537,"result":"refused"}
+{"ops":[{"op":"show_bundle","domain":"d0"}]}
 {"call":65539,"place":65537,"replies":[{"bundle":null}],"result":"answered"}
 "#;
+
+#[test]
+fn long_history(rt: HostRuntime) -> Result<(), Fail> {
+    let lines = changes(rt.alloc(), 65_536)?;
+    end_with(&rt, rt.alloc(), lines.as_str(), GONE_ON)
+}

@@ -1,6 +1,7 @@
 //! Pages of entries, with their filters, among questions and among changes, of the last book and of earlier ones.
 
 use crate::engine::{answers, are_answered};
+use crate::limits::changes;
 use crate::wanted::is_text;
 use std::alloc::Global;
 use std::process::Abort;
@@ -140,25 +141,26 @@ fn a_page_of_an_earlier_book_reads_it_as_it_was(rt: HostRuntime) -> Result<(), F
     are_answered(&rt, rt.alloc(), EARLIER)
 }
 
-/// A create, then changes up to this place, each with its line, and then the page of the book that the create made.
-fn asked_at(alloc: Global, place: u32) -> Result<String, Fail> {
-    let mut asked = String::from_str(alloc, CREATE)?;
-    for _ in 1..place {
-        asked.push_str("{\"ops\":[{\"op\":\"prune\",\"before\":0}]}\n")?;
-    }
-    asked.push_str("{\"ops\":[{\"op\":\"page\",\"size\":2,\"at\":1}]}\n")?;
-    Ok(asked)
-}
-
 const CREATE: &str =
     r#"{"ops":[{"op":"create","id":"00000000-0000-0000-0000-000000000001","parent":"spiffe://ex.org/spire/agent/n1","identity":"spiffe://ex.org/e1","selectors":["u:1"]}]}
 "#;
 
+/// A create, then changes up to this place, each with its line, and then the page of the book that the create made.
+fn asked_at(alloc: Global, place: usize) -> Result<String, Fail> {
+    let changes = changes(alloc, place.saturating_sub(1))?;
+    let changes = changes.as_str();
+    Ok(format!(in alloc; "{CREATE}{changes}{PAGE}")?)
+}
+
+const PAGE: &str = r#"{"ops":[{"op":"page","size":2,"at":1}]}
+"#;
+
 /// The answer to the page, where so many changes came up to it.
-fn last_is(rt: &(impl Abort + Wait), alloc: Global, place: u32, wanted: &str) -> Result<(), Fail> {
-    let got = answers(rt, alloc, asked_at(alloc, place)?.as_bytes())?;
+fn last_is(rt: &(impl Abort + Wait), alloc: Global, place: usize, want: &str) -> Result<(), Fail> {
+    let asked = asked_at(alloc, place)?;
+    let got = answers(rt, alloc, asked.as_bytes())?;
     let last = str::from_utf8(&got)?.lines().last();
-    is_text(rt, last.unwrap_or(""), wanted, "the last answer");
+    is_text(rt, last.unwrap_or(""), want, "the last answer");
     Ok(())
 }
 

@@ -1,22 +1,18 @@
 //! The records that a schedule leaves, and nothing else.
 
-use crate::engine::{FIRST_SEED, Table, answers_of_words};
+use crate::engine::{Engine, Table, program_writes};
+use crate::failing::{fail_each_read, fail_each_write};
 use crate::schedules::OUT_OF_TURN;
-use crate::wanted::{ends_at_a_failure, holds, is_written};
-use reg_lines::{CountedDevice, Input, Output};
-use reg_programs::{RunFault, record_schedule};
-use spiffe_name::TrustDomain;
+use reg_programs::Outcome;
 use std::alloc::Global;
 use std::process::Abort;
 use std::test::Fail;
-use test_devices::{Giver, Pace, Taker, Trouble};
+use test_devices::Pace;
 
 /// The events, in one run of `regd schedule --record` for `ex.org`, leave these records.
-fn are_recorded(rt: &impl Abort, alloc: Global, events: &str, records: &str) -> Result<(), Fail> {
-    let words = ["regd", "schedule", "--domain", "ex.org", "--record"];
-    let got = answers_of_words(rt, alloc, &words, events.as_bytes())?;
-    is_written(rt, &got, records);
-    Ok(())
+fn are_recorded(rt: &impl Abort, alloc: Global, events: &[u8], records: &str) -> Result<(), Fail> {
+    let line = "regd|schedule|--domain|ex.org|--record";
+    program_writes(rt, alloc, line, Outcome::Done, events, records)
 }
 
 /// Two calls would both add a row. The second one is a conflict, and is recorded nowhere; tried again it is refused.
@@ -47,7 +43,7 @@ const PHANTOM_RECORDS: &str =
 
 #[test]
 fn a_conflict_is_recorded_nowhere(rt: HostRuntime) -> Result<(), Fail> {
-    are_recorded(&rt, rt.alloc(), PHANTOM_EVENTS, PHANTOM_RECORDS)
+    are_recorded(&rt, rt.alloc(), PHANTOM_EVENTS.as_bytes(), PHANTOM_RECORDS)
 }
 
 /// A bundle is dropped and an entry that names it is created, at once. The call that commits first is recorded, whichever
@@ -80,7 +76,12 @@ const WRITE_SKEW_RECORDS: &str =
 
 #[test]
 fn the_call_that_committed_is_recorded(rt: HostRuntime) -> Result<(), Fail> {
-    are_recorded(&rt, rt.alloc(), WRITE_SKEW_EVENTS, WRITE_SKEW_RECORDS)
+    are_recorded(
+        &rt,
+        rt.alloc(),
+        WRITE_SKEW_EVENTS.as_bytes(),
+        WRITE_SKEW_RECORDS,
+    )
 }
 
 /// A question that began before a change, and replied after it, stands in front of it.
@@ -107,7 +108,7 @@ fn records_stand_in_the_order_of_deciding_events(rt: HostRuntime) -> Result<(), 
     are_recorded(
         &rt,
         rt.alloc(),
-        EARLY_QUESTION_EVENTS,
+        EARLY_QUESTION_EVENTS.as_bytes(),
         EARLY_QUESTION_RECORDS,
     )
 }
@@ -133,7 +134,12 @@ const UNREPLIED_RECORDS: &str =
 
 #[test]
 fn a_committed_call_is_recorded_before_it_replies(rt: HostRuntime) -> Result<(), Fail> {
-    are_recorded(&rt, rt.alloc(), UNREPLIED_EVENTS, UNREPLIED_RECORDS)
+    are_recorded(
+        &rt,
+        rt.alloc(),
+        UNREPLIED_EVENTS.as_bytes(),
+        UNREPLIED_RECORDS,
+    )
 }
 
 /// A batch with a token is sent twice.
@@ -157,7 +163,7 @@ const REPEAT_RECORDS: &str =
 
 #[test]
 fn a_repeat_is_recorded_as_repeated(rt: HostRuntime) -> Result<(), Fail> {
-    are_recorded(&rt, rt.alloc(), REPEAT_EVENTS, REPEAT_RECORDS)
+    are_recorded(&rt, rt.alloc(), REPEAT_EVENTS.as_bytes(), REPEAT_RECORDS)
 }
 
 /// The records of the calls whose events came in turn among others.
@@ -170,79 +176,24 @@ const IN_TURN_RECORDS: &str =
 #[test]
 fn refused_events_and_lines_leave_no_record(rt: HostRuntime) -> Result<(), Fail> {
     let table = Table::of(rt.alloc(), OUT_OF_TURN)?;
-    are_recorded(&rt, rt.alloc(), table.asked.as_str(), IN_TURN_RECORDS)
+    are_recorded(&rt, rt.alloc(), &table.asked, IN_TURN_RECORDS)
 }
 
 #[test]
 fn no_events_leave_no_records(rt: HostRuntime) -> Result<(), Fail> {
-    are_recorded(&rt, rt.alloc(), "", "")
+    are_recorded(&rt, rt.alloc(), b"", "")
 }
 
-/// Runs `regd schedule --record` for `ex.org` over these devices.
-fn play(
-    alloc: Global,
-    giver: &mut Giver<'_>,
-    taker: &mut Taker,
-) -> Result<Result<(), RunFault>, Fail> {
-    let domain = TrustDomain::parse(alloc, "ex.org")?;
-    let mut input = Input::new(CountedDevice::new(giver));
-    let mut output = Output::new(CountedDevice::new(taker));
-    Ok(record_schedule(alloc, domain, FIRST_SEED, &mut input, &mut output))
-}
-
-/// At each failing read nothing was written.
-fn fail_each_read(rt: &impl Abort, alloc: Global, from: Pace) -> Result<(), Fail> {
-    for call in 1..5_000u64 {
-        let trouble = Trouble::failing_at(call);
-        let mut giver = Giver::new(UNREPLIED_EVENTS.as_bytes(), from, trouble);
-        let mut taker = Taker::new(alloc, Pace::All, Trouble::NONE);
-        let ended = play(alloc, &mut giver, &mut taker)?;
-        let (calls, written) = (giver.calls, taker.bytes.as_slice());
-        ends_at_a_failure(
-            rt,
-            call,
-            calls,
-            ended,
-            RunFault::Input,
-            written,
-            UNREPLIED_RECORDS,
-        );
-        if calls < call {
-            return Ok(());
-        }
-        holds(rt, written.is_empty(), "nothing is written");
-    }
-    Err(Fail::from("too many reads"))
-}
-
-/// At each failing write a beginning of the records is out.
-fn fail_each_write(rt: &impl Abort, alloc: Global, to: Pace) -> Result<(), Fail> {
-    for call in 1..5_000u64 {
-        let mut giver = Giver::new(UNREPLIED_EVENTS.as_bytes(), Pace::All, Trouble::NONE);
-        let mut taker = Taker::new(alloc, to, Trouble::failing_at(call));
-        let ended = play(alloc, &mut giver, &mut taker)?;
-        let (calls, written) = (taker.calls, taker.bytes.as_slice());
-        ends_at_a_failure(
-            rt,
-            call,
-            calls,
-            ended,
-            RunFault::Output,
-            written,
-            UNREPLIED_RECORDS,
-        );
-        if calls < call {
-            return Ok(());
-        }
-    }
-    Err(Fail::from("too many writes"))
-}
-
+/// At a failed read nothing was written, at a failed write a beginning of the records.
 #[test]
 fn each_failing_device_ends_a_recorded_schedule(rt: HostRuntime) -> Result<(), Fail> {
+    let table = Table {
+        asked: Vec::from_slice(rt.alloc(), UNREPLIED_EVENTS.as_bytes())?,
+        wanted: String::from_str(rt.alloc(), UNREPLIED_RECORDS)?,
+    };
     for pace in [Pace::All, Pace::Line] {
-        fail_each_read(&rt, rt.alloc(), pace)?;
-        fail_each_write(&rt, rt.alloc(), pace)?;
+        fail_each_read(&rt, rt.alloc(), Engine::Record, &table, pace)?;
+        fail_each_write(&rt, rt.alloc(), Engine::Record, &table, (Pace::All, pace))?;
     }
     Ok(())
 }

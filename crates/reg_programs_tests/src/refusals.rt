@@ -1,7 +1,7 @@
 //! Lines that are refused, and what they leave: no call number is taken, and the book stays.
 
-use crate::engine::{FIRST_SEED, answers, answers_with, are_answered, are_answered_with, padded};
-use crate::wanted::{holds, is_written};
+use crate::engine::{FIRST_SEED, answers, are_answered, are_answered_with};
+use crate::wanted::is_written;
 use std::alloc::Global;
 use std::process::Abort;
 use std::sync::Wait;
@@ -145,155 +145,102 @@ const IDS: &str = r#"
 
 #[test]
 fn ids_and_texts_that_are_none(rt: HostRuntime) -> Result<(), Fail> {
-    are_answered_with(&rt, rt.alloc(), "a", FIRST_SEED, IDS)
+    are_answered_with(&rt, rt.alloc(), ("a", FIRST_SEED), IDS)
 }
 
-/// A question, and its answer on a book with nothing in it.
-const SHOW: &str = r#"{"ops":[{"id":"00000000-0000-0000-0000-000000000001","op":"show"}]}"#;
-
-const SHOWN: &str = r#"{"call":1,"place":0,"replies":[{"entry":null}],"result":"answered"}"#;
+/// The last line has no LF.
+const EMPTY_LONG_GOOD_AND_CUT: &str = r#"
+«0*»
+{"code":"L2","line":1}
+«1048577* »
+{"code":"L1","line":2}
+{"ops":[{"id":"00000000-0000-0000-0000-000000000001","op":"show"}]}
+{"call":1,"place":0,"replies":[{"entry":null}],"result":"answered"}
+{"ops":«»
+{"code":"L3","line":4}
+"#;
 
 #[test]
 fn empty_long_good_and_cut_lines(rt: HostRuntime) -> Result<(), Fail> {
-    let mut bytes = Vec::from_slice(rt.alloc(), b"\n")?;
-    bytes.extend_from_slice(padded(rt.alloc(), "", 1_048_577, "\n")?.as_slice())?;
-    bytes.extend_from_slice(padded(rt.alloc(), SHOW, SHOW.len(), "\n{\"ops\":")?.as_slice())?;
-    let wanted = r#"{"code":"L2","line":1}
-{"code":"L1","line":2}
-{"call":1,"place":0,"replies":[{"entry":null}],"result":"answered"}
-{"code":"L3","line":4}
-"#;
-    is_written(&rt, &answers(&rt, rt.alloc(), &bytes)?, wanted);
-    Ok(())
+    are_answered(&rt, rt.alloc(), EMPTY_LONG_GOOD_AND_CUT)
 }
+
+/// The last line has no LF.
+const NO_TEXTS: &str = r#"
+{"ops":"«c3»
+{"code":"L2","line":1}
+{"ops":[{"id":"00000000-0000-0000-0000-000000000001","op":"show"}]}
+{"call":1,"place":0,"replies":[{"entry":null}],"result":"answered"}
+{"ops":"«c3»«»
+{"code":"L3","line":3}
+"#;
 
 #[test]
 fn bytes_that_are_no_text(rt: HostRuntime) -> Result<(), Fail> {
-    let mut bytes = Vec::from_slice(rt.alloc(), b"{\"ops\":\"\xc3\n")?;
-    bytes.extend_from_slice(SHOW.as_bytes())?;
-    bytes.extend_from_slice(b"\n{\"ops\":\"\xc3")?;
-    let wanted = r#"{"code":"L2","line":1}
-{"call":1,"place":0,"replies":[{"entry":null}],"result":"answered"}
-{"code":"L3","line":3}
-"#;
-    is_written(&rt, &answers(&rt, rt.alloc(), &bytes)?, wanted);
-    Ok(())
+    are_answered(&rt, rt.alloc(), NO_TEXTS)
 }
 
-/// The answer to a question of the children of this parent, on the book of the trust domain `a`.
-fn children_of(rt: &(impl Abort + Wait), alloc: Global, parent: &str) -> Result<Vec<u8>, Fail> {
-    let line = format!(in alloc;
-        "{{\"ops\":[{{\"op\":\"children\",\"parent\":\"{parent}\"}}]}}\n"
-    )?;
-    answers_with(rt, alloc, "a", FIRST_SEED, line.as_bytes())
-}
+/// IDs of 2,048 bytes and of 2,049, and trust domains of 255 and of 256.
+const LIMITS: &str = r#"
+{"ops":[{"op":"children","parent":"spiffe://a/«2037*x»"}]}
+{"call":1,"place":0,"replies":[{"entries":[]}],"result":"answered"}
+{"ops":[{"op":"children","parent":"spiffe://a/«2038*x»"}]}
+{"code":"I1","field":"parent","line":2,"op":0}
+{"ops":[{"op":"children","parent":"spiffe://«255*a»"}]}
+{"code":"B3","line":3,"op":0}
+{"ops":[{"op":"children","parent":"spiffe://«256*a»"}]}
+{"code":"I4","field":"parent","line":4,"op":0}
+"#;
 
 #[test]
 fn ids_at_their_limits(rt: HostRuntime) -> Result<(), Fail> {
-    let none = "{\"call\":1,\"place\":0,\"replies\":[{\"entries\":[]}],\"result\":\"answered\"}\n";
-    for (front, letter, count, wanted) in [
-        ("spiffe://a/", b'x', 2_037, none),
-        (
-            "spiffe://a/",
-            b'x',
-            2_038,
-            "{\"code\":\"I1\",\"field\":\"parent\",\"line\":1,\"op\":0}\n",
-        ),
-        (
-            "spiffe://",
-            b'a',
-            255,
-            "{\"code\":\"B3\",\"line\":1,\"op\":0}\n",
-        ),
-        (
-            "spiffe://",
-            b'a',
-            256,
-            "{\"code\":\"I4\",\"field\":\"parent\",\"line\":1,\"op\":0}\n",
-        ),
-    ] {
-        let mut parent = Vec::from_slice(rt.alloc(), front.as_bytes())?;
-        parent.resize(front.len().saturating_add(count), letter)?;
-        let got = children_of(&rt, rt.alloc(), str::from_utf8(&parent)?)?;
-        is_written(&rt, &got, wanted);
-    }
-    Ok(())
+    are_answered_with(&rt, rt.alloc(), ("a", FIRST_SEED), LIMITS)
 }
 
-/// A line that sets the bundles of so many trust domains, counted from `first`.
-fn bundles(alloc: Global, first: u32, count: u32) -> Result<String, Fail> {
-    let mut line = String::from_str(alloc, "{\"ops\":[")?;
-    for number in first..first.saturating_add(count) {
-        if number > first {
-            line.push(',')?;
-        }
-        let op = format!(in alloc;
-            "{{\"op\":\"set_bundle\",\"domain\":\"d{number}\",\"text\":\"\"}}"
-        )?;
-        line.push_str(op.as_str())?;
-    }
-    line.push_str("]}\n")?;
-    Ok(line)
-}
-
-/// A limit is held against the book after all operations of a batch, and belongs to none of them. A batch that it
-/// refuses has drawn its ids.
-#[test]
-fn one_bundle_too_many(rt: HostRuntime) -> Result<(), Fail> {
-    let mut asked = String::new(rt.alloc());
-    for batch in 0..16u32 {
-        asked.push_str(bundles(rt.alloc(), batch.saturating_mul(64), 64)?.as_str())?;
-    }
-    asked.push_str(
-        r#"{"ops":[{"op":"create","parent":"spiffe://ex.org/spire/agent/n1","identity":"spiffe://ex.org/web","selectors":["u:1"]},{"op":"set_bundle","domain":"d1024","text":""}]}
-{"ops":[{"op":"set_bundle","domain":"new","text":""},{"op":"drop_bundle","domain":"d0"},{"op":"show_bundle","domain":"d0"}]}
-{"ops":[{"op":"create","parent":"spiffe://ex.org/spire/agent/n1","identity":"spiffe://ex.org/web","selectors":["u:1"]}]}
-"#,
-    )?;
-    let got = answers(&rt, rt.alloc(), asked.as_bytes())?;
-    let wanted = r#"{"call":17,"code":"W5","place":16,"result":"refused"}
-{"call":18,"place":17,"replies":[{"bundle":{"domain":"new","sequence":0,"text":""}},{"deleted":[],"dissociated":[]},{"bundle":null}],"result":"committed"}
-{"call":19,"place":18,"replies":[{"entry":{"domains":[],"expiry":0,"hint":"","id":"bdd219b8-a08d-4d1a-a836-efcc8b770dc7","identity":"spiffe://ex.org/web","parent":"spiffe://ex.org/spire/agent/n1","revision":0,"selectors":["u:1"]}}],"result":"committed"}
+/// Lists in lists, and lines up to the limit and past it.
+const DEEP_AND_LONG: &str = r#"
+«128*[»«128*]»
+{"code":"L2","line":1}
+«127*[»«127*]»
+{"code":"L4","line":2}
+{"ops":[{"id":"00000000-0000-0000-0000-000000000001","op":"show"}]}«1048509* »
+{"call":1,"place":0,"replies":[{"entry":null}],"result":"answered"}
+{"ops":[{"id":"00000000-0000-0000-0000-000000000001","op":"show"}]}«1048510* »
+{"code":"L1","line":4}
 "#;
-    holds(
-        &rt,
-        str::from_utf8(&got)?.ends_with(wanted),
-        "one bundle too many",
-    );
-    Ok(())
-}
+
+/// Last lines without an LF: as long as they can be, and longer.
+const LONG_AND_CUT: &str = r#"
+{"ops":[{"id":"00000000-0000-0000-0000-000000000001","op":"show"}]}«1048509* »«»
+{"code":"L3","line":1}
+"#;
+
+const LONGER_AND_CUT: &str = r#"
+{"ops":[{"id":"00000000-0000-0000-0000-000000000001","op":"show"}]}«1048510* »«»
+{"code":"L1","line":1}
+"#;
 
 #[test]
 fn lists_too_deep_and_lines_too_long(rt: HostRuntime) -> Result<(), Fail> {
-    is_written(&rt, &answers(&rt, rt.alloc(), b"")?, "");
-    let mut deep = Vec::new(rt.alloc());
-    for depth in [128, 127] {
-        deep.resize(deep.len().saturating_add(depth), b'[')?;
-        deep.resize(deep.len().saturating_add(depth), b']')?;
-        deep.push(b'\n')?;
-    }
-    let wanted = "{\"code\":\"L2\",\"line\":1}\n{\"code\":\"L4\",\"line\":2}\n";
-    is_written(&rt, &answers(&rt, rt.alloc(), &deep)?, wanted);
-    for (len, end, wanted) in [
-        (1_048_576, "\n", SHOWN),
-        (1_048_577, "\n", r#"{"code":"L1","line":1}"#),
-        (1_048_576, "", r#"{"code":"L3","line":1}"#),
-        (1_048_577, "", r#"{"code":"L1","line":1}"#),
-    ] {
-        let line = padded(rt.alloc(), SHOW, len, end)?;
-        let mut wanted = String::from_str(rt.alloc(), wanted)?;
-        wanted.push('\n')?;
-        is_written(&rt, &answers(&rt, rt.alloc(), &line)?, wanted.as_str());
-    }
-    Ok(())
+    are_answered(&rt, rt.alloc(), "")?;
+    are_answered(&rt, rt.alloc(), DEEP_AND_LONG)?;
+    are_answered(&rt, rt.alloc(), LONG_AND_CUT)?;
+    are_answered(&rt, rt.alloc(), LONGER_AND_CUT)
 }
+
+/// The front of a line is answered so.
+fn is_truncated(rt: &(impl Abort + Wait), alloc: Global, front: &[u8]) -> Result<(), Fail> {
+    let got = answers(rt, alloc, front)?;
+    is_written(rt, &got, "{\"code\":\"L3\",\"line\":1}\n")
+}
+
+const SHOW: &str = r#"{"ops":[{"id":"00000000-0000-0000-0000-000000000001","op":"show"}]}"#;
 
 #[test]
 fn each_beginning_of_a_line_is_refused_as_truncated(rt: HostRuntime) -> Result<(), Fail> {
-    let first = SHOW.as_bytes();
-    for len in 1..first.len().saturating_add(1) {
-        let bytes = answers(&rt, rt.alloc(), first.split_at(len.min(first.len())).0)?;
-        is_written(&rt, &bytes, "{\"code\":\"L3\",\"line\":1}\n");
+    let bytes = SHOW.as_bytes();
+    for len in 1..bytes.len().saturating_add(1) {
+        is_truncated(&rt, rt.alloc(), bytes.split_at(len.min(bytes.len())).0)?;
     }
     Ok(())
 }

@@ -1,10 +1,11 @@
 //! Whole runs of the engine over memory, and over devices that are slow or fail.
 
-use crate::engine::{Table, are_answered, run};
-use crate::wanted::{ends_at_a_failure, holds, is_written};
-use reg_programs::RunFault;
+use crate::engine::{Engine, Table, are_answered, run};
+use crate::failing::{fail_each_read, fail_each_write};
+use crate::wanted::{holds, is_written};
 use std::alloc::Global;
 use std::process::Abort;
+use std::sync::Wait;
 use std::test::Fail;
 use test_devices::{Giver, Pace, Taker, Trouble};
 
@@ -37,124 +38,83 @@ fn every_operation_is_answered(rt: HostRuntime) -> Result<(), Fail> {
     are_answered(&rt, rt.alloc(), EVERY_OPERATION)
 }
 
+/// The table's requests are answered over devices that are so slow.
+fn is_run(
+    rt: &(impl Abort + Wait),
+    alloc: Global,
+    table: &Table,
+    from: Pace,
+    to: Pace,
+) -> Result<(), Fail> {
+    let mut taker = Taker::new(alloc, to, Trouble::NONE);
+    let mut giver = Giver::new(&table.asked, from, Trouble::NONE);
+    let ended = run(rt, alloc, Engine::Plain, &mut giver, &mut taker)?;
+    holds(rt, ended.is_ok(), "slow devices");
+    is_written(rt, &taker.bytes, table.wanted.as_str())
+}
+
 #[test]
 fn slow_devices_change_nothing(rt: HostRuntime) -> Result<(), Fail> {
     let table = Table::of(rt.alloc(), EVERY_OPERATION)?;
     for from in Pace::EACH {
         for to in Pace::EACH {
-            let mut giver = Giver::new(table.asked.as_bytes(), from, Trouble::NONE);
-            let mut taker = Taker::new(rt.alloc(), to, Trouble::NONE);
-            let ended = run(rt.alloc(), &mut giver, &mut taker)?;
-            holds(&rt, ended.is_ok(), "slow devices");
-            is_written(&rt, &taker.bytes, table.wanted.as_str());
+            is_run(&rt, rt.alloc(), &table, from, to)?;
         }
     }
     Ok(())
 }
 
-/// How many lines these bytes end.
-fn count_of_lines(bytes: &[u8]) -> usize {
-    bytes.iter().filter(|byte| **byte == b'\n').count()
-}
-
-/// How many lines were read of this text: once it has ended, its last part is one, too.
-fn lines_read(text: &str, giver: &Giver<'_>) -> usize {
-    let read = text.len().saturating_sub(giver.rest.len());
-    let whole = count_of_lines(text.as_bytes().split_at(read.min(text.len())).0);
-    if giver.has_ended {
-        return whole.saturating_add(1);
-    }
-    whole
-}
+/// A last part without LF, and its answer behind those to every operation.
+const CUT: &str = r#"
+{"ops":[]}«»
+{"code":"L3","line":5}
+"#;
 
 /// At a failed read the reply to each line so far is out, and nothing else. The last part has no LF.
 #[test]
 fn each_failing_read_ends_the_run(rt: HostRuntime) -> Result<(), Fail> {
     let mut table = Table::of(rt.alloc(), EVERY_OPERATION)?;
-    table.asked.push_str(r#"{"ops":[]}"#)?;
-    table.wanted.push_str("{\"code\":\"L3\",\"line\":5}\n")?;
-    for pace in Pace::EACH {
-        for call in 1..5_000u64 {
-            let trouble = Trouble::failing_at(call);
-            let mut giver = Giver::new(table.asked.as_bytes(), pace, trouble);
-            let mut taker = Taker::new(rt.alloc(), Pace::All, Trouble::NONE);
-            let ended = run(rt.alloc(), &mut giver, &mut taker)?;
-            let (calls, written, wanted) = (
-                giver.calls,
-                taker.bytes.as_slice(),
-                table.wanted.as_str(),
-            );
-            ends_at_a_failure(&rt, call, calls, ended, RunFault::Input, written, wanted);
-            if calls < call {
-                break;
-            }
-            let lines = lines_read(table.asked.as_str(), &giver);
-            holds(
-                &rt,
-                count_of_lines(written) == lines,
-                "a line for each that was read",
-            );
-            holds(
-                &rt,
-                written.is_empty() || written.ends_with(b"\n"),
-                "whole lines",
-            );
-        }
+    table.read(rt.alloc(), CUT)?;
+    for from in Pace::EACH {
+        fail_each_read(&rt, rt.alloc(), Engine::Plain, &table, from)?;
     }
     Ok(())
 }
 
-/// Runs the table's requests with each call of the writer failing in turn, until the run makes no such call.
-fn fail_each_write(
-    rt: &impl Abort,
-    alloc: Global,
-    text: &str,
-    from: Pace,
-    to: Pace,
-) -> Result<(), Fail> {
-    let table = Table::of(alloc, text)?;
-    for call in 1..5_000u64 {
-        let mut giver = Giver::new(table.asked.as_bytes(), from, Trouble::NONE);
-        let mut taker = Taker::new(alloc, to, Trouble::failing_at(call));
-        let ended = run(alloc, &mut giver, &mut taker)?;
-        let (calls, written, wanted) = (taker.calls, taker.bytes.as_slice(), table.wanted.as_str());
-        ends_at_a_failure(rt, call, calls, ended, RunFault::Output, written, wanted);
-        if calls < call {
-            return Ok(());
-        }
-        holds(rt, calls == call, "nothing is written behind a failure");
-    }
-    Err(Fail::from("too many calls"))
-}
-
 #[test]
 fn each_failing_write_ends_the_run(rt: HostRuntime) -> Result<(), Fail> {
+    let long = Table::of(rt.alloc(), EVERY_OPERATION)?;
+    let short = Table::of(rt.alloc(), REFUSED_AND_ANSWERED)?;
     for from in Pace::EACH {
-        fail_each_write(&rt, rt.alloc(), EVERY_OPERATION, from, Pace::All)?;
-        fail_each_write(&rt, rt.alloc(), EVERY_OPERATION, from, Pace::Line)?;
-        fail_each_write(&rt, rt.alloc(), REFUSED_AND_ANSWERED, from, Pace::Byte)?;
+        fail_each_write(&rt, rt.alloc(), Engine::Plain, &long, (from, Pace::All))?;
+        fail_each_write(&rt, rt.alloc(), Engine::Plain, &long, (from, Pace::Line))?;
+        fail_each_write(&rt, rt.alloc(), Engine::Plain, &short, (from, Pace::Byte))?;
     }
+    Ok(())
+}
+
+/// A run of every operation at this pace makes so many reads, so many calls of the writer, and so many flushes among them.
+fn is_counted(
+    rt: &(impl Abort + Wait),
+    alloc: Global,
+    from: Pace,
+    (reads, calls, flushes): (u64, u64, u64),
+) -> Result<(), Fail> {
+    let table = Table::of(alloc, EVERY_OPERATION)?;
+    let mut taker = Taker::new(alloc, Pace::All, Trouble::NONE);
+    let mut giver = Giver::new(&table.asked, from, Trouble::NONE);
+    let ended = run(rt, alloc, Engine::Plain, &mut giver, &mut taker)?;
+    holds(rt, ended.is_ok(), "a run");
+    holds(rt, giver.calls == reads, "reads");
+    holds(rt, taker.calls == calls, "calls of the writer");
+    holds(rt, taker.flushes == flushes, "flushes");
     Ok(())
 }
 
 #[test]
 fn replies_are_out_before_the_next_read_and_not_line_by_line(rt: HostRuntime) -> Result<(), Fail> {
-    let table = Table::of(rt.alloc(), EVERY_OPERATION)?;
     // a terminal gives a line at a time, and gets a flush before each read: there are four lines and the end
-    let mut giver = Giver::new(table.asked.as_bytes(), Pace::Line, Trouble::NONE);
-    let mut taker = Taker::new(rt.alloc(), Pace::All, Trouble::NONE);
-    let ended = run(rt.alloc(), &mut giver, &mut taker)?;
-    let calls = (giver.calls, taker.calls, taker.flushes);
-    holds(&rt, ended.is_ok() && calls == (5, 10, 6), "line by line");
+    is_counted(&rt, rt.alloc(), Pace::Line, (5, 10, 6))?;
     // a file gives all lines at once, and gets their replies at once
-    let mut giver = Giver::new(table.asked.as_bytes(), Pace::All, Trouble::NONE);
-    let mut taker = Taker::new(rt.alloc(), Pace::All, Trouble::NONE);
-    let ended = run(rt.alloc(), &mut giver, &mut taker)?;
-    let calls = (giver.calls, taker.calls, taker.flushes);
-    holds(
-        &rt,
-        ended.is_ok() && calls == (2, 4, 3),
-        "all lines at once",
-    );
-    Ok(())
+    is_counted(&rt, rt.alloc(), Pace::All, (2, 4, 3))
 }

@@ -1,14 +1,16 @@
 //! Event lines, their answers, and the order line behind them.
 
-use crate::engine::{FIRST_SEED, Table, are_played};
-use crate::wanted::{ends_at_a_failure, holds};
-use reg_lines::{CountedDevice, Input, Output};
-use reg_programs::{RunFault, schedule};
-use spiffe_name::TrustDomain;
+use crate::engine::{Engine, Table, are_answered_by};
+use crate::failing::{fail_each_read, fail_each_write};
 use std::alloc::Global;
 use std::process::Abort;
 use std::test::Fail;
-use test_devices::{Giver, Pace, Taker, Trouble};
+use test_devices::Pace;
+
+/// The events of the table, in one run of `regd schedule` for `ex.org`, get the answers beside them, and then the order line.
+fn are_played(rt: &impl Abort, alloc: Global, text: &str) -> Result<(), Fail> {
+    are_answered_by(rt, alloc, "regd|schedule|--domain|ex.org", text)
+}
 
 /// A question, from its invoke to its reply.
 const QUESTION: &str = r#"
@@ -318,57 +320,18 @@ fn no_events_have_an_order_without_calls(rt: HostRuntime) -> Result<(), Fail> {
     are_played(&rt, rt.alloc(), "{\"order\":[]}\n")
 }
 
-/// Runs `regd schedule` for `ex.org` over these devices.
-fn play(
-    alloc: Global,
-    giver: &mut Giver<'_>,
-    taker: &mut Taker,
-) -> Result<Result<(), RunFault>, Fail> {
-    let domain = TrustDomain::parse(alloc, "ex.org")?;
-    let mut input = Input::new(CountedDevice::new(giver));
-    let mut output = Output::new(CountedDevice::new(taker));
-    Ok(schedule(alloc, domain, FIRST_SEED, &mut input, &mut output))
-}
-
-/// Plays the table's events with each read failing in turn, until the run makes no such read.
-fn fail_each_read(rt: &impl Abort, alloc: Global, table: &Table, from: Pace) -> Result<(), Fail> {
-    for call in 1..5_000u64 {
-        let trouble = Trouble::failing_at(call);
-        let mut giver = Giver::new(table.asked.as_bytes(), from, trouble);
-        let mut taker = Taker::new(alloc, Pace::All, Trouble::NONE);
-        let ended = play(alloc, &mut giver, &mut taker)?;
-        let (calls, written, wanted) = (giver.calls, taker.bytes.as_slice(), table.wanted.as_str());
-        ends_at_a_failure(rt, call, calls, ended, RunFault::Input, written, wanted);
-        if calls < call {
-            return Ok(());
-        }
-        holds(rt, calls == call, "nothing is read behind a failure");
-    }
-    Err(Fail::from("too many reads"))
-}
-
-/// The same of the calls of the writer.
-fn fail_each_write(rt: &impl Abort, alloc: Global, table: &Table, to: Pace) -> Result<(), Fail> {
-    for call in 1..5_000u64 {
-        let mut giver = Giver::new(table.asked.as_bytes(), Pace::Line, Trouble::NONE);
-        let mut taker = Taker::new(alloc, to, Trouble::failing_at(call));
-        let ended = play(alloc, &mut giver, &mut taker)?;
-        let (calls, written, wanted) = (taker.calls, taker.bytes.as_slice(), table.wanted.as_str());
-        ends_at_a_failure(rt, call, calls, ended, RunFault::Output, written, wanted);
-        if calls < call {
-            return Ok(());
-        }
-        holds(rt, calls == call, "nothing is written behind a failure");
-    }
-    Err(Fail::from("too many writes"))
-}
-
 #[test]
 fn each_failing_device_ends_a_schedule(rt: HostRuntime) -> Result<(), Fail> {
     let table = Table::of(rt.alloc(), QUESTION)?;
     for pace in Pace::EACH {
-        fail_each_read(&rt, rt.alloc(), &table, pace)?;
-        fail_each_write(&rt, rt.alloc(), &table, pace)?;
+        fail_each_read(&rt, rt.alloc(), Engine::Schedule, &table, pace)?;
+        fail_each_write(
+            &rt,
+            rt.alloc(),
+            Engine::Schedule,
+            &table,
+            (Pace::Line, pace),
+        )?;
     }
     Ok(())
 }

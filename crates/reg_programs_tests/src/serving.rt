@@ -37,28 +37,18 @@ const ANSWER: &str =
     r#"{"call":1,"place":2,"replies":[{"entries":[{"domains":[],"expiry":0,"hint":"","id":"00000000-0000-0000-0000-000000000001","identity":"spiffe://ex.org/web","parent":"spiffe://ex.org/spire/agent/n1","revision":0,"selectors":["unix:uid:1000"]}]}],"result":"answered"}
 "#;
 
-/// How two connections are made.
-#[derive(Clone, Copy, Debug, PartialEq, Eq, Drop)]
-enum Callers {
-    /// The second one comes after the first one has ended.
-    OneAfterAnother,
-    /// The first one stays open and silent until the second one has been answered.
-    SilentFirst,
-    /// The first one ends inside a line.
-    CutInsideLine,
-}
+/// A line that is cut inside.
+const CUT: &str = "{\"ops\":";
 
-/// Sends a text, ends its side, and reads to the end, within 10,000 turns of one millisecond.
-fn exchange(alloc: Global, stream: &TcpStream, text: &str) -> io::Result<String> {
-    let (mut to, mut from) = (stream, stream);
-    to.write_all(text.as_bytes())?;
-    stream.shutdown(Shutdown::Write)?;
-    stream.set_read_timeout(Some(Duration::from_millis(1)))?;
-    let mut answers = String::new(alloc);
+/// What two connections send, one after another. The first one stays open and silent where it has nothing to send.
+type Callers = (&'static str, &'static str);
+
+/// Reads to the end, within 10,000 turns of one millisecond.
+fn read_all(mut from: &TcpStream, answers: &mut String) -> io::Result<()> {
     let mut part = [0; 4096];
     for _ in 0..10_000u32 {
         match from.read(&mut part) {
-            Ok(0) => return Ok(answers),
+            Ok(0) => return Ok(()),
             Ok(count) => answers.push_str(str::from_utf8(&part[..count]).unwrap_or("?"))?,
             Err(error) if error.kind() == io::ErrorKind::WouldBlock => {}
             Err(error) => return Err(error),
@@ -67,25 +57,36 @@ fn exchange(alloc: Global, stream: &TcpStream, text: &str) -> io::Result<String>
     Err(io::Error::from(io::ErrorKind::TimedOut))
 }
 
-/// What the connections are answered, one behind the other.
+/// Sends a text, ends its side, and reads what is answered.
+fn exchange(mut stream: &TcpStream, text: &str, answers: &mut String) -> io::Result<()> {
+    stream.write_all(text.as_bytes())?;
+    stream.shutdown(Shutdown::Write)?;
+    stream.set_read_timeout(Some(Duration::from_millis(1)))?;
+    read_all(stream, answers)
+}
+
+/// Adds what the connections are answered, one behind the other.
+fn call<R: Net<Listener = TcpListener, Stream = TcpStream>>(
+    rt: &R,
+    address: SocketAddr,
+    (first, second): Callers,
+    answers: &mut String,
+) -> io::Result<()> {
+    let stream = TcpStream::connect(rt, address)?;
+    if !first.is_empty() {
+        exchange(&stream, first, answers)?;
+    }
+    exchange(&TcpStream::connect(rt, address)?, second, answers)
+}
+
 fn answers_of<R: Net<Listener = TcpListener, Stream = TcpStream>>(
     rt: &R,
     alloc: Global,
     address: SocketAddr,
     callers: Callers,
 ) -> io::Result<String> {
-    let first = TcpStream::connect(rt, address)?;
-    let mut answers = match callers {
-        Callers::OneAfterAnother => exchange(alloc, &first, FIRST_LINES)?,
-        Callers::SilentFirst => String::new(alloc),
-        Callers::CutInsideLine => exchange(alloc, &first, "{\"ops\":")?,
-    };
-    let second = TcpStream::connect(rt, address)?;
-    let text = match callers {
-        Callers::OneAfterAnother => QUESTION,
-        Callers::SilentFirst | Callers::CutInsideLine => FIRST_LINES,
-    };
-    answers.push_str(exchange(alloc, &second, text)?.as_str())?;
+    let mut answers = String::new(alloc);
+    call(rt, address, callers, &mut answers)?;
     Ok(answers)
 }
 
@@ -140,12 +141,12 @@ fn served_by<
     requires domain { domain.now ≡ J.domain }
     requires workers { 0 < workers }
 {
+    let listener = TcpListener::bind(rt, SocketAddrV4::new(Ipv4Addr::LOCALHOST, 0))?;
+    let address = listener.local_addr()?;
+    let queues = queues_of(alloc, workers)?;
     let Ok(seats) = seats_of(rt, alloc, registry, workers) else {
         return Err(Fail::from("no seats"));
     };
-    let queues = queues_of(alloc, workers)?;
-    let listener = TcpListener::bind(rt, SocketAddrV4::new(Ipv4Addr::LOCALHOST, 0))?;
-    let address = listener.local_addr()?;
     both(
         rt,
         alloc,
@@ -199,7 +200,7 @@ fn both<
 
 #[test]
 fn a_second_connection_sees_what_the_first_one_made(rt: HostRuntime) -> Result<(), Fail> {
-    let answers = answered(&rt, rt.alloc(), 2, Callers::OneAfterAnother)?;
+    let answers = answered(&rt, rt.alloc(), 2, (FIRST_LINES, QUESTION))?;
     let want = format!(in rt.alloc(); "{FIRST_ANSWERS}{ANSWER}")?;
     is_text(&rt, answers.as_str(), want.as_str(), "all answers");
     Ok(())
@@ -207,7 +208,7 @@ fn a_second_connection_sees_what_the_first_one_made(rt: HostRuntime) -> Result<(
 
 #[test]
 fn a_silent_connection_keeps_no_other_waiting(rt: HostRuntime) -> Result<(), Fail> {
-    let answers = answered(&rt, rt.alloc(), 2, Callers::SilentFirst)?;
+    let answers = answered(&rt, rt.alloc(), 2, ("", FIRST_LINES))?;
     is_text(&rt, answers.as_str(), FIRST_ANSWERS, "the first answers");
     Ok(())
 }
@@ -216,7 +217,7 @@ fn a_silent_connection_keeps_no_other_waiting(rt: HostRuntime) -> Result<(), Fai
 fn a_connection_that_is_cut_inside_a_line_ends_none_but_itself(
     rt: HostRuntime,
 ) -> Result<(), Fail> {
-    let answers = answered(&rt, rt.alloc(), 1, Callers::CutInsideLine)?;
+    let answers = answered(&rt, rt.alloc(), 1, (CUT, FIRST_LINES))?;
     let want = format!(in rt.alloc(); "{{\"code\":\"L3\",\"line\":1}}\n{FIRST_ANSWERS}")?;
     is_text(&rt, answers.as_str(), want.as_str(), "all answers");
     Ok(())

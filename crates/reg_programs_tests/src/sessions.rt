@@ -2,18 +2,46 @@
 
 ghost use Rattle.std.specs.Prelude.{◌≡◌};
 
-use crate::engine::{FIRST_SEED, Table};
-use crate::wanted::{ends_at_a_failure, holds};
+use crate::engine::{Engine, Table};
+use crate::failing::{fail_each_read, fail_each_write};
 use reg_lines::{CountedDevice, Ids, Input, Output};
 use reg_programs::{RunFault, session};
-use shared_registry::{Naming, Opened, Registry};
+use shared_registry::{Naming, Opened, Registry, Seat};
 use spiffe_name::TrustDomain;
 use std::alloc::Global;
 use std::marker::Brand;
-use std::process::Abort;
 use std::sync::Wait;
 use std::test::Fail;
-use test_devices::{Giver, Pace, Taker, Trouble};
+use test_devices::{Giver, Pace, Taker};
+
+/// Runs the session of this seat over these devices.
+fn session_of_seat<J: Naming, R: Wait>(
+    rt: &R,
+    alloc: Global,
+    registry: &Registry<J>,
+    seat: Seat<J>,
+    domain: &TrustDomain,
+    seed: [u8; 32],
+    giver: &mut Giver<'_>,
+    taker: &mut Taker,
+) -> Result<(), RunFault>
+    requires domain { domain.now ≡ J.domain }
+{
+    let mut input = Input::new(CountedDevice::new(giver));
+    let mut output = Output::new(CountedDevice::new(taker));
+    let ids = Ids::of_seed(seed);
+    let (_, ran) = session(
+        rt,
+        alloc,
+        registry,
+        domain,
+        seat,
+        ids,
+        &mut input,
+        &mut output,
+    );
+    ran
+}
 
 /// Runs a session over these devices, through a seat that is alone on a registry with an empty book.
 fn session_of<J: Naming, R: Wait>(
@@ -32,22 +60,7 @@ fn session_of<J: Naming, R: Wait>(
 {
     let registry = Registry::<J>::new(alloc, opened, kept)?;
     let ran = match registry.seat(rt) {
-        Ok(seat) => {
-            let mut input = Input::new(CountedDevice::new(giver));
-            let mut output = Output::new(CountedDevice::new(taker));
-            let ids = Ids::of_seed(seed);
-            let (_, ran) = session(
-                rt,
-                alloc,
-                &registry,
-                domain,
-                seat,
-                ids,
-                &mut input,
-                &mut output,
-            );
-            Ok(ran)
-        }
+        Ok(seat) => Ok(session_of_seat(rt, alloc, &registry, seat, domain, seed, giver, taker)),
         Err(_) => Err(Fail::from("no seat")),
     };
     registry.close(rt);
@@ -55,33 +68,16 @@ fn session_of<J: Naming, R: Wait>(
 }
 
 /// The same, of a registry of its own.
-fn run_alone<R: Wait>(
+pub fn run_alone<R: Wait>(
     rt: &R,
     alloc: Global,
-    domain: &str,
+    domain: TrustDomain,
     seed: [u8; 32],
     giver: &mut Giver<'_>,
     taker: &mut Taker,
 ) -> Result<Result<(), RunFault>, Fail> {
-    let domain = TrustDomain::parse(alloc, domain)?;
     let kept = domain.clone()?;
     session_of::<Brand, _>(rt, alloc, Opened::new(), kept, &domain, seed, giver, taker)
-}
-
-/// What a session answers to these bytes, through a seat that is alone on a registry with an empty book.
-pub fn answers_alone<R: Wait>(
-    rt: &R,
-    alloc: Global,
-    domain: &str,
-    seed: [u8; 32],
-    bytes: &[u8],
-) -> Result<Vec<u8>, Fail> {
-    let mut giver = Giver::new(bytes, Pace::All, Trouble::NONE);
-    let mut taker = Taker::new(alloc, Pace::All, Trouble::NONE);
-    match run_alone(rt, alloc, domain, seed, &mut giver, &mut taker)? {
-        Ok(()) => Ok(taker.bytes),
-        Err(_) => Err(Fail::from("the session failed")),
-    }
 }
 
 /// An agent, an entry under it, and what the agent may serve.
@@ -94,54 +90,18 @@ const FIRST_LINES: &str = r#"
 {"call":3,"place":2,"replies":[{"entries":[{"domains":[],"expiry":0,"hint":"","id":"00000000-0000-0000-0000-000000000001","identity":"spiffe://ex.org/web","parent":"spiffe://ex.org/spire/agent/n1","revision":0,"selectors":["unix:uid:1000"]}]}],"result":"answered"}
 "#;
 
-/// At a failed read what was written is a beginning, in whole lines.
+/// At a failed read the reply to each line so far is out.
 #[test]
 fn each_failing_read_ends_the_session(rt: HostRuntime) -> Result<(), Fail> {
     let table = Table::of(rt.alloc(), FIRST_LINES)?;
-    for call in 1..100u64 {
-        let trouble = Trouble::failing_at(call);
-        let mut giver = Giver::new(table.asked.as_bytes(), Pace::Line, trouble);
-        let mut taker = Taker::new(rt.alloc(), Pace::All, Trouble::NONE);
-        let ended = run_alone(
-            &rt,
-            rt.alloc(),
-            "ex.org",
-            FIRST_SEED,
-            &mut giver,
-            &mut taker,
-        )?;
-        let (calls, written, wanted) = (giver.calls, taker.bytes.as_slice(), table.wanted.as_str());
-        ends_at_a_failure(&rt, call, calls, ended, RunFault::Input, written, wanted);
-        holds(
-            &rt,
-            written.is_empty() || written.ends_with(b"\n"),
-            "whole lines",
-        );
-        if calls < call {
-            return Ok(());
-        }
-    }
-    Err(Fail::from("too many calls"))
-}
-
-/// Runs the first lines with each call of the writer failing in turn, until the run makes no such call.
-fn fail_each_write(rt: &(impl Abort + Wait), alloc: Global, to: Pace) -> Result<(), Fail> {
-    let table = Table::of(alloc, FIRST_LINES)?;
-    for call in 1..2_000u64 {
-        let mut giver = Giver::new(table.asked.as_bytes(), Pace::All, Trouble::NONE);
-        let mut taker = Taker::new(alloc, to, Trouble::failing_at(call));
-        let ended = run_alone(rt, alloc, "ex.org", FIRST_SEED, &mut giver, &mut taker)?;
-        let (calls, written, wanted) = (taker.calls, taker.bytes.as_slice(), table.wanted.as_str());
-        ends_at_a_failure(rt, call, calls, ended, RunFault::Output, written, wanted);
-        if calls < call {
-            return Ok(());
-        }
-    }
-    Err(Fail::from("too many calls"))
+    fail_each_read(&rt, rt.alloc(), Engine::Session, &table, Pace::Line)
 }
 
 #[test]
 fn each_failing_write_ends_the_session(rt: HostRuntime) -> Result<(), Fail> {
-    fail_each_write(&rt, rt.alloc(), Pace::All)?;
-    fail_each_write(&rt, rt.alloc(), Pace::Byte)
+    let table = Table::of(rt.alloc(), FIRST_LINES)?;
+    for to in [Pace::All, Pace::Byte] {
+        fail_each_write(&rt, rt.alloc(), Engine::Session, &table, (Pace::All, to))?;
+    }
+    Ok(())
 }

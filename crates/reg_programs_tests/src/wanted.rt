@@ -2,6 +2,7 @@
 
 use reg_programs::RunFault;
 use std::process::Abort;
+use std::test::Fail;
 
 /// The two texts are the same.
 pub fn is_text(rt: &impl Abort, got: &str, want: &str, at: &str) {
@@ -9,16 +10,19 @@ pub fn is_text(rt: &impl Abort, got: &str, want: &str, at: &str) {
 }
 
 /// The bytes are those of this text.
-pub fn is_written(rt: &impl Abort, got: &[u8], want: &str) {
-    match str::from_utf8(got) {
-        Ok(got) => assert_eq!(rt; got, want),
-        Err(_) => assert!(rt; false, "no text"),
-    }
+pub fn is_written(rt: &impl Abort, got: &[u8], want: &str) -> Result<(), Fail> {
+    is_text(rt, str::from_utf8(got)?, want, "what is written");
+    Ok(())
 }
 
 /// It holds.
 pub fn holds(rt: &impl Abort, it: bool, at: &str) {
     assert!(rt; it, "{at}");
+}
+
+/// It holds at this number.
+pub fn holds_at(rt: &impl Abort, it: bool, at: &str, number: u64) {
+    assert!(rt; it, "{at} {number}");
 }
 
 /// A run whose device was to fail at this call wrote a beginning of the text. Where it came to the call it ended there, with
@@ -32,12 +36,18 @@ pub fn ends_at_a_failure(
     written: &[u8],
     text: &str,
 ) {
-    let has_failed = calls >= call;
-    let want = if has_failed { Err(fault) } else { Ok(()) };
-    assert_eq!(rt; ended, want, "{call}");
     let is_beginning = text.as_bytes().starts_with(written);
-    assert!(rt;
-        is_beginning && (has_failed || written.len() == text.len()),
-        "{call}"
-    );
+    holds_at(rt, is_beginning, "a beginning is written at", call);
+    if calls < call {
+        holds_at(rt, ended.is_ok(), "ends well at", call);
+        holds_at(rt, written.len() == text.len(), "all is written at", call);
+    } else {
+        holds_at(rt, ended == Err(fault), "ends with the fault at", call);
+        holds_at(
+            rt,
+            calls == call,
+            "no call comes behind the failure at",
+            call,
+        );
+    }
 }

@@ -1,0 +1,122 @@
+//! Runs over a reader or a writer that fails, at each of its calls in turn.
+
+use crate::engine::{Engine, Table, run};
+use crate::wanted::{ends_at_a_failure, holds_at};
+use reg_programs::RunFault;
+use std::alloc::Global;
+use std::process::Abort;
+use std::sync::Wait;
+use std::test::Fail;
+use test_devices::{Giver, Pace, Taker, Trouble};
+
+/// How many lines these bytes end.
+fn count_of_lines(bytes: &[u8]) -> u64 {
+    let mut count = 0u64;
+    for byte in bytes {
+        if *byte == b'\n' {
+            count = count.saturating_add(1);
+        }
+    }
+    count
+}
+
+/// How many lines were read of these bytes: once they have ended, their last part is one, too.
+fn lines_read(bytes: &[u8], giver: &Giver<'_>) -> u64 {
+    let read = bytes.len().saturating_sub(giver.rest.len());
+    let whole = count_of_lines(bytes.split_at(read.min(bytes.len())).0);
+    if giver.has_ended {
+        return whole.saturating_add(1);
+    }
+    whole
+}
+
+/// How many lines are out where a read fails: a reply to each line so far. Records are all written at the end.
+fn lines_due(engine: Engine, table: &Table, giver: &Giver<'_>) -> u64 {
+    match engine {
+        Engine::Record => 0,
+        _ => lines_read(&table.asked, giver),
+    }
+}
+
+/// Runs with this read failing. Was there such a read?
+fn fails_at_read(
+    rt: &(impl Abort + Wait),
+    alloc: Global,
+    engine: Engine,
+    table: &Table,
+    from: Pace,
+    call: u64,
+) -> Result<bool, Fail> {
+    let mut taker = Taker::new(alloc, Pace::All, Trouble::NONE);
+    let mut giver = Giver::new(&table.asked, from, Trouble::failing_at(call));
+    let ended = run(rt, alloc, engine, &mut giver, &mut taker)?;
+    let written = taker.bytes.as_slice();
+    let want = table.wanted.as_str();
+    ends_at_a_failure(rt, call, giver.calls, ended, RunFault::Input, written, want);
+    if giver.calls < call {
+        return Ok(false);
+    }
+    let due = lines_due(engine, table, &giver);
+    holds_at(rt, count_of_lines(written) == due, "lines due at", call);
+    let is_whole = written.is_empty() || written.ends_with(b"\n");
+    holds_at(rt, is_whole, "whole lines at", call);
+    Ok(true)
+}
+
+/// Runs with each read failing in turn, until the run makes no such read.
+pub fn fail_each_read(
+    rt: &(impl Abort + Wait),
+    alloc: Global,
+    engine: Engine,
+    table: &Table,
+    from: Pace,
+) -> Result<(), Fail> {
+    for call in 1..5_000u64 {
+        if !fails_at_read(rt, alloc, engine, table, from, call)? {
+            return Ok(());
+        }
+    }
+    Err(Fail::from("too many reads"))
+}
+
+/// Runs with this call of the writer failing. Was there such a call?
+fn fails_at_write(
+    rt: &(impl Abort + Wait),
+    alloc: Global,
+    engine: Engine,
+    table: &Table,
+    (from, to): (Pace, Pace),
+    call: u64,
+) -> Result<bool, Fail> {
+    let mut taker = Taker::new(alloc, to, Trouble::failing_at(call));
+    let mut giver = Giver::new(&table.asked, from, Trouble::NONE);
+    let ended = run(rt, alloc, engine, &mut giver, &mut taker)?;
+    let written = taker.bytes.as_slice();
+    let want = table.wanted.as_str();
+    ends_at_a_failure(
+        rt,
+        call,
+        taker.calls,
+        ended,
+        RunFault::Output,
+        written,
+        want,
+    );
+    Ok(taker.calls >= call)
+}
+
+/// Runs with each call of the writer failing in turn, until the run makes no such call.
+pub fn fail_each_write(
+    rt: &(impl Abort + Wait),
+    alloc: Global,
+    engine: Engine,
+    table: &Table,
+    paces: (Pace, Pace),
+) -> Result<(), Fail> {
+    for call in 1..5_000u64 {
+        if !fails_at_write(rt, alloc, engine, table, paces, call)? {
+            return Ok(());
+        }
+    }
+    Err(Fail::from("too many calls"))
+}
