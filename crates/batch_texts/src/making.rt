@@ -146,41 +146,41 @@ fn mode(word: &str) -> DropMode {
 
 /// The operation that a line tells. One whose name ends in 0 expects revision 0.
 fn op(alloc: Global, words: &[&str]) -> Result<Op, Failed> {
-    match word(words, 0) {
-        "create" => Ok(Op::Create(entry(alloc, words)?)),
-        "update" => Ok(Op::Update(entry(alloc, words)?, None)),
-        "update0" => Ok(Op::Update(entry(alloc, words)?, Some(0))),
-        "delete" => Ok(Op::Delete(uuid(words, 1)?, None)),
-        "delete0" => Ok(Op::Delete(uuid(words, 1)?, Some(0))),
-        "show" => Ok(Op::Show(uuid(words, 1)?)),
-        "prune" => Ok(Op::Prune(number(words, 1)?)),
-        "page" => page(alloc, words),
-        "set_agent" => Ok(Op::SetAgent(agent(alloc, words)?)),
-        kind => other_op(alloc, words, kind),
-    }
+    Ok(match word(words, 0) {
+        "create" => Op::Create(entry(alloc, words)?),
+        "update" => Op::Update(entry(alloc, words)?, None),
+        "update0" => Op::Update(entry(alloc, words)?, Some(0)),
+        "delete" => Op::Delete(uuid(words, 1)?, None),
+        "delete0" => Op::Delete(uuid(words, 1)?, Some(0)),
+        "show" => Op::Show(uuid(words, 1)?),
+        "prune" => Op::Prune(number(words, 1)?),
+        "page" => page(alloc, words)?,
+        "set_agent" => Op::SetAgent(agent(alloc, words)?),
+        kind => other_op(alloc, words, kind)?,
+    })
 }
 
 fn other_op(alloc: Global, words: &[&str], kind: &str) -> Result<Op, Failed> {
-    match kind {
-        "set_bundle" => Ok(Op::SetBundle(domain(alloc, word(words, 1))?, text(alloc)?)),
+    Ok(match kind {
+        "set_bundle" => Op::SetBundle(domain(alloc, word(words, 1))?, text(alloc)?),
         "drop_bundle" => {
             let mode = mode(word(words, 2));
-            Ok(Op::DropBundle(domain(alloc, word(words, 1))?, mode))
+            Op::DropBundle(domain(alloc, word(words, 1))?, mode)
         }
-        "show_bundle" => Ok(Op::ShowBundle(domain(alloc, word(words, 1))?)),
-        kind => op_of_id(id(alloc, word(words, 1))?, kind),
-    }
+        "show_bundle" => Op::ShowBundle(domain(alloc, word(words, 1))?),
+        kind => op_of_id(id(alloc, word(words, 1))?, kind)?,
+    })
 }
 
 fn op_of_id(id: Shared<SpiffeId>, kind: &str) -> Result<Op, Failed> {
-    match kind {
-        "drop_agent" => Ok(Op::DropAgent(id)),
-        "show_agent" => Ok(Op::ShowAgent(id)),
-        "children" => Ok(Op::Children(id)),
-        "authorised" => Ok(Op::Authorised(id)),
-        "trust" => Ok(Op::Trust(id)),
-        _ => Err(Failed::NotRead),
-    }
+    Ok(match kind {
+        "drop_agent" => Op::DropAgent(id),
+        "show_agent" => Op::ShowAgent(id),
+        "children" => Op::Children(id),
+        "authorised" => Op::Authorised(id),
+        "trust" => Op::Trust(id),
+        _ => return Err(Failed::NotRead),
+    })
 }
 
 /// The number behind this word, where a line begins with it.

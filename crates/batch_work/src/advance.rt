@@ -26,39 +26,39 @@ use version_book::{Changes, Mark, RowsRead};
 fn first_mark(op: &Op) -> Result<Mark, AllocError>
     ensures { IfOk result (λ mark. mark ≡ first_mark op.now) }
 {
-    match op {
-        Op::Create(new) => Ok(Mark::entry(new.get().id)),
-        Op::Update(new, _) => Ok(Mark::entry(new.get().id)),
-        Op::Delete(id, _) => Ok(Mark::entry(*id)),
-        Op::Show(id) => Ok(Mark::entry(*id)),
-        Op::ShowAgent(agent) => Ok(Mark::agent(agent.clone()?)),
-        Op::ShowBundle(domain) => Ok(Mark::bundle(domain.clone()?)),
-        Op::Children(parent) => Mark::children(parent),
-        Op::Page(_) => Ok(Mark::all()),
-        Op::Authorised(agent) => Ok(Mark::agent(agent.clone()?)),
-        Op::Trust(agent) => Ok(Mark::agent(agent.clone()?)),
-        Op::Prune(moment) => Ok(Mark::expiring(*moment)),
-        Op::SetAgent(agent) => Ok(Mark::agent(agent.id.clone()?)),
-        Op::DropAgent(agent) => Ok(Mark::agent(agent.clone()?)),
-        Op::SetBundle(domain, _) => Ok(Mark::bundle(domain.clone()?)),
-        Op::DropBundle(domain, _) => Ok(Mark::bundle(domain.clone()?)),
-    }
+    Ok(match op {
+        Op::Create(new) => Mark::entry(new.get().id),
+        Op::Update(new, _) => Mark::entry(new.get().id),
+        Op::Delete(id, _) => Mark::entry(*id),
+        Op::Show(id) => Mark::entry(*id),
+        Op::ShowAgent(agent) => Mark::agent(agent.clone()?),
+        Op::ShowBundle(domain) => Mark::bundle(domain.clone()?),
+        Op::Children(parent) => Mark::children(parent)?,
+        Op::Page(_) => Mark::all(),
+        Op::Authorised(agent) => Mark::agent(agent.clone()?),
+        Op::Trust(agent) => Mark::agent(agent.clone()?),
+        Op::Prune(moment) => Mark::expiring(*moment),
+        Op::SetAgent(agent) => Mark::agent(agent.id.clone()?),
+        Op::DropAgent(agent) => Mark::agent(agent.clone()?),
+        Op::SetBundle(domain, _) => Mark::bundle(domain.clone()?),
+        Op::DropBundle(domain, _) => Mark::bundle(domain.clone()?),
+    })
 }
 
 /// The mark that is read next. The error is want of memory.
 pub(crate) fn mark_of(server: &Shared<SpiffeId>, op: &Op, phase: &Phase) -> Result<Mark, AllocError>
     ensures { IfOk result (λ mark. mark ≡ mark_of server.now op.now phase.now) }
 {
-    match phase {
-        Phase::First => first_mark(op),
-        Phase::Group(_, entry) => Mark::group(entry.parent(), entry.identity()),
-        Phase::Bundle(_, _, domain, _) => Ok(Mark::bundle(domain.clone()?)),
-        Phase::Users(bundle, _) => Mark::users(&bundle.domain),
-        Phase::Server(_, _) => Mark::children(server),
-        Phase::Own(_, walk) => Mark::children(&walk.agent().id),
-        Phase::Identity(_, _, identity) => Mark::children(identity),
-        Phase::Trusted(domain, _, _, _) => Ok(Mark::bundle(domain.clone()?)),
-    }
+    Ok(match phase {
+        Phase::First => first_mark(op)?,
+        Phase::Group(_, entry) => Mark::group(entry.parent(), entry.identity())?,
+        Phase::Bundle(_, _, domain, _) => Mark::bundle(domain.clone()?),
+        Phase::Users(bundle, _) => Mark::users(&bundle.domain)?,
+        Phase::Server(_, _) => Mark::children(server)?,
+        Phase::Own(_, walk) => Mark::children(&walk.agent().id)?,
+        Phase::Identity(_, _, identity) => Mark::children(identity)?,
+        Phase::Trusted(domain, _, _, _) => Mark::bundle(domain.clone()?),
+    })
 }
 
 /// The end of an operation that writes nothing. Takes no memory.

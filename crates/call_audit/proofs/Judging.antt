@@ -6,7 +6,7 @@ use Rattle.reg_lines.specs.Records.{AuditRecord, spelled_record}
 use Rattle.spiffe_name.specs.declared.refusals.Failure.{Failure}
 use Rattle.spiffe_name.specs.declared.refusals.Failure.TheVariants.{NoMemory, Refused}
 use Rattle.reg_lines.specs.Fields.{Fails}
-use Rattle.reg_lines.specs.declared.fault.Fault.{Fault}
+use Rattle.line_reading.specs.declared.fault.Fault.{Fault}
 use Rattle.call_audit.specs.declared.cause.Cause.{Cause}
 use Rattle.call_audit.specs.declared.cause.Cause.TheVariants.{Call, Order, Reply, Stamps}
 use Rattle.call_audit.specs.Audits.{IsSpellingCause, Judges, JudgesRecord, cause_of, has_call, is_given, is_late, is_stamped, judged, judged_spelled, judged_when}

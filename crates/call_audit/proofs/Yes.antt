@@ -1,7 +1,7 @@
 -- What a yes says.
 use Rattle.std.proofs.Common.{◌≡◌, ℕ, List, [], ◌∷◌, ◌++◌, length, Option, None, Some, Result, Ok, Err, refl, sym, ap, ◌∙◌, append_assoc}
 use Rattle.reg_lines.specs.Records.{AuditRecord, spelled_record}
-use Rattle.reg_lines.specs.declared.fault.Fault.{Fault}
+use Rattle.line_reading.specs.declared.fault.Fault.{Fault}
 use Rattle.call_audit.specs.declared.cause.Cause.{Cause}
 use Rattle.call_audit.specs.declared.verdict.Verdict.TheVariants.{Yes}
 use Rattle.call_audit.specs.Audits.{AreFaultless, cause_of, judged, judged_spelled, judged_when}

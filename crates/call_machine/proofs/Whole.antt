@@ -1,10 +1,10 @@
 -- The headline, for every list of events.
 use Rattle.std.proofs.Common.{List, [], ◌∷◌, ◌++◌, Ok, Err, sym, subst, append_assoc, Option, Some, None, ℕ, ◌≡◌}
 use Rattle.std.proofs.lemmas.List.{append-nil}
-use Rattle.call_machine.specs.declared.event.Event.{Event}
-use Rattle.call_machine.specs.declared.event.Event.TheVariants.{Reply as ReplyEvent}
-use Rattle.call_machine.specs.declared.event.Done.TheVariants.{Answered}
-use Rattle.call_machine.specs.declared.event.Told.{Told}
+use Rattle.call_events.specs.declared.event.Event.{Event}
+use Rattle.call_events.specs.declared.event.Event.TheVariants.{Reply as ReplyEvent}
+use Rattle.call_events.specs.declared.event.Done.TheVariants.{Answered}
+use Rattle.call_events.specs.declared.event.Told.{Told}
 use Rattle.call_machine.specs.Schedules.{Answer, At, Happened, accepted}
 use Rattle.call_machine.specs.Calls.{Call, State, first_state, told_of}
 use Rattle.call_machine.specs.Machine.{Runs}

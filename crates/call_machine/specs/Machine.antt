@@ -9,34 +9,19 @@ use Rattle.entry_book.specs.Batches.{Batch}
 use Rattle.entry_book.specs.History.{books_of, reply_to, commits}
 use Rattle.version_book.specs.declared.mark.MarkKind.{MarkKind}
 use Rattle.batch_work.specs.Reads.{footprint_of}
-use Rattle.call_machine.specs.declared.event.Event.{Event}
-use Rattle.call_machine.specs.declared.event.Event.TheVariants.{Invoke, Begin, Step, Commit}
-use Rattle.call_machine.specs.declared.event.Event.TheVariants as on
-use Rattle.call_machine.specs.declared.event.Decision.TheVariants as is
-use Rattle.call_machine.specs.declared.event.Done.{Done}
-use Rattle.call_machine.specs.declared.event.Done.TheVariants.{Invoked, Begun, Stepped, Decided, Answered}
-use Rattle.call_machine.specs.declared.event.Told.{Told}
-use Rattle.call_machine.specs.declared.event.EventRefusal.{EventRefusal}
-use Rattle.call_machine.specs.declared.event.EventRefusal.TheVariants.{CallTaken, UnknownCall, NotNow, TooManyCalls, NoMemory}
-use Rattle.call_machine.specs.declared.event.RefusedEvent.{RefusedEvent}
+use Rattle.call_events.specs.Events.{IsFor}
+use Rattle.call_events.specs.declared.event.Event.{Event}
+use Rattle.call_events.specs.declared.event.Event.TheVariants.{Invoke, Begin, Step, Commit}
+use Rattle.call_events.specs.declared.event.Event.TheVariants as on
+use Rattle.call_events.specs.declared.event.Decision.TheVariants as is
+use Rattle.call_events.specs.declared.event.Done.{Done}
+use Rattle.call_events.specs.declared.event.Done.TheVariants.{Invoked, Begun, Stepped, Decided, Answered}
+use Rattle.call_events.specs.declared.event.Told.{Told}
+use Rattle.call_events.specs.declared.event.EventRefusal.{EventRefusal}
+use Rattle.call_events.specs.declared.event.EventRefusal.TheVariants.{CallTaken, UnknownCall, NotNow, TooManyCalls, NoMemory}
+use Rattle.call_events.specs.declared.event.RefusedEvent.{RefusedEvent}
 use Rattle.call_machine.specs.Schedules.{Answer, IsDue}
 use Rattle.call_machine.specs.Calls.{Stage, waiting, running, ready, answered, committed, conflict, Call, State, call_at, moved, told_of, status_at, stage_after}
-
--- the code of a refusal
-abbrev pub event_code : EventRefusal → List ℕ
-event_code CallTaken = codes "E1"
-event_code UnknownCall = codes "E2"
-event_code NotNow = codes "E3"
-event_code TooManyCalls = codes "E4"
-event_code NoMemory = codes "E5"
-
--- what may be handed to the machine of this trust domain: a batch was made for it
-abbrev pub IsFor : Bytes → Event → Type 0
-IsFor own (Invoke n batch) = batch.domain ≡ own
-IsFor own (Begin n) = ⊤
-IsFor own (Step n) = ⊤
-IsFor own (Commit n) = ⊤
-IsFor own (on.Reply n) = ⊤
 
 abbrev pub AreFor : Bytes → List Event → Type 0
 AreFor own events = AllByRecursion (IsFor own) events

@@ -12,14 +12,14 @@ use Rattle.version_book.specs.Marks.{hits}
 use Rattle.version_book.specs.History.{writes_of}
 use Rattle.batch_work.specs.Reads.{footprint_of}
 use Rattle.batch_work.specs.declared.status.Status.{Status}
-use Rattle.call_machine.specs.declared.event.Event.{Event}
-use Rattle.call_machine.specs.declared.event.Event.TheVariants.{Invoke, Begin, Commit}
-use Rattle.call_machine.specs.declared.event.Event.TheVariants as on
-use Rattle.call_machine.specs.declared.event.Decision.TheVariants as is
-use Rattle.call_machine.specs.declared.event.Done.{Done}
-use Rattle.call_machine.specs.declared.event.Done.TheVariants.{Invoked, Begun, Stepped, Decided, Answered}
-use Rattle.call_machine.specs.declared.event.Told.TheVariants.{Replied, Conflicted}
-use Rattle.call_machine.specs.declared.event.RefusedEvent.{RefusedEvent}
+use Rattle.call_events.specs.declared.event.Event.{Event}
+use Rattle.call_events.specs.declared.event.Event.TheVariants.{Invoke, Begin, Commit}
+use Rattle.call_events.specs.declared.event.Event.TheVariants as on
+use Rattle.call_events.specs.declared.event.Decision.TheVariants as is
+use Rattle.call_events.specs.declared.event.Done.{Done}
+use Rattle.call_events.specs.declared.event.Done.TheVariants.{Invoked, Begun, Stepped, Decided, Answered}
+use Rattle.call_events.specs.declared.event.Told.TheVariants.{Replied, Conflicted}
+use Rattle.call_events.specs.declared.event.RefusedEvent.{RefusedEvent}
 
 -- ---- a schedule
 

@@ -18,12 +18,11 @@
 //! - `slot`: what a machine keeps of a call.
 #![tactic(auto)]
 
-mod call;
-mod event;
 pub mod laws;
 mod machine;
 mod slot;
 
-pub use call::{CallAnswer, KnownCall};
-pub use event::{Decision, Done, Event, EventRefusal, RefusedEvent, Told};
+pub use call_events::{
+    CallAnswer, Decision, Done, Event, EventRefusal, KnownCall, RefusedEvent, Told,
+};
 pub use machine::Machine;

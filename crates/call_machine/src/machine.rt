@@ -4,9 +4,8 @@ ghost use Rattle.std.specs.Prelude.{◌≡◌, IfOk, filter, map};
 ghost use Rattle.call_machine.specs.Kept.{calls_kept, with_event};
 ghost use Rattle.call_machine.specs.Laws.{is_listed, number_in, turn_of};
 
-use crate::call::KnownCall;
-use crate::event::{Done, Event, EventRefusal, RefusedEvent};
 use crate::slot::Slot;
+use call_events::{Done, Event, EventRefusal, KnownCall, RefusedEvent};
 use commit_head::Head;
 use entry_book::Batch;
 use indexmap::IndexMap;
@@ -43,13 +42,14 @@ impl Machine {
     ghost use Rattle.std.specs.Prelude.{◌≡◌, ◌+◌, ◌<◌, ◌^◌, ◌⊎◌, List, length, IfOk, IfErr, OnOk, OnErr, MatchResult, Some};
     ghost use Rattle.entry_book.specs.Rows.{Bytes};
     ghost use Rattle.entry_book.specs.History.{first_books};
-    ghost use Rattle.call_machine.specs.declared.event.Event.{Event as AnEvent};
+    ghost use Rattle.call_events.specs.declared.event.Event.{Event as AnEvent};
     ghost use Rattle.call_machine.specs.Schedules.{Answer, accepted, Headline};
     ghost use Rattle.call_machine.specs.Calls.{call_at, first_state};
     ghost use Rattle.call_machine.specs.Known.{Tells};
-    ghost use Rattle.call_machine.specs.declared.event.Event.TheVariants as event;
+    ghost use Rattle.call_events.specs.declared.event.Event.TheVariants as event;
     ghost use Rattle.call_machine.specs.Kept.{IsRefusalOr};
-    ghost use Rattle.call_machine.specs.Machine.{Applies, IsFor, AreFor, Begins, Commits, Invokes, Replies, Runs, Steps, refusal_of};
+    ghost use Rattle.call_events.specs.Events.{IsFor};
+    ghost use Rattle.call_machine.specs.Machine.{Applies, AreFor, Begins, Commits, Invokes, Replies, Runs, Steps, refusal_of};
     ghost use Rattle.call_machine.specs.Laws.{HoldReplies, IsOrder};
 
     /// The machine of a trust domain's server: no calls, the empty book at place 0. The error is want of memory.

@@ -5,9 +5,8 @@ ghost use Rattle.batch_work.specs.Working.{status_of};
 ghost use Rattle.commit_head.specs.Heads.{Fits, Stays};
 ghost use Rattle.call_machine.specs.Kept.{Finishes, IsDecided, IsWhole, RestsOn, domain_of};
 
-use crate::call::{CallAnswer, KnownCall};
-use crate::event::{Decision, EventRefusal, Told};
 use batch_work::{Status, Work};
+use call_events::{CallAnswer, Decision, EventRefusal, KnownCall, Told};
 use commit_head::{Commit, Head, Prepared};
 use entry_book::{Batch, Outcome, Refusal, Reply, Shared};
 use std::alloc::{AllocError, Global};

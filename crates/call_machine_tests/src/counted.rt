@@ -1,7 +1,8 @@
 //! A machine, and what a test has to know of it: its trust domain, how many events it was handed, and its calls.
 
 ghost use Rattle.std.specs.Prelude.{◌≡◌, IfOk, true};
-ghost use Rattle.call_machine.specs.Machine.{AreFor, IsFor};
+ghost use Rattle.call_events.specs.Events.{IsFor};
+ghost use Rattle.call_machine.specs.Machine.{AreFor};
 
 use call_machine::{Done, Event, EventRefusal, KnownCall, Machine, RefusedEvent};
 use spiffe_name::TrustDomain;

@@ -92,22 +92,22 @@ impl Clone for Op {
     ghost is_clone = { λ original copy. copy ≡ original };
 
     fn clone(&self) -> Result<Op, AllocError> {
-        match self {
-            Op::Create(new) => Ok(Op::Create(new.clone()?)),
-            Op::Update(new, expected) => Ok(Op::Update(new.clone()?, *expected)),
-            Op::Delete(id, expected) => Ok(Op::Delete(*id, *expected)),
-            Op::Show(id) => Ok(Op::Show(*id)),
-            Op::ShowAgent(agent) => Ok(Op::ShowAgent(agent.clone()?)),
-            Op::ShowBundle(domain) => Ok(Op::ShowBundle(domain.clone()?)),
-            Op::Children(parent) => Ok(Op::Children(parent.clone()?)),
-            Op::Page(query) => Ok(Op::Page(query.clone()?)),
-            Op::Authorised(agent) => Ok(Op::Authorised(agent.clone()?)),
-            Op::Trust(agent) => Ok(Op::Trust(agent.clone()?)),
-            Op::Prune(moment) => Ok(Op::Prune(*moment)),
-            Op::SetAgent(agent) => Ok(Op::SetAgent(agent.clone()?)),
-            Op::DropAgent(agent) => Ok(Op::DropAgent(agent.clone()?)),
-            Op::SetBundle(domain, text) => Ok(Op::SetBundle(domain.clone()?, text.clone()?)),
-            Op::DropBundle(domain, mode) => Ok(Op::DropBundle(domain.clone()?, *mode)),
-        }
+        Ok(match self {
+            Op::Create(new) => Op::Create(new.clone()?),
+            Op::Update(new, expected) => Op::Update(new.clone()?, *expected),
+            Op::Delete(id, expected) => Op::Delete(*id, *expected),
+            Op::Show(id) => Op::Show(*id),
+            Op::ShowAgent(agent) => Op::ShowAgent(agent.clone()?),
+            Op::ShowBundle(domain) => Op::ShowBundle(domain.clone()?),
+            Op::Children(parent) => Op::Children(parent.clone()?),
+            Op::Page(query) => Op::Page(query.clone()?),
+            Op::Authorised(agent) => Op::Authorised(agent.clone()?),
+            Op::Trust(agent) => Op::Trust(agent.clone()?),
+            Op::Prune(moment) => Op::Prune(*moment),
+            Op::SetAgent(agent) => Op::SetAgent(agent.clone()?),
+            Op::DropAgent(agent) => Op::DropAgent(agent.clone()?),
+            Op::SetBundle(domain, text) => Op::SetBundle(domain.clone()?, text.clone()?),
+            Op::DropBundle(domain, mode) => Op::DropBundle(domain.clone()?, *mode),
+        })
     }
 }

@@ -45,21 +45,21 @@ impl Clone for OpReply {
     ghost is_clone = { λ original copy. copy ≡ original };
 
     fn clone(&self) -> Result<OpReply, AllocError> {
-        match self {
-            OpReply::Entry(entry) => Ok(OpReply::Entry(entry.clone()?)),
-            OpReply::EntryShown(shown) => Ok(OpReply::EntryShown(shown.clone()?)),
-            OpReply::Entries(entries) => Ok(OpReply::Entries(entries.clone()?)),
-            OpReply::Page(entries, next) => Ok(OpReply::Page(entries.clone()?, *next)),
-            OpReply::Agent(agent) => Ok(OpReply::Agent(agent.clone()?)),
-            OpReply::AgentShown(shown) => Ok(OpReply::AgentShown(shown.clone()?)),
-            OpReply::Bundle(bundle) => Ok(OpReply::Bundle(bundle.clone()?)),
-            OpReply::BundleShown(shown) => Ok(OpReply::BundleShown(shown.clone()?)),
-            OpReply::Bundles(bundles) => Ok(OpReply::Bundles(bundles.clone()?)),
-            OpReply::Pruned(ids) => Ok(OpReply::Pruned(ids.clone()?)),
+        Ok(match self {
+            OpReply::Entry(entry) => OpReply::Entry(entry.clone()?),
+            OpReply::EntryShown(shown) => OpReply::EntryShown(shown.clone()?),
+            OpReply::Entries(entries) => OpReply::Entries(entries.clone()?),
+            OpReply::Page(entries, next) => OpReply::Page(entries.clone()?, *next),
+            OpReply::Agent(agent) => OpReply::Agent(agent.clone()?),
+            OpReply::AgentShown(shown) => OpReply::AgentShown(shown.clone()?),
+            OpReply::Bundle(bundle) => OpReply::Bundle(bundle.clone()?),
+            OpReply::BundleShown(shown) => OpReply::BundleShown(shown.clone()?),
+            OpReply::Bundles(bundles) => OpReply::Bundles(bundles.clone()?),
+            OpReply::Pruned(ids) => OpReply::Pruned(ids.clone()?),
             OpReply::Dropped(deleted, dissociated) => {
-                Ok(OpReply::Dropped(deleted.clone()?, dissociated.clone()?))
+                OpReply::Dropped(deleted.clone()?, dissociated.clone()?)
             }
-        }
+        })
     }
 }
 
@@ -106,16 +106,16 @@ impl Clone for OpRefusal {
     ghost is_clone = { λ original copy. copy ≡ original };
 
     fn clone(&self) -> Result<OpRefusal, AllocError> {
-        match self {
-            OpRefusal::IdTaken => Ok(OpRefusal::IdTaken),
-            OpRefusal::Similar(id) => Ok(OpRefusal::Similar(*id)),
-            OpRefusal::NoEntry => Ok(OpRefusal::NoEntry),
-            OpRefusal::StaleRevision => Ok(OpRefusal::StaleRevision),
-            OpRefusal::NoBundle(domain) => Ok(OpRefusal::NoBundle(domain.clone()?)),
-            OpRefusal::BundleInUse => Ok(OpRefusal::BundleInUse),
-            OpRefusal::NoAgent => Ok(OpRefusal::NoAgent),
-            OpRefusal::VersionGone => Ok(OpRefusal::VersionGone),
-        }
+        Ok(match self {
+            OpRefusal::IdTaken => OpRefusal::IdTaken,
+            OpRefusal::Similar(id) => OpRefusal::Similar(*id),
+            OpRefusal::NoEntry => OpRefusal::NoEntry,
+            OpRefusal::StaleRevision => OpRefusal::StaleRevision,
+            OpRefusal::NoBundle(domain) => OpRefusal::NoBundle(domain.clone()?),
+            OpRefusal::BundleInUse => OpRefusal::BundleInUse,
+            OpRefusal::NoAgent => OpRefusal::NoAgent,
+            OpRefusal::VersionGone => OpRefusal::VersionGone,
+        })
     }
 }
 
@@ -160,12 +160,12 @@ impl Clone for Refusal {
     ghost is_clone = { λ original copy. copy ≡ original };
 
     fn clone(&self) -> Result<Refusal, AllocError> {
-        match self {
-            Refusal::NotYet => Ok(Refusal::NotYet),
-            Refusal::TokenReused => Ok(Refusal::TokenReused),
-            Refusal::OfOp(index, reason) => Ok(Refusal::OfOp(*index, reason.clone()?)),
-            Refusal::Full(limit) => Ok(Refusal::Full(*limit)),
-        }
+        Ok(match self {
+            Refusal::NotYet => Refusal::NotYet,
+            Refusal::TokenReused => Refusal::TokenReused,
+            Refusal::OfOp(index, reason) => Refusal::OfOp(*index, reason.clone()?),
+            Refusal::Full(limit) => Refusal::Full(*limit),
+        })
     }
 }
 
@@ -186,12 +186,12 @@ impl Clone for Outcome {
     ghost is_clone = { λ original copy. copy ≡ original };
 
     fn clone(&self) -> Result<Outcome, AllocError> {
-        match self {
-            Outcome::Committed(replies) => Ok(Outcome::Committed(replies.clone()?)),
-            Outcome::Answered(replies) => Ok(Outcome::Answered(replies.clone()?)),
-            Outcome::Repeated(replies) => Ok(Outcome::Repeated(replies.clone()?)),
-            Outcome::Refused(refusal) => Ok(Outcome::Refused(refusal.clone()?)),
-        }
+        Ok(match self {
+            Outcome::Committed(replies) => Outcome::Committed(replies.clone()?),
+            Outcome::Answered(replies) => Outcome::Answered(replies.clone()?),
+            Outcome::Repeated(replies) => Outcome::Repeated(replies.clone()?),
+            Outcome::Refused(refusal) => Outcome::Refused(refusal.clone()?),
+        })
     }
 }
 

@@ -24,7 +24,7 @@ pub(crate) struct Book {
     entries: Shared<Sequence<Entry>>,
     agents: Shared<Sequence<Agent>>,
     bundles: Shared<Sequence<Bundle>>,
-    tokens: Shared<Sequence<KeptBatch>>,
+    tokens: Shared<Sequence<Shared<KeptBatch>>>,
 }
 
 impl Model for Book {
@@ -211,48 +211,36 @@ impl Book {
         requires ascending { Ascending entry_key entries.items }
         ensures { IfOk result (λ book. book ≡ record self.now { entries = entries.items }) }
     {
-        Ok(Book {
-            entries: Shared::of(alloc, Sequence::of(entries))?,
-            agents: self.agents.clone()?,
-            bundles: self.bundles.clone()?,
-            tokens: self.tokens.clone()?,
-        })
+        let mut book = self.clone()?;
+        book.entries = Shared::of(alloc, Sequence::of(entries))?;
+        Ok(book)
     }
 
     fn with_agents(&self, alloc: Global, agents: Vec<Agent>) -> Result<Book, AllocError>
         requires ascending { Ascending agent_key agents.items }
         ensures { IfOk result (λ book. book ≡ record self.now { agents = agents.items }) }
     {
-        Ok(Book {
-            entries: self.entries.clone()?,
-            agents: Shared::of(alloc, Sequence::of(agents))?,
-            bundles: self.bundles.clone()?,
-            tokens: self.tokens.clone()?,
-        })
+        let mut book = self.clone()?;
+        book.agents = Shared::of(alloc, Sequence::of(agents))?;
+        Ok(book)
     }
 
     fn with_bundles(&self, alloc: Global, bundles: Vec<Bundle>) -> Result<Book, AllocError>
         requires ascending { Ascending bundle_key bundles.items }
         ensures { IfOk result (λ book. book ≡ record self.now { bundles = bundles.items }) }
     {
-        Ok(Book {
-            entries: self.entries.clone()?,
-            agents: self.agents.clone()?,
-            bundles: Shared::of(alloc, Sequence::of(bundles))?,
-            tokens: self.tokens.clone()?,
-        })
+        let mut book = self.clone()?;
+        book.bundles = Shared::of(alloc, Sequence::of(bundles))?;
+        Ok(book)
     }
 
-    fn with_tokens(&self, alloc: Global, tokens: Vec<KeptBatch>) -> Result<Book, AllocError>
+    fn with_tokens(&self, alloc: Global, tokens: Vec<Shared<KeptBatch>>) -> Result<Book, AllocError>
         requires ascending { Ascending token_key tokens.items }
         ensures { IfOk result (λ book. book ≡ record self.now { tokens = tokens.items }) }
     {
-        Ok(Book {
-            entries: self.entries.clone()?,
-            agents: self.agents.clone()?,
-            bundles: self.bundles.clone()?,
-            tokens: Shared::of(alloc, Sequence::of(tokens))?,
-        })
+        let mut book = self.clone()?;
+        book.tokens = Shared::of(alloc, Sequence::of(tokens))?;
+        Ok(book)
     }
 
     /// The book with this entry in the place of the one of its id.
@@ -358,7 +346,11 @@ impl Book {
     }
 
     /// The book with this kept batch in the place of the one of its token.
-    pub(crate) fn with_token(&self, alloc: Global, kept: KeptBatch) -> Result<Book, AllocError>
+    pub(crate) fn with_token(
+        &self,
+        alloc: Global,
+        kept: Shared<KeptBatch>,
+    ) -> Result<Book, AllocError>
         ensures { IfOk result (λ book. book ≡ record self.now {
           tokens = with_row token_key kept.token (Some kept) self.now.tokens;
         }) }

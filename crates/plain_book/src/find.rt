@@ -6,7 +6,7 @@ ghost use Rattle.spiffe_name.specs.SelectorSet.{set_eq};
 ghost use Rattle.entry_book.specs.Order.{first};
 ghost use Rattle.entry_book.specs.Book.{in_group};
 
-use entry_book::{Agent, Bundle, Entry, KeptBatch, NewEntry};
+use entry_book::{Agent, Bundle, Entry, KeptBatch, NewEntry, Shared};
 use spiffe_name::{SpiffeId, TrustDomain};
 use std::alloc::{AllocError, Global};
 use uuid::Uuid;
@@ -49,12 +49,12 @@ pub(crate) fn bundle_of<'a>(bundles: &'a [Bundle], domain: &TrustDomain) -> Opti
 }
 
 /// The batch that is kept under a token.
-pub(crate) fn kept_of<'a>(tokens: &'a [KeptBatch], token: &Uuid) -> Option<&'a KeptBatch>
+pub(crate) fn kept_of<'a>(tokens: &'a [Shared<KeptBatch>], token: &Uuid) -> Option<&'a KeptBatch>
     ensures { option_copied result ≡ first (filter (λ kept. bytes_eq kept.token token.now) tokens.now) }
 {
     for kept in tokens {
-        if &kept.token == token {
-            return Some(kept);
+        if &kept.get().token == token {
+            return Some(kept.get());
         }
     }
     None

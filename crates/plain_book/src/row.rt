@@ -5,7 +5,7 @@ ghost use Rattle.std.specs.Cmp.Lexicographic.{slice_cmp};
 ghost use Rattle.std.specs.Ordering.{nat_cmp};
 ghost use Rattle.entry_book.specs.Order.{is_before, with_row};
 
-use entry_book::{Agent, Bundle, Entry, KeptBatch};
+use entry_book::{Agent, Bundle, Entry, KeptBatch, Shared};
 use std::alloc::{AllocError, Global};
 
 /// A row of a book: it has a key, by whose bytes rows are ordered.
@@ -61,11 +61,11 @@ impl BookRow for Bundle {
 }
 
 #[tactic(auto, unfolding(entry_book::specs::Order::is_before))]
-impl BookRow for KeptBatch {
+impl BookRow for Shared<KeptBatch> {
     ghost key = { λ kept. kept.token };
 
     fn is_before(&self, other: &Self) -> bool {
-        self.token.cmp(&other.token).is_lt()
+        self.get().token.cmp(&other.get().token).is_lt()
     }
 
     fn again(&self) -> Result<Self, AllocError> {

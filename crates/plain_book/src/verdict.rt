@@ -115,7 +115,7 @@ fn with_batch(
         return Ok(book);
     };
     let kept = kept_batch(batch, token, place, replies)?;
-    book.with_token(alloc, kept)
+    book.with_token(alloc, Shared::of(alloc, kept)?)
 }
 
 /// What is kept of a batch under its token.

@@ -24,10 +24,10 @@ use Rattle.entry_book.specs.declared.reply.Refusal.TheVariants.{Full, NotYet, Of
 use Rattle.entry_book.specs.declared.reply.Reply.{Reply}
 use Rattle.entry_book.specs.declared.reply.OpReply.{OpReply}
 use Rattle.entry_book.specs.declared.reply.OpReply.TheVariants as replied
-use Rattle.reg_lines.specs.declared.fault.Code.{Code}
-use Rattle.reg_lines.specs.declared.fault.Fault.{Fault}
-use Rattle.reg_lines.specs.declared.fault.Field.{Field}
-use Rattle.reg_lines.specs.declared.printing.refusal.LineRefusal.{LineRefusal}
+use Rattle.line_reading.specs.declared.fault.Code.{Code}
+use Rattle.line_reading.specs.declared.fault.Fault.{Fault}
+use Rattle.line_reading.specs.declared.fault.Field.{Field}
+use Rattle.line_reading.specs.declared.refusal.LineRefusal.{LineRefusal}
 use Rattle.reg_lines.specs.Refusals.{fault_json, failure_json, no_memory_json, op_member, refusal_json}
 use Rattle.reg_lines.specs.Replies.{agent_json, bundle_json, detail_member, dropped_json, entry_json, given_lifetime, lifetime_member, op_reply_json, selector_json, uuid_json, uuid_text, under, done_json, refused_json, outcome_json, reply_json, page_json, conflict_json}
 use Rattle.reg_lines.specs.Values.{whole, if_due, list_data, option_data, uuid_data, selector_data, agent_data, bundle_data, dropped_data, entry_data, op_reply_data, done_data, refused_data, outcome_data, reply_data, fault_data, failure_data, refusal_data, page_data, conflict_data}

@@ -10,7 +10,7 @@ use Rattle.json.specs.Print.{escape, escape_byte, quoted, token_text}
 use Rattle.json.proofs.Printed.Strings.{escape_byte_plain}
 use Rattle.serde_json.specs.Data.{unsigned, negative, float, Data, null, boolean, number, string, array, object, Items, no_items, item, Members, no_members, member}
 use Rattle.serde_json.specs.Written.{comma_if, compact_text, items_text, members_text}
-use Rattle.reg_lines.specs.Lines.{has_lf}
+use Rattle.line_devices.specs.Lines.{has_lf}
 use Rattle.reg_lines.specs.Spelled.{IsTyped, ItemsAreTyped, MembersAreTyped}
 
 no_lf-append : (xs ys : List ℕ) → has_lf xs ≡ false → has_lf ys ≡ false → has_lf (xs ++ ys) ≡ false

@@ -17,9 +17,9 @@ use Rattle.entry_book.specs.declared.mode.DropMode.TheVariants.{Restrict, Delete
 use Rattle.entry_book.specs.declared.page.MatchMode.{MatchMode}
 use Rattle.entry_book.specs.declared.page.MatchMode.TheVariants.{Exact, Any, Superset, Subset}
 use Rattle.entry_book.specs.declared.page.SelectorMatch.{SelectorMatch}
-use Rattle.reg_lines.specs.declared.fault.Key.{Key}
-use Rattle.reg_lines.specs.Codes.{key_name}
-use Rattle.reg_lines.specs.Fields.{optional, unless_null, text_at, text_in, optional_text_at, mode_in, optional_mode_at, match_in, optional_match_at, number_in, number_at, optional_number_at, id_at, id_in, optional_id_at, domain_at, domain_in, optional_domain_at, uuid_in, uuid_at, optional_uuid_at, selector_in, selectors_in, selectors_at, selector_set_in, optional_selectors_at, domains_in, domain_set_in, optional_domains_at, is_one_of, least_other, lesser}
+use Rattle.line_reading.specs.declared.fault.Key.{Key}
+use Rattle.line_reading.specs.Codes.{key_name}
+use Rattle.line_reading.specs.Fields.{optional, unless_null, text_at, text_in, optional_text_at, mode_in, optional_mode_at, match_in, optional_match_at, number_in, number_at, optional_number_at, id_at, id_in, optional_id_at, domain_at, domain_in, optional_domain_at, uuid_in, uuid_at, optional_uuid_at, selector_in, selectors_in, selectors_at, selector_set_in, optional_selectors_at, domains_in, domain_set_in, optional_domains_at, is_one_of, least_other, lesser}
 use Rattle.reg_lines.specs.RecordLines.{match_text, mode_text}
 use Rattle.reg_lines.specs.RecordValues.{asked_data, match_data}
 use Rattle.reg_lines.specs.ReadBack.{AreDomains, AreSelectors, IsDomainText, IsIdText, IsSelector, IsUuid}

@@ -13,14 +13,14 @@ use Rattle.entry_book.specs.declared.op.Op.{Op}
 use Rattle.entry_book.specs.declared.op.Op.TheVariants as op
 use Rattle.entry_book.specs.declared.page.PageQuery.{PageQuery}
 use Rattle.entry_book.specs.declared.page.SelectorMatch.{SelectorMatch}
-use Rattle.reg_lines.specs.declared.fault.Fault.{Fault}
-use Rattle.reg_lines.specs.declared.fault.Key.{Key}
-use Rattle.reg_lines.specs.declared.fault.Key.TheVariants as key
-use Rattle.reg_lines.specs.declared.reading.ids.MissingId.{MissingId}
-use Rattle.reg_lines.specs.declared.reading.ids.MissingId.TheVariants as missing
-use Rattle.reg_lines.specs.Codes.{key_name}
-use Rattle.reg_lines.specs.Fields.{◌>>=◌, beside, uuid_in, text_in, uuid_or_drawn_at, new_uuid_at, is_one_of, least_other, no_others}
-use Rattle.reg_lines.specs.Operations.{agent_in, authorised_in, children_in, create_in, delete_in, drop_agent_in, drop_bundle_in, entry_in, filter_in, named_op, op_in, page_in, prune_in, selector_match, set_agent_in, set_bundle_in, show_agent_in, show_bundle_in, show_in, trust_in, update_in}
+use Rattle.line_reading.specs.declared.fault.Fault.{Fault}
+use Rattle.line_reading.specs.declared.fault.Key.{Key}
+use Rattle.line_reading.specs.declared.fault.Key.TheVariants as key
+use Rattle.line_reading.specs.declared.ids.MissingId.{MissingId}
+use Rattle.line_reading.specs.declared.ids.MissingId.TheVariants as missing
+use Rattle.line_reading.specs.Codes.{key_name}
+use Rattle.line_reading.specs.Fields.{◌>>=◌, beside, uuid_in, text_in, uuid_or_drawn_at, new_uuid_at, is_one_of, least_other, no_others}
+use Rattle.line_reading.specs.Operations.{agent_in, authorised_in, children_in, create_in, delete_in, drop_agent_in, drop_bundle_in, entry_in, filter_in, named_op, op_in, page_in, prune_in, selector_match, set_agent_in, set_bundle_in, show_agent_in, show_bundle_in, show_in, trust_in, update_in}
 use Rattle.reg_lines.specs.RecordLines.{mode_text}
 use Rattle.reg_lines.specs.RecordValues.{asked_data, entry_op_data, match_data, op_data, page_op_data}
 use Rattle.reg_lines.specs.ReadBack.{IsDomainText, IsIdText, IsUuid, IsWrittenAgent, IsWrittenEntry, IsWrittenPage, OpsReadBack}

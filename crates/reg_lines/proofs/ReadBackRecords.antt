@@ -11,15 +11,15 @@ use Rattle.entry_book.specs.declared.op.Op.{Op}
 use Rattle.entry_book.specs.declared.reply.Outcome.{Outcome}
 use Rattle.entry_book.specs.declared.reply.Outcome.TheVariants as outcome
 use Rattle.entry_book.specs.declared.reply.Reply.{Reply}
-use Rattle.reg_lines.specs.declared.fault.Key.{Key}
-use Rattle.reg_lines.specs.declared.fault.Key.TheVariants as key
-use Rattle.reg_lines.specs.declared.reading.ids.MissingId.{MissingId}
-use Rattle.reg_lines.specs.Batches.{items_at, listed_in}
-use Rattle.reg_lines.specs.Codes.{key_name}
-use Rattle.reg_lines.specs.Fields.{◌>>=◌, number_at, number_in, no_others, optional, required, unless_null}
-use Rattle.reg_lines.specs.Operations.{ops_in}
+use Rattle.line_reading.specs.declared.fault.Key.{Key}
+use Rattle.line_reading.specs.declared.fault.Key.TheVariants as key
+use Rattle.line_reading.specs.declared.ids.MissingId.{MissingId}
+use Rattle.line_reading.specs.Batches.{items_at, listed_in}
+use Rattle.line_reading.specs.Codes.{key_name}
+use Rattle.line_reading.specs.Fields.{◌>>=◌, number_at, number_in, no_others, optional, required, unless_null}
+use Rattle.line_reading.specs.Operations.{ops_in}
 use Rattle.reg_lines.specs.ReadBack.{BatchesReadBack, IsUuid, IsWrittenOp, RecordsReadBack}
-use Rattle.reg_lines.specs.Records.{number_or_null_at, object_at, record_in, recorded_batch_in}
+use Rattle.line_reading.specs.Records.{number_or_null_at, object_at, record_in, recorded_batch_in}
 use Rattle.reg_lines.specs.RecordValues.{batch_data, op_data}
 use Rattle.reg_lines.specs.Values.{list_data, option_data, outcome_data, reply_data, uuid_data, whole}
 use Rattle.reg_lines.proofs.ReadBack.{Due, found, members_due, number-back, optional_number-back, optional_uuid-back, or_none}

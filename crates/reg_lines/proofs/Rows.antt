@@ -1,7 +1,7 @@
 -- Pieces put one after another, written as a row.
 use Rattle.std.proofs.Common.{ℕ, List, ◌++◌}
-use Rattle.reg_lines.specs.Stream.{OutputState, Puts}
-use Rattle.reg_lines.proofs.Puts.{Puts-then}
+use Rattle.line_devices.specs.Stream.{OutputState, Puts}
+use Rattle.line_devices.proofs.Puts.{Puts-then}
 
 infixl 20 ◌▸◌
 pub ◌▸◌ : {a b c : OutputState} {t u : List ℕ} → Puts a b t → Puts b c u → Puts a c (t ++ u)

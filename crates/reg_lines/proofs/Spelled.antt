@@ -12,17 +12,17 @@ use Rattle.rand_chacha.specs.ChaCha.{ChaCha}
 use Rattle.entry_book.specs.Batches.{Batch, batch_refusal, op_fault}
 use Rattle.entry_book.specs.declared.op.Op.{Op}
 use Rattle.entry_book.specs.declared.reply.Reply.{Reply}
-use Rattle.reg_lines.specs.declared.fault.Key.{Key}
-use Rattle.reg_lines.specs.declared.fault.Key.TheVariants as key
-use Rattle.reg_lines.specs.Batches.{batch_in, listed_in, missing_beside}
-use Rattle.reg_lines.specs.Codes.{key_name}
+use Rattle.line_reading.specs.declared.fault.Key.{Key}
+use Rattle.line_reading.specs.declared.fault.Key.TheVariants as key
+use Rattle.line_reading.specs.Batches.{batch_in, listed_in, missing_beside}
+use Rattle.line_reading.specs.Codes.{key_name}
 use Rattle.reg_lines.specs.ReadBack.{IsWrittenOp}
-use Rattle.reg_lines.specs.Fields.{◌>>=◌, no_others, optional_number_at, tries_at}
-use Rattle.reg_lines.specs.Lines.{has_lf}
+use Rattle.line_reading.specs.Fields.{◌>>=◌, no_others, optional_number_at, tries_at}
+use Rattle.line_devices.specs.Lines.{has_lf}
 use Rattle.reg_lines.specs.RecordLines.{batch_json, record_json}
 use Rattle.reg_lines.specs.RecordValues.{batch_data, op_data, record_data}
-use Rattle.reg_lines.specs.Records.{record_in, spelled_record}
-use Rattle.reg_lines.specs.Requests.{framed, line_limit, object_in, request_in, spelled, value_in}
+use Rattle.line_reading.specs.Records.{record_in, spelled_record}
+use Rattle.line_reading.specs.Requests.{framed, line_limit, object_in, request_in, spelled, value_in}
 use Rattle.reg_lines.proofs.Typed.{typed-put}
 use Rattle.reg_lines.specs.Spelled.{BatchesAreSpelled, OpsAreSpelled, batch_of_one, Fits, IsTyped, IsWrittenBatch, IsWrittenCall, RecordsAreLines, RecordsAreSpelled}
 use Rattle.reg_lines.specs.Values.{list_data, option_data, reply_data, whole}
@@ -33,7 +33,7 @@ use Rattle.reg_lines.proofs.OneLine.{no_lf-compact}
 use Rattle.reg_lines.proofs.ReadBack.{Due, found, members_due, or_none}
 use Rattle.reg_lines.proofs.ReadBackOps.{only}
 use Rattle.reg_lines.proofs.ReadBackRecords.{batch-due, batch_due, listed-back, ops-back, record-back}
-use Rattle.reg_lines.proofs.Utf8.{value_in-text}
+use Rattle.line_reading.proofs.Utf8.{value_in-text}
 
 -- ---- the frame of a line
 

@@ -16,15 +16,15 @@ use Rattle.entry_book.specs.declared.op.Op.{Op}
 use Rattle.entry_book.specs.declared.op.Op.TheVariants as op
 use Rattle.entry_book.specs.declared.page.PageQuery.{PageQuery}
 use Rattle.entry_book.specs.declared.reply.Reply.{Reply}
-use Rattle.reg_lines.specs.declared.reading.ids.MissingId.{MissingId}
-use Rattle.reg_lines.specs.Operations.{op_in}
-use Rattle.reg_lines.specs.Records.{record_in, recorded_batch_in}
-use Rattle.reg_lines.specs.Fields.{◌>>=◌, required}
+use Rattle.line_reading.specs.declared.ids.MissingId.{MissingId}
+use Rattle.line_reading.specs.Operations.{op_in}
+use Rattle.line_reading.specs.Records.{record_in, recorded_batch_in}
+use Rattle.line_reading.specs.Fields.{◌>>=◌, required}
 use Rattle.reg_lines.specs.RecordValues.{batch_data, op_data, record_data}
-use Rattle.reg_lines.specs.Requests.{object_in}
+use Rattle.line_reading.specs.Requests.{object_in}
 use Rattle.reg_lines.specs.Replies.{uuid_text}
 use Rattle.reg_lines.specs.Values.{reply_data}
-use Rattle.reg_lines.specs.declared.fault.Key.TheVariants as key
+use Rattle.line_reading.specs.declared.fault.Key.TheVariants as key
 
 -- ---- what the types of an operation's parts see to
 

@@ -2,10 +2,10 @@
 use Rattle.std.specs.Prelude.{ℕ, List, [], ◌++◌, Option, None, Some, codes, decimal}
 use Rattle.spiffe_name.specs.declared.refusals.Failure.{Failure}
 use Rattle.spiffe_name.specs.declared.refusals.Failure.TheVariants.{NoMemory, Refused}
-use Rattle.reg_lines.specs.declared.fault.Fault.{Fault}
-use Rattle.reg_lines.specs.declared.fault.Field.{Field}
-use Rattle.reg_lines.specs.declared.printing.refusal.LineRefusal.{LineRefusal}
-use Rattle.reg_lines.specs.Codes.{code_text, field_text}
+use Rattle.line_reading.specs.declared.fault.Fault.{Fault}
+use Rattle.line_reading.specs.declared.fault.Field.{Field}
+use Rattle.line_reading.specs.declared.refusal.LineRefusal.{LineRefusal}
+use Rattle.line_reading.specs.Codes.{code_text, field_text}
 use Rattle.reg_lines.specs.Json.{text_json}
 
 -- a member with the comma before it, where there is one

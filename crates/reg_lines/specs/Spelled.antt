@@ -7,12 +7,12 @@ use Rattle.rand_chacha.specs.ChaCha.{ChaCha}
 use Rattle.entry_book.specs.Batches.{Batch, batch_refusal, op_fault}
 use Rattle.entry_book.specs.declared.op.Op.{Op}
 use Rattle.entry_book.specs.declared.reply.Reply.{Reply}
-use Rattle.reg_lines.specs.Lines.{has_lf}
+use Rattle.line_devices.specs.Lines.{has_lf}
 use Rattle.reg_lines.specs.ReadBack.{IsUuid, IsWrittenOp}
-use Rattle.reg_lines.specs.Records.{spelled_record}
+use Rattle.line_reading.specs.Records.{spelled_record}
 use Rattle.reg_lines.specs.RecordLines.{batch_json, record_json}
 use Rattle.reg_lines.specs.RecordValues.{batch_data, op_data}
-use Rattle.reg_lines.specs.Requests.{line_limit, spelled}
+use Rattle.line_reading.specs.Requests.{line_limit, spelled}
 use Rattle.reg_lines.specs.Values.{reply_data}
 
 -- ---- what the types of a value's parts see to

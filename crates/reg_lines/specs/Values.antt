@@ -19,10 +19,10 @@ use Rattle.entry_book.specs.declared.reply.Outcome.TheVariants as outcome
 use Rattle.entry_book.specs.declared.reply.Refusal.{Refusal}
 use Rattle.entry_book.specs.declared.reply.Refusal.TheVariants.{Full, NotYet, OfOp, TokenReused}
 use Rattle.entry_book.specs.declared.reply.Reply.{Reply}
-use Rattle.reg_lines.specs.declared.fault.Fault.{Fault}
-use Rattle.reg_lines.specs.declared.fault.Field.{Field}
-use Rattle.reg_lines.specs.declared.printing.refusal.LineRefusal.{LineRefusal}
-use Rattle.reg_lines.specs.Codes.{code_text, field_text}
+use Rattle.line_reading.specs.declared.fault.Fault.{Fault}
+use Rattle.line_reading.specs.declared.fault.Field.{Field}
+use Rattle.line_reading.specs.declared.refusal.LineRefusal.{LineRefusal}
+use Rattle.line_reading.specs.Codes.{code_text, field_text}
 use Rattle.reg_lines.specs.Refusals.{refusal_json}
 use Rattle.reg_lines.specs.Replies.{conflict_json, given_lifetime, reply_json, uuid_text}
 

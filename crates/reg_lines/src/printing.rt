@@ -23,7 +23,6 @@ pub(crate) mod written;
 pub use events::{CallOrder, EventRefused};
 pub use print_json::{PrintJson, print_line, print_list, print_number};
 pub use records::CallRecord;
-pub use refusal::LineRefusal;
 pub use replies::{CallConflict, CallReply};
 pub use seats::{SeatRefusal, SeatRefused};
 pub use text::print_text;

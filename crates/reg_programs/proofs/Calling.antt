@@ -11,14 +11,14 @@ use Rattle.reg_lines.specs.Refusals.{failure_json, refusal_json}
 use Rattle.reg_lines.specs.Requests.{spelled}
 use Rattle.reg_lines.specs.SeatLines.{seat_refusal_json}
 use Rattle.reg_lines.specs.Stream.{OutputState, Puts}
-use Rattle.reg_lines.specs.declared.fault.Fault.{Fault}
-use Rattle.reg_lines.specs.declared.printing.refusal.LineRefusal.{LineRefusal}
+use Rattle.line_reading.specs.declared.fault.Fault.{Fault}
+use Rattle.line_reading.specs.declared.refusal.LineRefusal.{LineRefusal}
 use Rattle.reg_lines.specs.declared.printing.seats.SeatRefusal.TheVariants.{Spent}
-use Rattle.reg_lines.specs.declared.reading.request.Request.{Request}
-use Rattle.reg_lines.proofs.Kept.{kept_spells}
+use Rattle.line_reading.specs.declared.request.Request.{Request}
+use Rattle.line_reading.proofs.Kept.{kept_spells}
 use Rattle.shared_registry.specs.Seated.{Seated}
-use Rattle.reg_programs.specs.Answers.{as_line}
-use Rattle.reg_programs.specs.Driver.{AnswersKept}
+use Rattle.line_engines.specs.Answers.{as_line}
+use Rattle.line_engines.specs.Driver.{AnswersKept}
 use Rattle.reg_programs.specs.Sessions.{AnswersCall, AnswersRequest, Session, TakesRequestLine, answered, asked, not_read, passed, refused, spent}
 
 -- ---- one line

@@ -1,7 +1,7 @@
 -- What the seat of a session has seen only grows.
 use Rattle.std.proofs.Common.{◌≡◌, ◌+◌, ℕ, List, [], ◌∷◌, refl, subst, sym, ◌∙◌, arith}
 use Rattle.entry_book.specs.Rows.{Bytes}
-use Rattle.reg_lines.specs.declared.reading.request.Request.{Request}
+use Rattle.line_reading.specs.declared.request.Request.{Request}
 use Rattle.shared_registry.specs.Seated.{Along, Seated}
 use Rattle.shared_registry.proofs.Prefixes.{prefix_self, prefix_trans}
 use Rattle.reg_programs.specs.Sessions.{AnswersCall, AnswersRequest, Grew, Session, SessionsGrow, answered, asked, no_reply, not_read, passed, refused, replied, spent, submitted}

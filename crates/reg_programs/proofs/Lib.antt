@@ -1,11 +1,2 @@
-pub mod Auditing
 pub mod Calling
-pub mod Confirming
-pub mod Driving
 pub mod Growing
-pub mod Lines
-pub mod Recording
-pub mod Running
-pub mod Scheduling
-pub mod Seeds
-pub mod Words

@@ -3,14 +3,14 @@ use Rattle.std.specs.Prelude.{codes, ℕ, ◌++◌, List, [], ◌∷◌, Option,
 use Rattle.clap.specs.declared.error.Error.{Error}
 use Rattle.spiffe_name.specs.Codes.{id_code}
 use Rattle.reg_programs.specs.declared.ended.Ended.{Ended}
-use Rattle.reg_programs.specs.declared.faults.RunFault.{RunFault}
-use Rattle.reg_programs.specs.declared.faults.RunFault.TheVariants as run
-use Rattle.reg_programs.specs.declared.faults.ServeFault.{ServeFault}
-use Rattle.reg_programs.specs.declared.faults.ServeFault.TheVariants as serve
-use Rattle.reg_programs.specs.declared.faults.CommandLineFault.{CommandLineFault}
-use Rattle.reg_programs.specs.declared.faults.CommandLineFault.TheVariants as line
-use Rattle.reg_programs.specs.declared.programs.Outcome.{Outcome}
-use Rattle.reg_programs.specs.declared.programs.Outcome.TheVariants.{Denied, Done}
+use Rattle.line_engines.specs.declared.fault.RunFault.{RunFault}
+use Rattle.line_engines.specs.declared.fault.RunFault.TheVariants as run
+use Rattle.reg_programs.specs.declared.serve_fault.ServeFault.{ServeFault}
+use Rattle.reg_programs.specs.declared.serve_fault.ServeFault.TheVariants as serve
+use Rattle.command_line.specs.declared.fault.CommandLineFault.{CommandLineFault}
+use Rattle.command_line.specs.declared.fault.CommandLineFault.TheVariants as line
+use Rattle.line_engines.specs.declared.outcome.Outcome.{Outcome}
+use Rattle.line_engines.specs.declared.outcome.Outcome.TheVariants.{Denied, Done}
 use Rattle.reg_programs.specs.declared.told.Told.{Told}
 use Rattle.reg_programs.specs.declared.told.Told.TheVariants as told
 

@@ -1,15 +1,15 @@
 -- What the programs do.
 use Rattle.std.specs.Prelude.{◌≡◌, List, ℕ, Result, Ok, Err}
 use Rattle.reg_lines.specs.Stream.{InputState, OutputState}
-use Rattle.reg_programs.specs.Answers.{RunsPlain}
-use Rattle.reg_programs.specs.Audited.{RunsAudit}
-use Rattle.reg_programs.specs.Recorded.{RunsRecord}
-use Rattle.reg_programs.specs.Schedules.{RunsSchedule}
-use Rattle.reg_programs.specs.declared.faults.RunFault.{RunFault}
-use Rattle.reg_programs.specs.declared.programs.Outcome.{Outcome}
-use Rattle.reg_programs.specs.declared.programs.Outcome.TheVariants.{Done}
-use Rattle.reg_programs.specs.declared.programs.Program.{Program}
-use Rattle.reg_programs.specs.declared.programs.Program.TheVariants.{Audit, Plain, Record, Schedule, Serve}
+use Rattle.line_engines.specs.Answers.{RunsPlain}
+use Rattle.line_engines.specs.Audited.{RunsAudit}
+use Rattle.line_engines.specs.Recorded.{RunsRecord}
+use Rattle.line_engines.specs.Schedules.{RunsSchedule}
+use Rattle.line_engines.specs.declared.fault.RunFault.{RunFault}
+use Rattle.line_engines.specs.declared.outcome.Outcome.{Outcome}
+use Rattle.line_engines.specs.declared.outcome.Outcome.TheVariants.{Done}
+use Rattle.command_line.specs.declared.program.Program.{Program}
+use Rattle.command_line.specs.declared.program.Program.TheVariants.{Audit, Plain, Record, Schedule, Serve}
 
 -- a run that denies nothing
 abbrev pub done_of : Result Unit RunFault → Result Outcome RunFault

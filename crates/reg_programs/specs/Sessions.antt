@@ -13,18 +13,18 @@ use Rattle.reg_lines.specs.Requests.{spelled}
 use Rattle.reg_lines.specs.Runs.{IsRun}
 use Rattle.reg_lines.specs.SeatLines.{seat_refusal_json}
 use Rattle.reg_lines.specs.Stream.{InputState, OutputState}
-use Rattle.reg_lines.specs.declared.fault.Fault.{Fault}
+use Rattle.line_reading.specs.declared.fault.Fault.{Fault}
 use Rattle.reg_lines.specs.declared.printing.seats.SeatRefusal.TheVariants.{Spent, NoEntry as WasNotLetIn}
-use Rattle.reg_lines.specs.declared.reading.request.Request.{Request}
+use Rattle.line_reading.specs.declared.request.Request.{Request}
 use Rattle.shared_registry.specs.Outcomes.{HasHeard, IsSubmitted}
 use Rattle.shared_registry.specs.Seated.{Along, Entered, Seated, Stays}
 use Rattle.shared_registry.specs.declared.outcome.Outcome.{Outcome}
 use Rattle.shared_registry.specs.declared.outcome.Outcome.TheVariants.{Committed, Repeated, Refused, Conflict, NoMemory, NoEntry}
 use Rattle.shared_registry.specs.declared.seat.NoAnswer.{NoAnswer}
 use Rattle.shared_registry.specs.declared.seat.NoAnswer.TheVariants as no
-use Rattle.reg_programs.specs.Answers.{as_line}
-use Rattle.reg_programs.specs.Driver.{RunsOver}
-use Rattle.reg_programs.specs.declared.faults.RunFault.{RunFault}
+use Rattle.line_engines.specs.Answers.{as_line}
+use Rattle.line_engines.specs.Driver.{RunsOver}
+use Rattle.line_engines.specs.declared.fault.RunFault.{RunFault}
 use Rattle.reg_programs.specs.declared.session_engine.LineAnswer.{LineAnswer}
 use Rattle.reg_programs.specs.declared.session_engine.LineAnswer.TheVariants.{Shared, Own, Conflicted, NotAnswered, NotRead}
 

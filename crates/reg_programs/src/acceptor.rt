@@ -2,8 +2,8 @@
 
 ghost use Rattle.std.specs.Prelude.{◌≡◌, ◌<◌, ◌%◌, length};
 
-use crate::faults::ServeFault;
 use crate::queue::{Connection, Queue};
+use crate::serve_fault::ServeFault;
 use std::net::{TcpListener, TcpStream};
 use std::sync::Wait;
 use std::time::{Clock, Duration};

@@ -3,9 +3,10 @@
 ghost use Rattle.std.specs.Prelude.{◌≡◌};
 ghost use Rattle.reg_programs.specs.Ends.{ended_of, ended_of_server};
 
-use crate::faults::{CommandLineFault, RunFault, ServeFault};
-use crate::programs::Outcome;
+use crate::serve_fault::ServeFault;
 use crate::told::Told;
+use command_line::CommandLineFault;
+use line_engines::{Outcome, RunFault};
 
 /// The end of a run, as the caller gets to know it.
 #[derive(Debug, Drop)]

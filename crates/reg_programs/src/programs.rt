@@ -1,57 +1,12 @@
-//! Which programs are there, and what does each do?
+//! What does each program do?
 
 ghost use Rattle.std.specs.Prelude.{◌≡◌, [], None};
 ghost use Rattle.reg_programs.specs.Programs.{RunsAs, done_of};
 
-use crate::audit_engine::audit;
-use crate::faults::RunFault;
-use crate::plain_engine::plain;
-use crate::record_engine::record_schedule;
-use crate::schedule_engine::schedule;
-use crate::settings::Settings;
+use command_line::{Program, Settings};
+use line_engines::{Outcome, RunFault, audit, plain, record_schedule, schedule};
 use reg_lines::{Input, Output, Sink, Source};
 use std::alloc::Global;
-
-/// What a command line asks `regd` to do.
-#[derive(Clone, Copy, Debug, PartialEq, Eq, Drop)]
-pub enum Program {
-    /// Request lines are answered on a plain book.
-    Plain,
-    /// Event lines are answered by a machine of calls.
-    Schedule,
-    /// Event lines are taken by a machine of calls, and the calls are recorded.
-    Record,
-    /// Records of calls are audited.
-    Audit,
-    /// Connections are served through a shared registry.
-    Serve,
-}
-
-impl Program {
-    ghost use Rattle.std.specs.Prelude.{◌≡◌};
-    ghost use Rattle.reg_programs.specs.CommandLine.{program_name};
-
-    /// The word by which a command line names it.
-    pub fn name(self) -> &'static str
-        ensures { result.now ≡ program_name self }
-    {
-        match self {
-            Program::Plain => "plain",
-            Program::Schedule | Program::Record => "schedule",
-            Program::Audit => "audit",
-            Program::Serve => "serve",
-        }
-    }
-}
-
-/// How a run ended that got to its end.
-#[derive(Clone, Copy, Debug, PartialEq, Eq, Drop)]
-pub enum Outcome {
-    /// All was done that was asked for; an audit found no fault.
-    Done,
-    /// An audit found a fault.
-    Denied,
-}
 
 /// Runs the program that the settings ask for, which is no server, with their trust domain and seed: each line of the input is
 /// answered, in order.

@@ -3,10 +3,10 @@
 ghost use Rattle.std.specs.Prelude.{◌≡◌, ◌<◌, IfOk, length, vec_len};
 
 use crate::acceptor::accept_all;
-use crate::faults::ServeFault;
 use crate::queue::{Connection, Queue, close_all, queues_of};
+use crate::serve_fault::ServeFault;
 use crate::session_engine::session;
-use crate::settings::ServerPlan;
+use command_line::ServerPlan;
 use reg_lines::{CountedDevice, Input, Output};
 use shared_registry::{Naming, Opened, Registry, Seat};
 use spiffe_name::TrustDomain;

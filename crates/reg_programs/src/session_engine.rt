@@ -4,9 +4,8 @@ ghost use Rattle.std.specs.Prelude.{◌≡◌, ◌+◌, ◌<◌, ◌^◌, [], tr
 ghost use Rattle.entry_book.specs.Batches.{is_query};
 ghost use Rattle.reg_programs.specs.Sessions.{AnswersCall, RunsSession, Session, SessionsGrow, TakesRequestLine, line_answer_json, no_answer_json, outcome_json};
 
-use crate::driver::{Answerer, run_lines};
-use crate::faults::RunFault;
 use entry_book::{Outcome as BatchOutcome, Reply, Shared};
+use line_engines::{Answerer, RunFault, run_lines};
 use reg_lines::{
     CallConflict, CallReply, Ids, Input, LineRefusal, Output, PrintJson, Request, SeatRefusal,
     SeatRefused, Sink, Source, print_line, read_request,

@@ -48,6 +48,15 @@ impl<K: Ord + Clone + Drop, T: KeyedRow<K> + Clone> RowShelf<K, T> {
         }
     }
 
+    /// The same rows. The error is that no more owners can be counted.
+    pub(crate) fn again(&self) -> Result<RowShelf<K, T>, AllocError>
+        ensures { IfOk result (λ shelf. shelf ≡ self.now) }
+    {
+        Ok(RowShelf {
+            rows: self.rows.clone()?,
+        })
+    }
+
     /// How many rows there are.
     pub(crate) fn len(&self) -> usize
         ensures count { result ≡ length self.now }
@@ -93,16 +102,6 @@ impl<K: Ord + Clone + Drop, T: KeyedRow<K> + Clone> RowShelf<K, T> {
             Some(key) => is_same_row(older.rows.get(key), self.rows.get(key)),
             None => true,
         }
-    }
-}
-
-impl<K: Ord + Clone, T: KeyedRow<K> + Clone> Clone for RowShelf<K, T> {
-    ghost is_clone = { λ original copy. copy ≡ original };
-
-    fn clone(&self) -> Result<RowShelf<K, T>, AllocError> {
-        Ok(RowShelf {
-            rows: self.rows.clone()?,
-        })
     }
 }
 

@@ -171,9 +171,9 @@ impl Clone for Store {
     fn clone(&self) -> Result<Store, AllocError> {
         Ok(Store {
             entries: self.entries.clone()?,
-            agents: self.agents.clone()?,
-            bundles: self.bundles.clone()?,
-            tokens: self.tokens.clone()?,
+            agents: self.agents.again()?,
+            bundles: self.bundles.again()?,
+            tokens: self.tokens.again()?,
         })
     }
 }

@@ -2,14 +2,13 @@
 
 ghost use Rattle.std.specs.Prelude.{◌≡◌};
 ghost use Rattle.reg_lines.specs.RecordLines.{batch_json, children_json, delete_json, drop_bundle_json, entry_op_json, given_member, keyed_op_json, leading_member, match_json, match_member, match_text, mode_json, mode_text, op_json, page_op_json, selectors_member, set_agent_json, set_bundle_json};
-ghost use Rattle.reg_lines.specs.Stream.{Puts};
+ghost use Rattle.line_devices.specs.Stream.{Puts};
 
-use crate::devices::output::Output;
-use crate::devices::sink::Sink;
 use crate::printing::book_rows::put_lifetime;
 use crate::printing::print_json::{PrintJson, print_list, print_number};
 use crate::printing::text::print_text;
 use entry_book::{Agent, Batch, DropMode, MatchMode, NewEntry, Op, PageQuery, SelectorMatch, Text};
+use line_devices::{Output, Sink};
 use spiffe_name::{SpiffeId, TrustDomain};
 use uuid::Uuid;
 

@@ -1,12 +1,11 @@
 //! How are the rows of a book printed?
 
 ghost use Rattle.reg_lines.specs.Replies.{agent_json, bundle_json, entry_json, given_lifetime, lifetime_member};
-ghost use Rattle.reg_lines.specs.Stream.{Puts};
+ghost use Rattle.line_devices.specs.Stream.{Puts};
 
-use crate::devices::output::Output;
-use crate::devices::sink::Sink;
 use crate::printing::print_json::{PrintJson, print_number};
 use entry_book::{Agent, Bundle, Entry};
+use line_devices::{Output, Sink};
 
 /// The fields, in the order of their keys' bytes; a lifetime of 0 is left out.
 impl PrintJson for Entry {

@@ -2,16 +2,15 @@
 
 ghost use Rattle.std.specs.Prelude.{◌≡◌};
 ghost use Rattle.reg_lines.specs.EventAnswers.{begun_json, commit_json, decided_json, event_json, event_refusal_json, full_json, invoked_json, order_json, status_json, status_text, stepped_json, told_json};
-ghost use Rattle.reg_lines.specs.Stream.{Puts};
+ghost use Rattle.line_devices.specs.Stream.{Puts};
 
-use crate::devices::output::Output;
-use crate::devices::sink::Sink;
 use crate::printing::print_json::{PrintJson, print_list, print_number};
 use crate::printing::replies::{CallConflict, CallReply};
 use crate::printing::text::print_text;
 use batch_work::Status;
-use call_machine::{Decision, Done, EventRefusal, Told};
+use call_events::{Decision, Done, EventRefusal, Told};
 use entry_book::Limit;
+use line_devices::{Output, Sink};
 use version_book::Mark;
 
 /// The status in a word.

@@ -4,13 +4,12 @@ ghost use Rattle.std.specs.Prelude.{◌++◌, codes, decimal};
 ghost use Rattle.reg_lines.specs.EventAnswers.{mark_json};
 ghost use Rattle.reg_lines.specs.Json.{text_json};
 ghost use Rattle.reg_lines.specs.Replies.{uuid_text};
-ghost use Rattle.reg_lines.specs.Stream.{Puts};
+ghost use Rattle.line_devices.specs.Stream.{Puts};
 
-use crate::devices::output::Output;
-use crate::devices::sink::Sink;
 use crate::printing::print_json::PrintJson;
 use crate::printing::text::{print_text, put_all_escaped};
 use itoa::Buffer;
+use line_devices::{Output, Sink};
 use spiffe_name::SpiffeId;
 use uuid::Uuid;
 use version_book::{Mark, MarkKind};

@@ -3,11 +3,10 @@
 ghost use Rattle.reg_lines.specs.Json.{list_json, text_json};
 ghost use Rattle.reg_lines.specs.Replies.{selector_json, uuid_json};
 
-use crate::devices::output::Output;
-use crate::devices::sink::Sink;
 use crate::printing::print_json::{PrintJson, print_list};
 use crate::printing::text::print_text;
 use entry_book::{DomainSet, Sequence, Shared, Text};
+use line_devices::{Output, Sink};
 use spiffe_name::{Selector, SelectorSet, SpiffeId, TrustDomain};
 use uuid::Uuid;
 

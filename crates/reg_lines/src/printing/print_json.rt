@@ -2,12 +2,11 @@
 
 ghost use Rattle.std.specs.Prelude.{ℕ, List, decimal, string_bytes, ◌++◌, codes};
 ghost use Rattle.reg_lines.specs.Json.{comma, items_json, list_json, option_json, text_json};
-ghost use Rattle.reg_lines.specs.Stream.{Puts};
+ghost use Rattle.line_devices.specs.Stream.{Puts};
 
-use crate::devices::output::Output;
-use crate::devices::sink::Sink;
 use crate::printing::text::print_text;
 use itoa::Buffer;
+use line_devices::{Output, Sink};
 
 /// A value that has one compact JSON text. To print it takes no memory.
 pub trait PrintJson {

@@ -2,13 +2,12 @@
 
 ghost use Rattle.reg_lines.specs.RecordLines.{record_json};
 
-use crate::devices::output::Output;
-use crate::devices::sink::Sink;
 use crate::printing::print_json::{PrintJson, print_number};
 use crate::printing::replies::CallReply;
 use crate::printing::written::Written;
-use call_machine::{CallAnswer, KnownCall};
+use call_events::{CallAnswer, KnownCall};
 use entry_book::{Batch, Reply};
+use line_devices::{Output, Sink};
 
 /// A call of a schedule that stands in the order, as the line of a record has it.
 ///

@@ -1,27 +1,16 @@
 //! Which line tells that a line was refused?
 
 ghost use Rattle.reg_lines.specs.Refusals.{fault_json, field_member, no_memory_json, op_member, refusal_json};
-ghost use Rattle.reg_lines.specs.Stream.{Puts};
+ghost use Rattle.line_devices.specs.Stream.{Puts};
 
-use crate::devices::output::Output;
-use crate::devices::sink::Sink;
-use crate::fault::{Fault, Field};
 use crate::printing::print_json::{PrintJson, print_number};
 use crate::printing::text::print_text;
+use line_devices::{Output, Sink};
+use line_reading::{Fault, Field, LineRefusal};
 use spiffe_name::Failure;
 
-/// Why a line has no reply, with the line's number.
-///
-/// Printed it is an object with the refusal's `code` and the `line`, where due with the `field` and the `op`; where
-/// memory was wanting its code is L6. To print it takes no memory.
-#[derive(Drop)]
-pub struct LineRefusal {
-    /// The line's number, counted from 1.
-    pub line: u64,
-    /// What is wrong with the line, or that memory was wanting while it was read, run or answered.
-    pub failure: Failure<Fault>,
-}
-
+/// An object with the refusal's `code` and the `line`, where due with the `field` and the `op`; where memory was wanting its code is
+/// L6. To print it takes no memory.
 impl PrintJson for LineRefusal {
     ghost text = { refusal_json };
 

@@ -2,14 +2,13 @@
 
 ghost use Rattle.std.specs.Prelude.{◌++◌, codes};
 ghost use Rattle.reg_lines.specs.Replies.{conflict_json, detail_member, done_json, dropped_json, op_detail_member, op_reply_json, page_json, refused_json, reply_json, under};
-ghost use Rattle.reg_lines.specs.Stream.{Puts};
+ghost use Rattle.line_devices.specs.Stream.{Puts};
 
-use crate::devices::output::Output;
-use crate::devices::sink::Sink;
 use crate::printing::print_json::{PrintJson, print_list, print_number};
 use crate::printing::refusal::put_op;
 use crate::printing::text::print_text;
 use entry_book::{Entry, OpRefusal, OpReply, Outcome, Refusal, Reply};
+use line_devices::{Output, Sink};
 use uuid::Uuid;
 
 /// An object whose first key says what kind of reply it is. A row that isn't there is `null`.

@@ -3,10 +3,9 @@
 ghost use Rattle.std.specs.Prelude.{◌≡◌};
 ghost use Rattle.reg_lines.specs.SeatLines.{seat_code, seat_refusal_json};
 
-use crate::devices::output::Output;
-use crate::devices::sink::Sink;
 use crate::printing::print_json::{PrintJson, print_number};
 use crate::printing::text::print_text;
+use line_devices::{Output, Sink};
 
 /// Why a seat of a shared registry has no answer to a request that its line spells.
 #[derive(Clone, Copy, Debug, PartialEq, Eq, Drop)]

@@ -3,10 +3,9 @@
 ghost use Rattle.std.specs.Prelude.{◌≡◌, ◌+◌, ◌<◌, position, IsTrue};
 ghost use Rattle.std.specs.List.{flat_map};
 ghost use Rattle.reg_lines.specs.Json.{escaped, needs_escape, hex_digit, text_json};
-ghost use Rattle.reg_lines.specs.Stream.{Puts};
+ghost use Rattle.line_devices.specs.Stream.{Puts};
 
-use crate::devices::output::Output;
-use crate::devices::sink::Sink;
+use line_devices::{Output, Sink};
 
 fn needs_escape(byte: u8) -> bool
     ensures { result ≡ needs_escape byte }

@@ -1,4 +1,4 @@
-use Rattle.reg_lines.proofs.Puts.{Puts-then}
+use Rattle.line_devices.proofs.Puts.{Puts-then}
 use Rattle.call_audit.specs.Texts.{yes_json}
 use Rattle.call_audit.proofs.verdict.print_yes.Goals as goal
 

@@ -7,7 +7,7 @@ use Rattle.reg_lines_tests.specs.Numbered.{numbered}
 use Rattle.reg_lines.specs.Lines.{kept}
 use Rattle.reg_lines.specs.Runs.{StepsKept}
 use Rattle.reg_lines.specs.Stream.{IsOut}
-use Rattle.reg_lines.proofs.RunLemmas.{RunsFrom-start, RunsFrom-flush, RunsFrom-more, AppendsRun-so_far, AppendsRun-at_end, AppendsRun-at_most, AppendsRunFront-of}
+use Rattle.line_devices.proofs.RunLemmas.{RunsFrom-start, RunsFrom-flush, RunsFrom-more, AppendsRun-so_far, AppendsRun-at_end, AppendsRun-at_most, AppendsRunFront-of}
 use Rattle.reg_lines_tests.proofs.engine.number_lines.Goals as goal
 
 answers : (s : ℕ) (l : List ℕ) → (next : ℕ) × (reply : List ℕ) × numbered s l next reply

@@ -1,6 +1,6 @@
 use Rattle.std.proofs.Common.{◌≡◌, ◌≤◌}
 use Rattle.reg_lines_tests.specs.Numbered.{numbered}
-use Rattle.reg_lines.proofs.RunLemmas.{RunsFrom}
+use Rattle.line_devices.proofs.RunLemmas.{RunsFrom}
 use Rattle.reg_lines_tests.proofs.engine.number_lines.Given as goal
 
 abbrev pub invariant-loop-index : goal.invariant-loop-index

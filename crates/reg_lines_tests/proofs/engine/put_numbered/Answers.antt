@@ -1,4 +1,4 @@
-use Rattle.reg_lines.proofs.Puts.{Puts-then}
+use Rattle.line_devices.proofs.Puts.{Puts-then}
 use Rattle.reg_lines_tests.proofs.engine.put_numbered.Goals as goal
 
 pub returns : goal.returns

@@ -1,6 +1,6 @@
 use Rattle.std.proofs.Common.{◌≡◌, ap, refl, sym, ◌∙◌}
 use Rattle.reg_programs.specs.Sessions.{AnswersRequest, LeavesSeat, Session, start}
-use Rattle.reg_programs.proofs.Driving.{RunsOver-closes}
+use Rattle.line_engines.proofs.Driving.{RunsOver-closes}
 use Rattle.reg_programs.proofs.session_engine.session.Goals as goal
 
 pub returns : goal.returns

@@ -3,7 +3,8 @@ use Rattle.std.specs.Prelude.{if◌then◌else◌}
 use Rattle.std.specs.Vec.Iter.{into_iter_items}
 use Rattle.entry_book.specs.Order.{Within}
 use Rattle.entry_book.proofs.Sets.{All-within, within_right}
-use Rattle.call_machine.specs.Machine.{IsFor, Runs}
+use Rattle.call_events.specs.Events.{IsFor}
+use Rattle.call_machine.specs.Machine.{Runs}
 use Rattle.call_machine.proofs.Runs.{event_leaves, runs_go_on}
 use Rattle.call_machine.proofs.machine.Machine.run.Goals as goal
 

@@ -1,4 +1,4 @@
-use Rattle.reg_lines.proofs.Puts.{Puts-nil}
+use Rattle.line_devices.proofs.Puts.{Puts-nil}
 use Rattle.reg_lines.proofs.Rows.{◌▸◌}
 use Rattle.reg_lines.proofs.printing.batches.put_leading.Goals as goal
 

@@ -1,5 +1,5 @@
 use Rattle.reg_lines.proofs.Lifetimes.{lifetime-some, lifetime-none}
-use Rattle.reg_lines.proofs.Puts.{Puts-same, Puts-nil}
+use Rattle.line_devices.proofs.Puts.{Puts-same, Puts-nil}
 use Rattle.reg_lines.proofs.Rows.{◌▸◌}
 use Rattle.reg_lines.proofs.printing.book_rows.put_lifetime.Goals as goal
 

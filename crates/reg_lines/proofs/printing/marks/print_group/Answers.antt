@@ -1,5 +1,5 @@
 use Rattle.reg_lines.proofs.MarkTexts.{group-text}
-use Rattle.reg_lines.proofs.Puts.{Puts-same}
+use Rattle.line_devices.proofs.Puts.{Puts-same}
 use Rattle.reg_lines.proofs.Rows.{◌▸◌}
 use Rattle.reg_lines.proofs.printing.marks.print_group.Goals as goal
 

@@ -2,7 +2,7 @@ use Rattle.std.proofs.Common.{ap, arith}
 use Rattle.std.proofs.lemmas.List.{take_all}
 use Rattle.reg_lines.specs.Json.{items_json}
 use Rattle.reg_lines.proofs.Items.{items_json-next}
-use Rattle.reg_lines.proofs.Puts.{Puts-same, Puts-nil, Puts-then}
+use Rattle.line_devices.proofs.Puts.{Puts-same, Puts-nil, Puts-then}
 use Rattle.reg_lines.proofs.printing.print_json.print_items.Goals as goal
 
 pub loop-index-init : goal.loop-index-init

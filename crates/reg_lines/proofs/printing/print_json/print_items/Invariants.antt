@@ -1,5 +1,5 @@
 use Rattle.std.proofs.Common.{take}
-use Rattle.reg_lines.specs.Stream.{Puts}
+use Rattle.line_devices.specs.Stream.{Puts}
 use Rattle.reg_lines.specs.Json.{items_json}
 use Rattle.reg_lines.proofs.printing.print_json.print_items.Given as goal
 

@@ -1,4 +1,4 @@
-use Rattle.reg_lines.proofs.Puts.{Puts-then}
+use Rattle.line_devices.proofs.Puts.{Puts-then}
 use Rattle.reg_lines.proofs.printing.print_json.print_line.Goals as goal
 
 pub returns : goal.returns

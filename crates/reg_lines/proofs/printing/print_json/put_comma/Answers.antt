@@ -1,5 +1,5 @@
 use Rattle.reg_lines.proofs.Items.{comma-some, comma-none}
-use Rattle.reg_lines.proofs.Puts.{Puts-same, Puts-nil}
+use Rattle.line_devices.proofs.Puts.{Puts-same, Puts-nil}
 use Rattle.reg_lines.proofs.printing.print_json.put_comma.Goals as goal
 
 pub returns-then-index-gt0 : goal.returns-then-index-gt0

@@ -1,4 +1,4 @@
-use Rattle.reg_lines.proofs.Puts.{Puts-nil}
+use Rattle.line_devices.proofs.Puts.{Puts-nil}
 use Rattle.reg_lines.proofs.printing.replies.put_detail.Goals as goal
 
 pub returns-in-NotYet : goal.returns-in-NotYet

@@ -1,4 +1,4 @@
-use Rattle.reg_lines.proofs.Puts.{Puts-then}
+use Rattle.line_devices.proofs.Puts.{Puts-then}
 use Rattle.reg_lines.specs.Json.{text_json}
 use Rattle.reg_lines.proofs.printing.text.print_text.Goals as goal
 

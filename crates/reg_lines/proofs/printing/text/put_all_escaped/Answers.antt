@@ -1,6 +1,6 @@
 use Rattle.std.proofs.Common.{[], refl, sym, ap, ◌∙◌, ◌++◌}
 use Rattle.reg_lines.proofs.Escapes.{escaped_at, escaped_more, escaped_none}
-use Rattle.reg_lines.proofs.Puts.{Puts-nil, Puts-then, Puts-same}
+use Rattle.line_devices.proofs.Puts.{Puts-nil, Puts-then, Puts-same}
 use Rattle.reg_lines.proofs.printing.text.put_all_escaped.Goals as goal
 
 pub loop-at-init : goal.loop-at-init

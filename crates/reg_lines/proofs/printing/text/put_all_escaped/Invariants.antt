@@ -1,7 +1,7 @@
 use Rattle.std.proofs.Common.{◌≡◌, ◌++◌, List, ℕ, length}
 use Rattle.std.specs.List.{flat_map}
 use Rattle.reg_lines.specs.Json.{escaped}
-use Rattle.reg_lines.specs.Stream.{Puts}
+use Rattle.line_devices.specs.Stream.{Puts}
 use Rattle.reg_lines.proofs.printing.text.put_all_escaped.Given as goal
 
 abbrev pub invariant-loop-at : goal.invariant-loop-at

@@ -1,6 +1,6 @@
 use Rattle.std.proofs.Common.{arith}
 use Rattle.reg_lines.proofs.Escapes.{escaped-control}
-use Rattle.reg_lines.proofs.Puts.{Puts-same}
+use Rattle.line_devices.proofs.Puts.{Puts-same}
 use Rattle.reg_lines.proofs.printing.text.put_escaped.Goals as goal
 
 pub returns-in_default : goal.returns-in_default

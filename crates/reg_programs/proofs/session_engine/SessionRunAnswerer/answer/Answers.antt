@@ -1,5 +1,5 @@
 use Rattle.std.proofs.Common.{◌≡◌, ◌+◌, true, false, refl, subst}
-use Rattle.reg_programs.specs.Driver.{AnswersKept}
+use Rattle.line_engines.specs.Driver.{AnswersKept}
 use Rattle.reg_programs.specs.Sessions.{AnswersRequest, Session, line_answer_json}
 use Rattle.reg_programs.proofs.Calling.{taken}
 use Rattle.reg_programs.proofs.session_engine.SessionRunAnswerer.answer.Goals as goal

@@ -1,5 +1,5 @@
 use Rattle.std.proofs.Common.{[], refl}
-use Rattle.reg_lines.proofs.Puts.{Puts-nil}
+use Rattle.line_devices.proofs.Puts.{Puts-nil}
 use Rattle.reg_programs.proofs.session_engine.SessionRunAnswerer.close.Goals as goal
 
 pub returns-clause-closed : goal.returns-clause-closed

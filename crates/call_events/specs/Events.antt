@@ -1,0 +1,24 @@
+-- What may be handed in for a trust domain, and the codes of refusals.
+use Rattle.std.specs.Prelude.{◌≡◌, ⊤, ℕ, List, codes}
+use Rattle.entry_book.specs.Rows.{Bytes}
+use Rattle.call_events.specs.declared.event.Event.{Event}
+use Rattle.call_events.specs.declared.event.Event.TheVariants.{Invoke, Begin, Step, Commit}
+use Rattle.call_events.specs.declared.event.Event.TheVariants as on
+use Rattle.call_events.specs.declared.event.EventRefusal.{EventRefusal}
+use Rattle.call_events.specs.declared.event.EventRefusal.TheVariants.{CallTaken, UnknownCall, NotNow, TooManyCalls, NoMemory}
+
+-- the code of a refusal
+abbrev pub event_code : EventRefusal → List ℕ
+event_code CallTaken = codes "E1"
+event_code UnknownCall = codes "E2"
+event_code NotNow = codes "E3"
+event_code TooManyCalls = codes "E4"
+event_code NoMemory = codes "E5"
+
+-- what may be handed to the machine of this trust domain: a batch was made for it
+abbrev pub IsFor : Bytes → Event → Type 0
+IsFor own (Invoke n batch) = batch.domain ≡ own
+IsFor own (Begin n) = ⊤
+IsFor own (Step n) = ⊤
+IsFor own (Commit n) = ⊤
+IsFor own (on.Reply n) = ⊤

@@ -1,0 +1,21 @@
+-- What a command line asks for.
+use Rattle.std.specs.Prelude.{◌<◌, List, ℕ, Option, None, Some, ⊤}
+use Rattle.command_line.specs.declared.program.Program.{Program}
+use Rattle.command_line.specs.declared.program.Program.TheVariants.{Serve}
+use Rattle.command_line.specs.declared.settings.ServerPlan.{ServerPlan}
+
+pub record Asked : Type 0 where
+  pub program : Program
+  -- the text of the server's own trust domain
+  pub domain : List ℕ
+  -- the seed of the ids that the server gives, 32 bytes
+  pub seed : List ℕ
+  -- of a server, where it listens, its workers and its connections
+  pub server : Option ServerPlan
+
+-- where a server is asked for, it is said for what, and it has a worker
+abbrev pub HasServer : Program → Option ServerPlan → Type 0
+HasServer Serve (Some plan) = 0 < plan.workers
+HasServer Serve None = ⊥
+HasServer program (Some plan) = ⊥
+HasServer program None = ⊤

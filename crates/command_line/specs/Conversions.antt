@@ -1,0 +1,23 @@
+-- What the refusals of the layers below are to a command line.
+use Rattle.clap.specs.Words.{kind_of}
+use Rattle.clap.specs.declared.error.Error.{Error}
+use Rattle.clap.specs.declared.error.kind.ErrorKind.{ErrorKind}
+use Rattle.clap.specs.declared.error.kind.ErrorKind.TheVariants as kind
+use Rattle.spiffe_name.specs.declared.refusals.IdRefusal.{IdRefusal}
+use Rattle.spiffe_name.specs.declared.refusals.Failure.{Failure}
+use Rattle.spiffe_name.specs.declared.refusals.Failure.TheVariants as name
+use Rattle.command_line.specs.declared.fault.CommandLineFault.{CommandLineFault}
+use Rattle.command_line.specs.declared.fault.CommandLineFault.TheVariants.{Domain, NoMemory, Refused}
+
+abbrev pub fault_of_kind : ErrorKind → Error → CommandLineFault
+fault_of_kind kind.OutOfMemory error = NoMemory
+fault_of_kind _ error = Refused error
+
+-- the parser's refusal of the words: want of memory is no fault of theirs
+abbrev pub fault_of_refusal : Error → CommandLineFault
+fault_of_refusal error = fault_of_kind (kind_of error) error
+
+-- the refusal of the text that was given as the domain
+abbrev pub fault_of_domain : Failure IdRefusal → CommandLineFault
+fault_of_domain name.NoMemory = NoMemory
+fault_of_domain (name.Refused refusal) = Domain refusal

@@ -1,0 +1,355 @@
+//! What does a command line ask for?
+
+use crate::fault::CommandLineFault;
+use crate::program::Program;
+use crate::seed::{FIRST_SEED, seed_of};
+use clap::{Arg, ArgAction, ArgMatches, Command};
+use spiffe_name::TrustDomain;
+use std::alloc::{AllocError, Global};
+use std::marker::Model;
+use std::net::SocketAddrV4;
+
+/// What a server is asked for.
+#[derive(Clone, Copy, Debug, Drop)]
+pub struct ServerPlan {
+    /// Where it listens; at port 0 the system chooses one.
+    pub listen: SocketAddrV4,
+    /// How many workers it has, 1 to 32.
+    pub workers: u16,
+    /// How many connections it serves before it ends.
+    pub connections: u16,
+}
+
+/// What `regd` was asked to do: `regd plain --domain D [--seed S]`, `regd schedule --domain D [--seed S] [--record]`,
+/// `regd audit --domain D`, or `regd serve --domain D --listen A --workers N --connections C [--seed S]`.
+#[derive(Debug, Drop)]
+pub struct Settings {
+    program: Program,
+    domain: TrustDomain,
+    seed: [u8; 32],
+    server: Option<ServerPlan>,
+}
+
+impl Model for Settings {
+    ghost use Rattle.command_line.specs.Asked.{Asked, HasServer};
+
+    ghost Value = { Asked };
+
+    ghost view = { λ settings. record { program = settings.program; domain = settings.domain; seed = settings.seed; server = settings.server } };
+
+    ghost invariant = { λ settings. HasServer settings.program settings.server };
+}
+
+impl Settings {
+    ghost use Rattle.std.specs.Prelude.{◌≡◌, ◌<◌, IfErr, IfOk, IfSome, []};
+    ghost use Rattle.clap.specs.Walk.{texts};
+    ghost use Rattle.hex.specs.Hex.{encode_lower};
+    ghost use Rattle.clap.specs.Words.{subcommand_of};
+    ghost use Rattle.command_line.specs.CommandLine.{AsksServer, IsFaultOf, domain_word, line_faults, program_asked, regd_command, seed_text};
+
+    /// Reads a command line, the program's own name first: all words by the command-line parser, then the domain, then the
+    /// seed, which is 64 zeros where none is given, and then where a server listens. The error is the first fault, or want of
+    /// memory; a request for help is a refusal, too, with the help as its text.
+    pub fn from_words(alloc: Global, words: &[&str]) -> Result<Settings, CommandLineFault>
+        ensures taken { IfOk result (λ _. line_faults (texts words.now) ≡ []) }
+        ensures program { IfOk result (λ settings. settings.program ≡ program_asked (texts words.now)) }
+        ensures domain { IfOk result (λ settings. domain_word (texts words.now) ≡ Some settings.domain) }
+        ensures seed { IfOk result (λ settings. encode_lower settings.seed ≡ seed_text (texts words.now)) }
+        ensures server { IfOk result (λ settings. AsksServer (subcommand_of regd_command (texts words.now)) settings.program settings.server) }
+        ensures fault { IfErr result (IsFaultOf (texts words.now)) }
+    {
+        let matches = regd_command(alloc)?.try_get_matches_from(words)?;
+        let program = program_of(&matches);
+        let word = option_word(&matches, program.name(), "domain").unwrap_or("");
+        let domain = TrustDomain::parse(alloc, word)?;
+        let text = option_word(&matches, program.name(), "seed").unwrap_or(FIRST_SEED);
+        let Some(seed) = seed_of(text) else {
+            return Err(CommandLineFault::Seed);
+        };
+        let server = server_of(&matches, program)?;
+        Ok(Settings {
+            program,
+            domain,
+            seed,
+            server,
+        })
+    }
+
+    /// The program that was asked for.
+    pub fn program(&self) -> Program
+        ensures { result ≡ self.now.program }
+    {
+        self.program
+    }
+
+    /// The server's own trust domain.
+    pub fn domain(&self) -> &TrustDomain
+        ensures { result.now ≡ self.now.domain }
+    {
+        &self.domain
+    }
+
+    /// The seed of the ids that the server gives.
+    pub fn seed(&self) -> [u8; 32]
+        ensures { result ≡ self.now.seed }
+    {
+        self.seed
+    }
+
+    /// What a server is asked for, where one is.
+    pub fn server(&self) -> Option<ServerPlan>
+        ensures server { result ≡ self.now.server }
+        ensures workers { IfSome result (λ plan. 0 < plan.workers) }
+    {
+        self.server
+    }
+
+    /// The server's own trust domain, taken out.
+    pub fn into_domain(self) -> TrustDomain
+        ensures { result ≡ self.domain }
+    {
+        self.domain
+    }
+}
+
+ghost use Rattle.std.specs.Prelude.{◌≡◌, ℕ, IfErr, IfNone, IfOk, IfSome, codes, false, option_map};
+ghost use Rattle.clap.specs.Words.{app_of, rule_of, subcommand_rows_of};
+ghost use Rattle.clap.specs.declared.Command.TheViews.{out-Command};
+ghost use Rattle.command_line.specs.Asked.{HasServer};
+ghost use Rattle.command_line.specs.CommandLine.{AsksServer, IsServerFault, TellsNumber, TellsServer, audit_command, book_commands, domain_option, is_recorded, listen_command, listen_option, most_connections, most_workers, number_option, option_in, plain_command, program_in, record_option, regd_command, schedule_command, seed_option, serve_command, server_word};
+
+fn domain_option<'a>(alloc: Global) -> Arg<'a>
+    ensures rule { rule_of result ≡ domain_option }
+    ensures local { result.global ≡ false }
+{
+    Arg::new(alloc, "domain")
+        .long("domain")
+        .value_name("D")
+        .required(true)
+        .help("The server's own trust domain, such as ex.org")
+}
+
+fn seed_option<'a>(alloc: Global) -> Arg<'a>
+    ensures rule { rule_of result ≡ seed_option }
+    ensures local { result.global ≡ false }
+{
+    Arg::new(alloc, "seed").long("seed").value_name("S").help(
+        "The seed of the ids that are given, 64 lower-case hexadecimal digits; zeros by default",
+    )
+}
+
+fn record_option<'a>(alloc: Global) -> Arg<'a>
+    ensures rule { rule_of result ≡ record_option }
+    ensures local { result.global ≡ false }
+{
+    Arg::new(alloc, "record")
+        .long("record")
+        .action(ArgAction::SetTrue)
+        .help("Nothing but a record of each call, in their order, at the end of the input")
+}
+
+fn plain_command<'a>(alloc: Global) -> Result<Command<'a>, AllocError>
+    ensures app { IfOk result (λ command. app_of command ≡ plain_command) }
+    ensures local { IfOk result (λ command. (out-Command command).has_globals ≡ false) }
+{
+    Command::new(alloc, "plain")
+        .about(
+            "Answers request lines on a plain book, one thread: standard input to standard output",
+        )
+        .arg(domain_option(alloc))?
+        .arg(seed_option(alloc))
+}
+
+fn schedule_command<'a>(alloc: Global) -> Result<Command<'a>, AllocError>
+    ensures app { IfOk result (λ command. app_of command ≡ schedule_command) }
+    ensures local { IfOk result (λ command. (out-Command command).has_globals ≡ false) }
+{
+    Command::new(alloc, "schedule")
+        .about(
+            "Answers event lines by a machine of calls, and tells their order: standard input to standard output",
+        )
+        .arg(domain_option(alloc))?
+        .arg(seed_option(alloc))?
+        .arg(record_option(alloc))
+}
+
+fn audit_command<'a>(alloc: Global) -> Result<Command<'a>, AllocError>
+    ensures app { IfOk result (λ command. app_of command ≡ audit_command) }
+    ensures local { IfOk result (λ command. (out-Command command).has_globals ≡ false) }
+{
+    Command::new(alloc, "audit")
+        .about("Audits the records of calls, one thread: standard input to standard output")
+        .arg(domain_option(alloc))
+}
+
+fn listen_option<'a>(alloc: Global) -> Arg<'a>
+    ensures rule { rule_of result ≡ listen_option }
+    ensures local { result.global ≡ false }
+{
+    Arg::new(alloc, "listen")
+        .long("listen")
+        .value_name("A")
+        .required(true)
+        .help("Where to listen, an IPv4 address and a port, such as 127.0.0.1:8080")
+}
+
+fn workers_option<'a>(alloc: Global) -> Arg<'a>
+    ensures rule { rule_of result ≡ number_option (codes "workers") most_workers }
+    ensures local { result.global ≡ false }
+{
+    Arg::new(alloc, "workers")
+        .long("workers")
+        .value_name("N")
+        .required(true)
+        .value_parser(clap::value_parser!(u16).range(1..=32))
+        .help("How many connections are served at a time, 1 to 32")
+}
+
+fn connections_option<'a>(alloc: Global) -> Arg<'a>
+    ensures rule { rule_of result ≡ number_option (codes "connections") most_connections }
+    ensures local { result.global ≡ false }
+{
+    Arg::new(alloc, "connections")
+        .long("connections")
+        .value_name("C")
+        .required(true)
+        .value_parser(clap::value_parser!(u16).range(1..=65535))
+        .help("How many connections are served before it ends, 1 to 65535")
+}
+
+/// The program `serve` with where it listens.
+fn listen_command<'a>(alloc: Global) -> Result<Command<'a>, AllocError>
+    ensures app { IfOk result (λ command. app_of command ≡ listen_command) }
+    ensures local { IfOk result (λ command. (out-Command command).has_globals ≡ false) }
+{
+    Command::new(alloc, "serve")
+        .about(
+            "Serves connections over TCP: request lines and their answers, by several workers at a time",
+        )
+        .arg(domain_option(alloc))?
+        .arg(listen_option(alloc))
+}
+
+fn serve_command<'a>(alloc: Global) -> Result<Command<'a>, AllocError>
+    ensures app { IfOk result (λ command. app_of command ≡ serve_command) }
+    ensures local { IfOk result (λ command. (out-Command command).has_globals ≡ false) }
+{
+    listen_command(alloc)?
+        .arg(workers_option(alloc))?
+        .arg(connections_option(alloc))?
+        .arg(seed_option(alloc))
+}
+
+/// The program with those of its programs that keep a book.
+fn book_commands<'a>(alloc: Global) -> Result<Command<'a>, AllocError>
+    ensures { IfOk result (λ command. app_of command ≡ book_commands) }
+{
+    Command::new(alloc, "regd")
+        .about("A workload registration server")
+        .subcommand_required(true)
+        .disable_help_subcommand(true)
+        .subcommand(plain_command(alloc)?)?
+        .subcommand(schedule_command(alloc)?)
+}
+
+/// The program as the command-line parser is told of it.
+fn regd_command<'a>(alloc: Global) -> Result<Command<'a>, AllocError>
+    ensures { IfOk result (λ command. app_of command ≡ regd_command) }
+{
+    book_commands(alloc)?
+        .subcommand(audit_command(alloc)?)?
+        .subcommand(serve_command(alloc)?)
+}
+
+/// The program that the words ask for.
+fn program_of(matches: &ArgMatches<'_>) -> Program
+    ensures { result ≡ program_in (subcommand_rows_of matches.now) }
+{
+    if option_word(matches, "schedule", "domain").is_some() {
+        return if is_recorded(matches) {
+            Program::Record
+        } else {
+            Program::Schedule
+        };
+    }
+    if option_word(matches, "audit", "domain").is_some() {
+        return Program::Audit;
+    }
+    if option_word(matches, "serve", "domain").is_some() {
+        return Program::Serve;
+    }
+    Program::Plain
+}
+
+/// What the words ask of a server, where they ask for one.
+fn server_of(
+    matches: &ArgMatches<'_>,
+    program: Program,
+) -> Result<Option<ServerPlan>, CommandLineFault>
+    ensures server { IfOk result (AsksServer (subcommand_rows_of matches.now) program) }
+    ensures has { IfOk result (HasServer program) }
+    ensures fault { IfErr result (IsServerFault (subcommand_rows_of matches.now) program) }
+{
+    match program {
+        Program::Serve => Ok(Some(plan_of(matches)?)),
+        Program::Plain | Program::Schedule | Program::Record | Program::Audit => Ok(None),
+    }
+}
+
+/// The address and the numbers that the words give to a server.
+fn plan_of(matches: &ArgMatches<'_>) -> Result<ServerPlan, CommandLineFault>
+    ensures server { IfOk result (TellsServer (subcommand_rows_of matches.now)) }
+    ensures fault { IfErr result (IsServerFault (subcommand_rows_of matches.now) Program.Serve) }
+{
+    let Ok(listen) = server_word(matches, "listen").parse() else {
+        return Err(CommandLineFault::Address);
+    };
+    let Some(workers) = number_of(server_word(matches, "workers"), 32) else {
+        return Err(CommandLineFault::Number);
+    };
+    let Some(connections) = number_of(server_word(matches, "connections"), 65535) else {
+        return Err(CommandLineFault::Number);
+    };
+    Ok(ServerPlan {
+        listen,
+        workers,
+        connections,
+    })
+}
+
+/// The text that the words give to the option `id` of a server, or the empty one.
+fn server_word<'a>(matches: &ArgMatches<'a>, id: &str) -> &'a str
+    ensures { result.now ≡ server_word id.now (subcommand_rows_of matches.now) }
+{
+    option_word(matches, "serve", id).unwrap_or("")
+}
+
+/// The number that the text tells, where it is 1 to `most`.
+fn number_of(text: &str, most: u16) -> Option<u16>
+    ensures some { IfSome result (TellsNumber most text.now) }
+    ensures none { IfNone result ((n : ℕ) → TellsNumber most text.now n → ⊥) }
+{
+    let number: u16 = text.parse().ok()?;
+    if number >= 1 && number <= most {
+        Some(number)
+    } else {
+        None
+    }
+}
+
+/// Whether the words ask for records.
+fn is_recorded(matches: &ArgMatches<'_>) -> bool
+    ensures { result ≡ is_recorded (subcommand_rows_of matches.now) }
+{
+    match option_word(matches, "schedule", "record") {
+        Some(word) => word == "true",
+        None => false,
+    }
+}
+
+/// The text that the words give to the option `id` of `program`, where that is the program that they name.
+fn option_word<'a>(matches: &ArgMatches<'a>, program: &str, id: &str) -> Option<&'a str>
+    ensures { option_map (λ word. word.now) result ≡ option_in program.now id.now (subcommand_rows_of matches.now) }
+{
+    matches.subcommand_matches(program)?.get_str(id)
+}

@@ -1,0 +1,4 @@
+pub mod CountedDevice
+pub mod Lines
+pub mod Stream
+pub mod Runs

@@ -1,0 +1,162 @@
+-- What the engine `audit` comes to, line by line.
+use Rattle.std.proofs.Common.{◌≡◌, ◌+◌, ℕ, Bool, true, false, List, [], ◌∷◌, ◌++◌, length, Option, None, Some, refl, sym, ap, subst, ◌∙◌}
+use Rattle.std.specs.Prelude.{IfSome, MatchBool, is_none, is_some, not}
+use Rattle.std.specs.Io.KnownBytes.{Appends}
+use Rattle.reg_lines.specs.Lines.{kept, most_lines, IsLine}
+use Rattle.reg_lines.specs.Records.{AuditRecord}
+use Rattle.reg_lines.specs.Runs.{IsRun, first_lines}
+use Rattle.reg_lines.specs.Stream.{OutputState}
+use Rattle.line_reading.proofs.Kept.{kept_spells_record}
+use Rattle.line_devices.proofs.Puts.{Puts-nil}
+use Rattle.call_audit.specs.declared.cause.Cause.{Cause}
+use Rattle.call_audit.specs.declared.verdict.Verdict.{Verdict}
+use Rattle.call_audit.specs.declared.verdict.Verdict.TheVariants.{Yes, No}
+use Rattle.call_audit.specs.Audits.{judged, judged_spelled}
+use Rattle.call_audit.specs.Texts.{verdict_json}
+use Rattle.call_audit.specs.Verdicts.{verdict_by, verdict_of, verdict_on}
+use Rattle.line_engines.specs.Answers.{as_line}
+use Rattle.line_engines.specs.Audited.{AnswersRecord, AuditKept, Audited, AuditsLine, ClosesWithVerdict, StandsFor, TellsVerdict, denied, is_over, outcome_by, outcome_of, past, start, taken, verdict_in, verdict_over, wanting}
+use Rattle.line_engines.specs.Driver.{AnswersKept, AppendsClosed, ClosesAs, Steps}
+use Rattle.line_engines.specs.declared.audit_engine.Over.{Over}
+use Rattle.line_engines.specs.declared.audit_engine.Over.TheVariants.{Denied, NoMemory}
+use Rattle.line_engines.specs.declared.outcome.Outcome.{Outcome}
+
+-- ---- one line
+
+none_some : {A : Type 0} {x : A} → None ≡ Some x → ⊥
+none_some e = absurd (cc)
+
+true_false : true ≡ false → ⊥
+true_false e = absurd (cc)
+
+of_some : (a b : Verdict) → Some a ≡ Some b → a ≡ b
+of_some a b e = cc
+
+kept_judged : (domain : List ℕ) (before : List AuditRecord) (line : List ℕ) → IsLine line → judged domain before (kept line) ≡ judged domain before line
+unfolding judged
+kept_judged domain before line is = ap (judged_spelled before) (kept_spells_record domain line is)
+
+of_kept : (domain : List ℕ) (now : Audited) (line : List ℕ) (next : Audited) (reply : List ℕ) → IsLine line → AnswersRecord domain now (kept line) next reply → AnswersRecord domain now line next reply
+of_kept domain now line next reply is (taken e r j n p) = taken e r (sym (kept_judged domain now.records line is) ∙ j) n p
+of_kept domain now line next reply is (denied e cause j n p) = denied e cause (sym (kept_judged domain now.records line is) ∙ j) n p
+of_kept domain now line next reply is (wanting e n p) = wanting e n p
+of_kept domain now line next reply is (past over e n p) = past over e n p
+
+answers_kept : (domain : List ℕ) (now : Audited) (bytes : List ℕ) (next : Audited) (reply : List ℕ) → AnswersRecord domain now bytes next reply → (line : List ℕ) → IsLine line → bytes ≡ kept line → AnswersRecord domain now line next reply
+answers_kept domain now bytes next reply a line is k = of_kept domain now line next reply is (subst (λ x. AnswersRecord domain now x next reply) k a)
+
+audited_by : (domain : List ℕ) (after : AuditKept) (now : Audited) (bytes : List ℕ) (out : OutputState) (over : Option Over) → now.over ≡ None → after.over ≡ over → AuditsLine domain now.records bytes after.auditor over → AnswersKept (AnswersRecord domain) is_over (StandsFor after) now bytes out out (is_none over)
+audited_by domain after now bytes out None e is a =
+    let next : Audited = record { records = now.records ++ a.0 ∷ []; over = None } in
+    (next, [], answers_kept domain now bytes next [] (taken e a.0 a.1 refl refl), Puts-nil out, record { over = sym is; keeps = λ h. a.2 }, refl)
+audited_by domain after now bytes out (Some (Denied number cause)) e is a =
+    let next : Audited = record { records = now.records; over = Some (Denied (length now.records + 1) cause) } in
+    let same : Some (Denied (length now.records + 1) cause) ≡ after.over = ap (λ n. Some (Denied n cause)) (sym a.0) ∙ sym is in
+    (next, [], answers_kept domain now bytes next [] (denied e cause a.1 refl refl), Puts-nil out, record { over = same; keeps = λ h. absurd (none_some (sym h ∙ is)) }, refl)
+audited_by domain after now bytes out (Some NoMemory) e is a =
+    let next : Audited = record { records = now.records; over = Some NoMemory } in
+    (next, [], answers_kept domain now bytes next [] (wanting e refl refl), Puts-nil out, record { over = sym is; keeps = λ h. absurd (none_some (sym h ∙ is)) }, refl)
+
+-- a line was audited
+pub audited : (domain : List ℕ) (before after : AuditKept) (now : Audited) (bytes : List ℕ) (out : OutputState) → StandsFor before now → before.over ≡ None → AuditsLine domain now.records bytes after.auditor after.over → AnswersKept (AnswersRecord domain) is_over (StandsFor after) now bytes out out (is_none after.over)
+audited domain before after now bytes out s e a = audited_by domain after now bytes out after.over (s.over ∙ e) refl a
+
+-- a line behind the end
+left_out_by : (domain : List ℕ) (before after : AuditKept) (now : Audited) (bytes : List ℕ) (out : OutputState) (over : Option Over) → before.over ≡ over → is_some over ≡ true → StandsFor before now → after.over ≡ before.over → AnswersKept (AnswersRecord domain) is_over (StandsFor after) now bytes out out false
+left_out_by domain before after now bytes out None e b s f = absurd (true_false (sym b))
+left_out_by domain before after now bytes out (Some over) e b s f =
+    (now, [], answers_kept domain now bytes now [] (past over (s.over ∙ e) refl refl), Puts-nil out, record { over = s.over ∙ sym f; keeps = λ h. absurd (none_some (sym h ∙ (f ∙ e))) }, ap is_some (s.over ∙ e))
+
+pub left_out : (domain : List ℕ) (before after : AuditKept) (now : Audited) (bytes : List ℕ) (out : OutputState) → is_some before.over ≡ true → StandsFor before now → after.over ≡ before.over → AnswersKept (AnswersRecord domain) is_over (StandsFor after) now bytes out out false
+left_out domain before after now bytes out b s f = left_out_by domain before after now bytes out before.over refl b s f
+
+not_not : (a : Bool) → not (not a) ≡ a
+not_not true = refl
+not_not false = refl
+
+pub turned : (a b : Bool) → not a ≡ b → not b ≡ a
+turned a b e = ap not (sym e) ∙ not_not a
+
+pub none_of : (over : Option Over) → is_some over ≡ false → over ≡ None
+none_of None b = refl
+none_of (Some over) b = absurd (true_false b)
+
+-- ---- all lines
+
+past_step : (domain : List ℕ) (over : Option Over) (o : Over) (now next : Audited) (line reply : List ℕ) → over ≡ Some o → MatchBool (is_some over) ((next ≡ now) × (reply ≡ [])) (AnswersRecord domain now line next reply) → (next ≡ now) × (reply ≡ [])
+past_step domain None o now next line reply e s = absurd (none_some e)
+past_step domain (Some x) o now next line reply e s = s
+
+now_step : (domain : List ℕ) (over : Option Over) (now next : Audited) (line reply : List ℕ) → over ≡ None → MatchBool (is_some over) ((next ≡ now) × (reply ≡ [])) (AnswersRecord domain now line next reply) → AnswersRecord domain now line next reply
+now_step domain None now next line reply e s = s
+now_step domain (Some x) now next line reply e s = absurd (none_some (sym e))
+
+past_run : (domain : List ℕ) (over : Over) (lines : List (List ℕ)) (first last : Audited) (text : List ℕ) → first.over ≡ Some over → IsRun (Steps is_over (AnswersRecord domain)) first lines last text → (last ≡ first) × (text ≡ [])
+past_run domain over [] first last text e run = run
+past_run domain over (line ∷ lines) first last text e run =
+    let step = past_step domain first.over over first run.0 line run.1 e run.3 in
+    let rest = past_run domain over lines run.0 last run.2 (ap (λ (s : Audited). s.over) step.0 ∙ e) run.5 in
+    (rest.0 ∙ step.0, run.4 ∙ (ap (λ r. r ++ run.2) step.1 ∙ rest.1))
+
+-- what is told behind the lines is the verdict on them
+record Comes (domain : List ℕ) (before : List AuditRecord) (lines : List (List ℕ)) (text : List ℕ) (verdict : Verdict) : Type 0 where
+  none : text ≡ []
+  is : verdict ≡ verdict_on domain before lines
+
+yes_of : (over : Option Over) (n : ℕ) (v : Verdict) → over ≡ None → verdict_over over n ≡ Some v → v ≡ Yes n
+yes_of over n v e h = (let q : Some v ≡ Some (Yes n) = sym h ∙ ap (λ o. verdict_over o n) e in of_some v (Yes n) q)
+
+no_of : (over : Option Over) (n line : ℕ) (cause : Cause) (v : Verdict) → over ≡ Some (Denied line cause) → verdict_over over n ≡ Some v → v ≡ No line cause
+no_of over n line cause v e h = (let q : Some v ≡ Some (No line cause) = sym h ∙ ap (λ o. verdict_over o n) e in of_some v (No line cause) q)
+
+not_wanting : (over : Option Over) (n : ℕ) (v : Verdict) → over ≡ Some NoMemory → verdict_over over n ≡ Some v → ⊥
+not_wanting over n v e h = none_some (sym (ap (λ o. verdict_over o n) e) ∙ h)
+
+comes_by : (domain : List ℕ) (line : List ℕ) (lines : List (List ℕ)) (first next last : Audited) (reply rest : List ℕ) (v : Verdict) → AnswersRecord domain first line next reply → first.over ≡ None → (next.over ≡ None → Comes domain next.records lines rest v) → IsRun (Steps is_over (AnswersRecord domain)) next lines last rest → verdict_in last ≡ Some v → Comes domain first.records (line ∷ lines) (reply ++ rest) v
+comes_by domain line lines first next last reply rest v (taken e r j n p) o go run h =
+    let c = go (ap (λ (s : Audited). s.over) n) in
+    record {
+      none = ap (λ t. t ++ rest) p ∙ c.none;
+      is = c.is ∙ (ap (λ (s : Audited). verdict_on domain s.records lines) n ∙ sym (ap (λ k. verdict_by k (length first.records) (λ x. verdict_on domain (first.records ++ x ∷ []) lines)) j));
+    }
+comes_by domain line lines first next last reply rest v (denied e cause j n p) o go run h =
+    let over = ap (λ (s : Audited). s.over) n in
+    let stays = past_run domain (Denied (length first.records + 1) cause) lines next last rest over run in
+    record {
+      none = ap (λ t. t ++ rest) p ∙ stays.1;
+      is = no_of last.over (length last.records) (length first.records + 1) cause v (ap (λ (s : Audited). s.over) stays.0 ∙ over) h ∙ sym (ap (λ k. verdict_by k (length first.records) (λ x. verdict_on domain (first.records ++ x ∷ []) lines)) j);
+    }
+comes_by domain line lines first next last reply rest v (wanting e n p) o go run h =
+    let over = ap (λ (s : Audited). s.over) n in
+    let stays = past_run domain NoMemory lines next last rest over run in
+    absurd (not_wanting last.over (length last.records) v (ap (λ (s : Audited). s.over) stays.0 ∙ over) h)
+comes_by domain line lines first next last reply rest v (past over e n p) o go run h = absurd (none_some (sym o ∙ e))
+
+comes : (domain : List ℕ) (lines : List (List ℕ)) (first last : Audited) (text : List ℕ) (v : Verdict) → first.over ≡ None → IsRun (Steps is_over (AnswersRecord domain)) first lines last text → verdict_in last ≡ Some v → Comes domain first.records lines text v
+comes domain [] first last text v e run h =
+    let same = ap (λ (s : Audited). s.over) run.0 ∙ e in
+    record { none = run.1; is = yes_of last.over (length last.records) v same h ∙ ap (λ (s : Audited). Yes (length s.records)) run.0 }
+comes domain (line ∷ lines) first last text v e run h =
+    let step = now_step domain first.over first run.0 line run.1 e run.3 in
+    let c = comes_by domain line lines first run.0 last run.1 run.2 v step e (λ o. comes domain lines run.0 last run.2 v o run.5 h) run.5 h in
+    record { none = run.4 ∙ c.none; is = c.is }
+
+outcome_is : (over : Option Over) (n : ℕ) (v : Verdict) → verdict_over over n ≡ Some v → outcome_of over ≡ outcome_by v
+outcome_is None n v e = ap outcome_by (of_some (Yes n) v e)
+outcome_is (Some (Denied line cause)) n v e = ap outcome_by (of_some (No line cause) v e)
+outcome_is (Some NoMemory) n v e = absurd (none_some e)
+
+-- the end of an audit: the verdict on the lines is told, and the outcome is the verdict's
+tells : (domain : List ℕ) (kept : AuditKept) (lines : List (List ℕ)) (a b : Option (List ℕ)) (told : Outcome) → told ≡ outcome_of kept.over → AppendsClosed (Steps is_over (AnswersRecord domain)) (ClosesAs ClosesWithVerdict (StandsFor kept)) start lines a b → TellsVerdict (verdict_of domain lines) told a b
+tells domain kept lines a b told o w =
+    let last = w.1.0 in
+    let closed = w.1.4 in
+    let v = closed.0.0 in
+    let c = comes domain lines start last w.1.1 v refl w.1.3 closed.0.1 in
+    let text : w.0 ≡ as_line (verdict_json (verdict_of domain lines)) = w.1.5 ∙ (ap (λ r. r ++ w.1.2) c.none ∙ (closed.0.2 ∙ ap (λ x. as_line (verdict_json x)) c.is)) in
+    let mine : told ≡ outcome_by (verdict_of domain lines) = o ∙ (sym (ap outcome_of closed.1.over) ∙ (outcome_is last.over (length last.records) v closed.0.1 ∙ ap outcome_by c.is)) in
+    (subst (λ t. Appends a b t) text w.2, mine)
+
+pub tells_all : (domain : List ℕ) (kept : AuditKept) (left a b : Option (List ℕ)) (told : Outcome) → told ≡ outcome_of kept.over → IfSome left (λ bytes. AppendsClosed (Steps is_over (AnswersRecord domain)) (ClosesAs ClosesWithVerdict (StandsFor kept)) start (first_lines most_lines bytes) a b) → IfSome left (λ bytes. TellsVerdict (verdict_of domain (first_lines most_lines bytes)) told a b)
+tells_all domain kept None a b told o w = tt
+tells_all domain kept (Some bytes) a b told o w = tells domain kept (first_lines most_lines bytes) a b told o w

@@ -1,0 +1,315 @@
+-- A run of lines on its way, whatever it is that answers them.
+use Rattle.std.proofs.Common.{◌≡◌, ◌+◌, ◌≤◌, ◌<◌, ℕ, Bool, true, false, ◌⊎◌, inl, inr, ⊎_elim, List, [], ◌∷◌, ◌++◌, drop, Option, None, Some, Result, Ok, Err, refl, sym, ◌∙◌, append-nil, arith, subst}
+use Rattle.std.specs.Prelude.{MatchBool, OnErr, OnOk, IfErr, IfSome}
+use Rattle.std.specs.Io.KnownBytes.{Consumes, IsAtEnd}
+use Rattle.reg_lines.specs.Lines.{has_lf, most_lines, TakesLine}
+use Rattle.reg_lines.specs.Runs.{AppendsRun, IsRun, StepsKept, first_lines}
+use Rattle.reg_lines.specs.Stream.{InputState, IsOut, OutputState, Puts}
+use Rattle.line_devices.proofs.Puts.{Puts-then, Puts-same}
+use Rattle.line_devices.proofs.RunLemmas.{RunsFrom, RunsFrom-start, RunsFrom-flush, RunsFrom-more, IsRun-on, IsRun-append, AppendsRun-so_far, all_put, front_put, front_longer, lines_done, lines_end, lines_more}
+use Rattle.line_engines.specs.Driver.{AnswersKept, AppendsClosed, AppendsClosedFront, Closes, ClosesAs, FailsToClose, IsClosedRun, MayClose, RunsOver, Steps}
+use Rattle.line_engines.specs.declared.fault.RunFault.{RunFault}
+use Rattle.line_engines.specs.declared.fault.RunFault.TheVariants as fault
+
+-- a run that goes on answers the line
+step_on : {State : Type 0} (ends : State → Bool) (answers : State → List ℕ → State → List ℕ → Type 0) (now next : State) (line reply : List ℕ) → ends now ≡ false → answers now line next reply → Steps ends answers now line next reply
+step_on ends answers now next line reply e a =
+    let P : Bool → Type 0 = λ b. MatchBool b ((next ≡ now) × (reply ≡ [])) (answers now line next reply) in
+    subst P (sym e) a
+
+-- a run that has ended leaves the line
+step_past : {State : Type 0} (ends : State → Bool) (answers : State → List ℕ → State → List ℕ → Type 0) (now next : State) (line reply : List ℕ) → ends now ≡ true → next ≡ now → reply ≡ [] → Steps ends answers now line next reply
+step_past ends answers now next line reply e n r =
+    let P : Bool → Type 0 = λ b. MatchBool b ((next ≡ now) × (reply ≡ [])) (answers now line next reply) in
+    subst P (sym e) (n, r)
+
+some_step-by : {State : Type 0} (ends : State → Bool) (answers : State → List ℕ → State → List ℕ → Type 0) → ((s : State) (l : List ℕ) → (next : State) × (reply : List ℕ) × answers s l next reply) → (s : State) (l : List ℕ) (b : Bool) → ends s ≡ b → (next : State) × (reply : List ℕ) × Steps ends answers s l next reply
+some_step-by ends answers some s l true e = (s, [], step_past ends answers s s l [] e refl refl)
+some_step-by ends answers some s l false e =
+    let a = some s l in
+    (a.0, a.1, step_on ends answers s a.0 l a.1 e a.2)
+
+pub some_step : {State : Type 0} (ends : State → Bool) (answers : State → List ℕ → State → List ℕ → Type 0) → ((s : State) (l : List ℕ) → (next : State) × (reply : List ℕ) × answers s l next reply) → (s : State) (l : List ℕ) → (next : State) × (reply : List ℕ) × Steps ends answers s l next reply
+some_step ends answers some s l = some_step-by ends answers some s l (ends s) refl
+
+IsRun-past : {State : Type 0} (ends : State → Bool) (answers : State → List ℕ → State → List ℕ → Type 0) (last : State) (lines : List (List ℕ)) → ends last ≡ true → IsRun (Steps ends answers) last lines last []
+IsRun-past ends answers last [] e = (refl, refl)
+IsRun-past ends answers last (l ∷ lines) e = (last, [], [], step_past ends answers last last l [] e refl refl, refl, IsRun-past ends answers last lines e)
+
+-- the run has come to a state that goes on, for which what is kept stands
+pub record IsDriven {State : Type 0} (ends : State → Bool) (answers : State → List ℕ → State → List ℕ → Type 0) (stands : State → Type 0) (first : State) (all left : Option (List ℕ)) (start now : OutputState) (count : ℕ) : Type 0 where
+  pub state : State
+  pub stood : stands state
+  pub goes_on : ends state ≡ false
+  pub way : RunsFrom (Steps ends answers) first all left start now count state
+
+-- all lines were answered, as far as a run answers them
+pub record IsThrough {State : Type 0} (step : State → List ℕ → State → List ℕ → Type 0) (stands : State → Type 0) (first : State) (all : Option (List ℕ)) (start now : OutputState) : Type 0 where
+  pub state : State
+  pub stood : stands state
+  pub put : IfSome all (λ bytes. (text : List ℕ) × IsRun step first (first_lines most_lines bytes) state text × Puts start now text)
+
+pub IsDriven-start : {State : Type 0} (ends : State → Bool) (answers : State → List ℕ → State → List ℕ → Type 0) (stands : State → Type 0) (first : State) (all : Option (List ℕ)) (start : OutputState) → stands first → ends first ≡ false → IsDriven ends answers stands first all all start start 0
+IsDriven-start ends answers stands first all start s e = record { state = first; stood = s; goes_on = e; way = RunsFrom-start (Steps ends answers) first all start }
+
+pub IsDriven-flush : {State : Type 0} (ends : State → Bool) (answers : State → List ℕ → State → List ℕ → Type 0) (stands : State → Type 0) (first : State) (all left : Option (List ℕ)) (start now then : OutputState) (count : ℕ) → IsDriven ends answers stands first all left start now count → Puts now then [] → IsDriven ends answers stands first all left start then count
+IsDriven-flush ends answers stands first all left start now then count w p = record { state = w.state; stood = w.stood; goes_on = w.goes_on; way = RunsFrom-flush _ _ _ _ _ _ _ _ _ w.way p }
+
+step_kept : {State : Type 0} (ends : State → Bool) (answers : State → List ℕ → State → List ℕ → Type 0) (now next : State) (bytes reply : List ℕ) → ends now ≡ false → StepsKept answers now bytes next reply → StepsKept (Steps ends answers) now bytes next reply
+step_kept ends answers now next bytes reply e s line is k = step_on ends answers now next line reply e (s line is k)
+
+pub IsDriven-more : {State : Type 0} (ends : State → Bool) (answers : State → List ℕ → State → List ℕ → Type 0) (stood stands : State → Type 0) (first : State) (all left rest : Option (List ℕ)) (start now then : OutputState) (count : ℕ) (line : List ℕ) (w : IsDriven ends answers stood first all left start now count) → TakesLine left rest line → AnswersKept answers ends stands w.state line now then true → IsDriven ends answers stands first all rest start then (count + 1)
+IsDriven-more ends answers stood stands first all left rest start now then count line w t a =
+    record {
+      state = a.0;
+      stood = a.4;
+      goes_on = a.5;
+      way = RunsFrom-more _ _ _ _ _ _ _ _ _ _ _ _ _ w.way t (step_kept ends answers w.state a.0 line a.1 w.goes_on a.2) a.3;
+    }
+
+-- the run has ended, and leaves the lines that follow
+put-past : {State : Type 0} (ends : State → Bool) (answers : State → List ℕ → State → List ℕ → Type 0) (first : State) (all left : Option (List ℕ)) (start now : OutputState) (count most : ℕ) (last : State) → ends last ≡ true → count ≤ most → RunsFrom (Steps ends answers) first all left start now count last → IfSome all (λ bytes. (text : List ℕ) × IsRun (Steps ends answers) first (first_lines most bytes) last text × Puts start now text)
+put-past ends answers first None left start now count most last e l w = tt
+put-past ends answers first (Some xs) None start now count most last e l w = absurd w
+put-past {State} ends answers first (Some xs) (Some ys) start now count most last e l w =
+    let P : List (List ℕ) → Type 0 = λ ls. IsRun (Steps ends answers) first ls last w.text in
+    let Q : List (List ℕ) → Type 0 = λ ls. IsRun (Steps ends answers) first ls last (w.text ++ []) in
+    let R : List ℕ → Type 0 = λ t. IsRun (Steps ends answers) first (first_lines most xs) last t in
+    let so_far = subst P (lines_done xs ys w.done count w.lines w.counted) w.run in
+    let more = IsRun-past ends answers last (drop count (first_lines most xs)) e in
+    (w.text, subst R (append-nil w.text) (subst Q (lines_more xs count most l) (IsRun-append (Steps ends answers) first last last _ _ w.text [] so_far more)), w.put)
+
+put-end : {State : Type 0} (step : State → List ℕ → State → List ℕ → Type 0) (first : State) (all left : Option (List ℕ)) (start now : OutputState) (count most : ℕ) (last : State) → IsAtEnd left → count ≤ most → RunsFrom step first all left start now count last → IfSome all (λ bytes. (text : List ℕ) × IsRun step first (first_lines most bytes) last text × Puts start now text)
+put-end step first None left start now count most last e l w = tt
+put-end step first (Some xs) None start now count most last e l w = absurd w
+put-end step first (Some xs) (Some ys) start now count most last e l w =
+    let P : List (List ℕ) → Type 0 = λ ls. IsRun step first ls last w.text in
+    (w.text, subst P (lines_end xs ys w.done count most w.lines w.counted e l) w.run, w.put)
+
+put-most : {State : Type 0} (step : State → List ℕ → State → List ℕ → Type 0) (first : State) (all left : Option (List ℕ)) (start now : OutputState) (count most : ℕ) (last : State) → count ≡ most → RunsFrom step first all left start now count last → IfSome all (λ bytes. (text : List ℕ) × IsRun step first (first_lines most bytes) last text × Puts start now text)
+put-most step first None left start now count most last e w = tt
+put-most step first (Some xs) None start now count most last e w = absurd w
+put-most step first (Some xs) (Some ys) start now count most last e w =
+    let P : List (List ℕ) → Type 0 = λ ls. IsRun step first ls last w.text in
+    (w.text, subst P (lines_done xs ys w.done most w.lines (w.counted ∙ e)) w.run, w.put)
+
+pub IsThrough-ended : {State : Type 0} (ends : State → Bool) (answers : State → List ℕ → State → List ℕ → Type 0) (stood stands : State → Type 0) (first : State) (all left rest : Option (List ℕ)) (start now then : OutputState) (count : ℕ) (line : List ℕ) (w : IsDriven ends answers stood first all left start now count) → TakesLine left rest line → count + 1 ≤ most_lines → AnswersKept answers ends stands w.state line now then false → IsThrough (Steps ends answers) stands first all start then
+IsThrough-ended ends answers stood stands first all left rest start now then count line w t l a =
+    let way = RunsFrom-more _ _ _ _ _ _ _ _ _ _ _ _ _ w.way t (step_kept ends answers w.state a.0 line a.1 w.goes_on a.2) a.3 in
+    record { state = a.0; stood = a.4; put = put-past ends answers first all rest start then (count + 1) most_lines a.0 a.5 l way }
+
+pub IsThrough-end : {State : Type 0} (ends : State → Bool) (answers : State → List ℕ → State → List ℕ → Type 0) (stands : State → Type 0) (first : State) (all left : Option (List ℕ)) (start now : OutputState) (count : ℕ) → IsDriven ends answers stands first all left start now count → IsAtEnd left → count ≤ most_lines → IsThrough (Steps ends answers) stands first all start now
+IsThrough-end ends answers stands first all left start now count w e l =
+    record { state = w.state; stood = w.stood; put = put-end (Steps ends answers) first all left start now count most_lines w.state e l w.way }
+
+pub IsThrough-most : {State : Type 0} (ends : State → Bool) (answers : State → List ℕ → State → List ℕ → Type 0) (stands : State → Type 0) (first : State) (all left : Option (List ℕ)) (start now : OutputState) (count : ℕ) → IsDriven ends answers stands first all left start now count → count ≡ most_lines → IsThrough (Steps ends answers) stands first all start now
+IsThrough-most ends answers stands first all left start now count w e =
+    record { state = w.state; stood = w.stood; put = put-most (Steps ends answers) first all left start now count most_lines w.state e w.way }
+
+pub Closes-flushed : {State : Type 0} (closes : State → List ℕ → Type 0) (now : State) (a b c : OutputState) → Closes closes now a b → Puts b c [] → Closes closes now a c
+Closes-flushed closes now a b c k p = (k.0, k.1, Puts-same _ _ _ _ (append-nil k.0) (Puts-then _ _ _ _ _ k.2 p))
+
+-- however far the run has come, what was written is a beginning
+pub AppendsClosedFront-of : {State : Type 0} (step : State → List ℕ → State → List ℕ → Type 0) (closes : State → List ℕ → Type 0) → ((s : State) (l : List ℕ) → (next : State) × (reply : List ℕ) × step s l next reply) → (first : State) (all left : Option (List ℕ)) (start now : OutputState) (count most : ℕ) (last : State) → start.failures ≡ 0 → start.held ≡ [] → count ≤ most → RunsFrom step first all left start now count last → IfSome all (λ bytes. AppendsClosedFront step (MayClose closes) first (first_lines most bytes) start.written now.written)
+AppendsClosedFront-of step closes some first None left start now count most last f h l w = tt
+AppendsClosedFront-of step closes some first (Some xs) None start now count most last f h l w = absurd w
+AppendsClosedFront-of step closes some first (Some xs) (Some ys) start now count most last f h l w =
+    let more = IsRun-on step some last (drop count (first_lines most xs)) in
+    let P : List (List ℕ) → Type 0 = λ ls. IsRun step first ls last w.text in
+    let Q : List (List ℕ) → Type 0 = λ ls. IsRun step first ls more.0 (w.text ++ more.1) in
+    let so_far = subst P (lines_done xs ys w.done count w.lines w.counted) w.run in
+    let run = subst Q (lines_more xs count most l) (IsRun-append step first last more.0 _ _ w.text more.1 so_far more.2) in
+    ((w.text ++ more.1) ++ [], (more.0, w.text ++ more.1, [], run, inr refl, refl), front_longer _ _ _ _ (front_longer _ _ _ _ (front_put _ _ _ f h w.put)))
+
+closed_front : {State : Type 0} (step : State → List ℕ → State → List ℕ → Type 0) (closes : State → List ℕ → Type 0) (first last : State) (all : Option (List ℕ)) (start mid now : OutputState) (most : ℕ) → start.failures ≡ 0 → start.held ≡ [] → IfSome all (λ bytes. (text : List ℕ) × IsRun step first (first_lines most bytes) last text × Puts start mid text) → Closes closes last mid now ⊎ Puts mid now [] → IfSome all (λ bytes. AppendsClosedFront step (MayClose closes) first (first_lines most bytes) start.written now.written)
+closed_front step closes first last None start mid now most f h p k = tt
+closed_front step closes first last (Some xs) start mid now most f h p k =
+    ⊎_elim
+    (λ k. (p.0 ++ k.0, (last, p.0, k.0, p.1, inl k.1, refl), front_put _ _ _ f h (Puts-then _ _ _ _ _ p.2 k.2)))
+    (λ n. (p.0 ++ [], (last, p.0, [], p.1, inr refl, refl), front_put _ _ _ f h (Puts-then _ _ _ _ _ p.2 n)))
+    k
+
+-- all replies are out, and nothing behind them
+replies_out : {State : Type 0} (step : State → List ℕ → State → List ℕ → Type 0) (first last : State) (all : Option (List ℕ)) (start mid now : OutputState) (most : ℕ) → start.failures ≡ 0 → start.held ≡ [] → now.failures ≡ 0 → now.held ≡ [] → IfSome all (λ bytes. (text : List ℕ) × IsRun step first (first_lines most bytes) last text × Puts start mid text) → Puts mid now [] → IfSome all (λ bytes. AppendsRun step first (first_lines most bytes) start.written now.written)
+replies_out step first last None start mid now most f h g i p n = tt
+replies_out step first last (Some xs) start mid now most f h g i p n =
+    (last, p.0, p.1, all_put _ _ _ f h g i (Puts-same _ _ _ _ (append-nil p.0) (Puts-then _ _ _ _ _ p.2 n)))
+
+closed_text : {State : Type 0} (step : State → List ℕ → State → List ℕ → Type 0) (closes : State → List ℕ → Type 0) (first last : State) (all : Option (List ℕ)) (start mid now : OutputState) (most : ℕ) → start.failures ≡ 0 → start.held ≡ [] → now.failures ≡ 0 → now.held ≡ [] → IfSome all (λ bytes. (text : List ℕ) × IsRun step first (first_lines most bytes) last text × Puts start mid text) → Closes closes last mid now → IfSome all (λ bytes. AppendsClosed step closes first (first_lines most bytes) start.written now.written)
+closed_text step closes first last None start mid now most f h g i p k = tt
+closed_text step closes first last (Some xs) start mid now most f h g i p k =
+    (p.0 ++ k.0, (last, p.0, k.0, p.1, k.1, refl), all_put _ _ _ f h g i (Puts-then _ _ _ _ _ p.2 k.2))
+
+input_output : fault.Input ≡ fault.Output → ⊥
+input_output e = cc
+
+input_memory : fault.Input ≡ fault.NoMemory → ⊥
+input_memory e = cc
+
+output_memory : fault.Output ≡ fault.NoMemory → ⊥
+output_memory e = cc
+
+-- the ends of a run
+
+pub RunsOver-no_memory : {State : Type 0} (step : State → List ℕ → State → List ℕ → Type 0) (closes : State → List ℕ → Type 0) (wants : Type 0) {V : Type 0} (result : Result V RunFault) → ((s : State) (l : List ℕ) → (next : State) × (reply : List ℕ) × step s l next reply) → (first : State) (input : InputState) (output : OutputState) → output.failures ≡ 0 → output.held ≡ [] → result ≡ Err fault.NoMemory → RunsOver step closes wants first input input output output result
+RunsOver-no_memory step closes wants (Ok x) some first input output f h e = absurd (cc)
+RunsOver-no_memory step closes wants (Err e) some first input output f h is =
+    let is_memory : e ≡ fault.NoMemory = cc in
+    record {
+      text = tt;
+      done = tt;
+      input_failed = λ i. absurd (input_memory (sym i ∙ is_memory));
+      output_failed = λ o. absurd (output_memory (sym o ∙ is_memory));
+      so_far = λ i. absurd (input_memory (sym i ∙ is_memory));
+      no_memory = λ _. inl (refl, refl);
+      front = AppendsClosedFront-of step closes some first input.left input.left output output 0 most_lines first f h (omega arith) (RunsFrom-start step first input.left output);
+    }
+
+pub RunsOver-output : {State : Type 0} (step : State → List ℕ → State → List ℕ → Type 0) (closes : State → List ℕ → Type 0) (wants : Type 0) {V : Type 0} → ((s : State) (l : List ℕ) → (next : State) × (reply : List ℕ) × step s l next reply) → (first : State) (input rest : InputState) (output out : OutputState) (count : ℕ) (last : State) → output.failures ≡ 0 → output.held ≡ [] → 0 < out.failures → count ≤ most_lines → RunsFrom step first input.left rest.left output out count last → RunsOver {State = State} {T = V} step closes wants first input rest output out (Err fault.Output)
+RunsOver-output step closes wants some first input rest output out count last f h failed l w =
+    record {
+      text = tt;
+      done = tt;
+      input_failed = λ i. absurd (input_output (sym i));
+      output_failed = λ _. failed;
+      so_far = λ i. absurd (input_output (sym i));
+      no_memory = λ m. absurd (output_memory m);
+      front = AppendsClosedFront-of step closes some first input.left rest.left output out count most_lines last f h l w;
+    }
+
+pub RunsOver-input : {State : Type 0} (step : State → List ℕ → State → List ℕ → Type 0) (closes : State → List ℕ → Type 0) (wants : Type 0) {V : Type 0} → ((s : State) (l : List ℕ) → (next : State) × (reply : List ℕ) × step s l next reply) → (first : State) (input rest : InputState) (left : Option (List ℕ)) (output out : OutputState) (count : ℕ) (last : State) → output.failures ≡ 0 → output.held ≡ [] → 0 < rest.failures → out.failures ≡ 0 → IsOut out → ((lost : List ℕ) × (has_lf lost ≡ false) × Consumes left rest.left lost) → count ≤ most_lines → RunsFrom step first input.left left output out count last → RunsOver {State = State} {T = V} step closes wants first input rest output out (Err fault.Input)
+RunsOver-input step closes wants some first input rest left output out count last f h failed g o lost l w =
+    record {
+      text = tt;
+      done = tt;
+      input_failed = λ _. failed;
+      output_failed = λ e. absurd (input_output e);
+      so_far = λ _. (g, o, AppendsRun-so_far _ _ _ _ _ _ _ _ _ f h g o.0 lost w);
+      no_memory = λ m. absurd (input_memory m);
+      front = AppendsClosedFront-of step closes some first input.left left output out count most_lines last f h l w;
+    }
+
+pub RunsOver-finished : {State : Type 0} (step : State → List ℕ → State → List ℕ → Type 0) (closes : State → List ℕ → Type 0) (wants : Type 0) (stands : State → Type 0) {V : Type 0} (result : Result V RunFault) (first : State) (input rest : InputState) (output mid out : OutputState) → output.failures ≡ 0 → output.held ≡ [] → rest.failures ≡ 0 → IsThrough step stands first input.left output mid → ((now : State) → stands now → Closes closes now mid out ⊎ Puts mid out []) → ((now : State) → stands now → OnOk result (Closes closes now mid out)) → OnOk result ((out.failures ≡ 0) × IsOut out) → IfErr result (λ e. ((e ≡ fault.Output) × (0 < out.failures)) ⊎ ((e ≡ fault.NoMemory) × FailsToClose wants mid out)) → RunsOver step closes wants first input rest output out result
+RunsOver-finished step closes wants stands (Ok x) first input rest output mid out f h r w k kok ok err =
+    record {
+      text = closed_text step closes first w.state input.left output mid out most_lines f h ok.0 ok.1.0 w.put (kok w.state w.stood);
+      done = (r, ok.0, ok.1);
+      input_failed = tt;
+      output_failed = tt;
+      so_far = tt;
+      no_memory = tt;
+      front = closed_front step closes first w.state input.left output mid out most_lines f h w.put (k w.state w.stood);
+    }
+RunsOver-finished step closes wants stands (Err e) first input rest output mid out f h r w k kok ok err =
+    record {
+      text = tt;
+      done = tt;
+      input_failed = λ i. ⊎_elim (λ o. absurd (input_output (sym i ∙ o.0))) (λ m. absurd (input_memory (sym i ∙ m.0))) err;
+      output_failed = λ i. ⊎_elim (λ o. o.1) (λ m. absurd (output_memory (sym i ∙ m.0))) err;
+      so_far = λ i. ⊎_elim (λ o. absurd (input_output (sym i ∙ o.0))) (λ m. absurd (input_memory (sym i ∙ m.0))) err;
+      no_memory = λ i. ⊎_elim
+          (λ o. absurd (output_memory (sym o.0 ∙ i)))
+          (λ m. inr (m.1.may, r, m.1.not_failed, m.1.out, replies_out step first w.state input.left output mid out most_lines f h m.1.not_failed m.1.out.0 w.put m.1.none_put))
+          err;
+      front = closed_front step closes first w.state input.left output mid out most_lines f h w.put (k w.state w.stood);
+    }
+
+-- the same of an equal setting, of equal bytes, and of the verdict that was given
+
+pub of_setting : {State Setting : Type 0} (ends : State → Bool) (answers : Setting → State → List ℕ → State → List ℕ → Type 0) (stands : State → Type 0) (a b : Setting) → a ≡ b → (now : State) (bytes : List ℕ) (old new : OutputState) (goes_on : Bool) → AnswersKept (answers a) ends stands now bytes old new goes_on → AnswersKept (answers b) ends stands now bytes old new goes_on
+of_setting {Setting = Setting} ends answers stands a b e now bytes old new goes_on h =
+    let P : Setting → Type 0 = λ s. AnswersKept (answers s) ends stands now bytes old new goes_on in
+    subst P e h
+
+pub of_bytes : {State : Type 0} (ends : State → Bool) (answers : State → List ℕ → State → List ℕ → Type 0) (stands : State → Type 0) (now : State) (a b : List ℕ) (old new : OutputState) (goes_on : Bool) → a ≡ b → AnswersKept answers ends stands now a old new goes_on → AnswersKept answers ends stands now b old new goes_on
+of_bytes ends answers stands now a b old new goes_on e h =
+    let P : List ℕ → Type 0 = λ l. AnswersKept answers ends stands now l old new goes_on in
+    subst P e h
+
+pub of_verdict : {State : Type 0} (ends : State → Bool) (answers : State → List ℕ → State → List ℕ → Type 0) (stands : State → Type 0) (now : State) (bytes : List ℕ) (old new : OutputState) (a b : Bool) → a ≡ b → AnswersKept answers ends stands now bytes old new a → AnswersKept answers ends stands now bytes old new b
+of_verdict ends answers stands now bytes old new a b e h =
+    let P : Bool → Type 0 = λ v. AnswersKept answers ends stands now bytes old new v in
+    subst P e h
+
+pub closes_of : {State Setting : Type 0} (closes : Setting → State → List ℕ → Type 0) (stands : State → Type 0) (a b : Setting) → a ≡ b → (mid out : OutputState) → ((now : State) → stands now → Closes (closes a) now mid out ⊎ Puts mid out []) → (now : State) → stands now → Closes (closes b) now mid out ⊎ Puts mid out []
+closes_of {Setting = Setting} closes stands a b e mid out k now s =
+    let P : Setting → Type 0 = λ x. Closes (closes x) now mid out ⊎ Puts mid out [] in
+    subst P e (k now s)
+
+pub closed_of : {State Setting V : Type 0} (closes : Setting → State → List ℕ → Type 0) (stands : State → Type 0) (a b : Setting) (result : Result V RunFault) → a ≡ b → (mid out : OutputState) → ((now : State) → stands now → OnOk result (Closes (closes a) now mid out)) → (now : State) → stands now → OnOk result (Closes (closes b) now mid out)
+closed_of {Setting = Setting} closes stands a b result e mid out k now s =
+    let P : Setting → Type 0 = λ x. OnOk result (Closes (closes x) now mid out) in
+    subst P e (k now s)
+
+-- after a last text that was put, or wasn't, and a flush
+pub closed_or_none : {State A E : Type 0} (closes : State → List ℕ → Type 0) (now : State) (r : Result A E) (a b c : OutputState) → OnOk r (Closes closes now a b) → OnErr r (b ≡ a) → Puts b c [] → Closes closes now a c ⊎ Puts a c []
+closed_or_none closes now (Ok x) a b c k s p = inl (Closes-flushed closes now a b c k p)
+closed_or_none closes now (Err e) a b c k s p = inr (subst (λ o. Puts o c []) s p)
+
+-- what stood before the last text stands after it
+pub closes_as : {State : Type 0} (closes : State → List ℕ → Type 0) (stood stands : State → Type 0) (mid out : OutputState) → ((now : State) → stood now → stands now) → ((now : State) → stood now → Closes closes now mid out ⊎ Puts mid out []) → (now : State) → stood now → Closes (ClosesAs closes stands) now mid out ⊎ Puts mid out []
+closes_as closes stood stands mid out on k now s = ⊎_elim (λ c. inl (c.0, (c.1, on now s), c.2)) (λ p. inr p) (k now s)
+
+closed_as_by : {State V : Type 0} (closes : State → List ℕ → Type 0) (stands : State → Type 0) (mid out : OutputState) (now : State) (result : Result V RunFault) → stands now → OnOk result (Closes closes now mid out) → OnOk result (Closes (ClosesAs closes stands) now mid out)
+closed_as_by closes stands mid out now (Ok x) s c = (c.0, (c.1, s), c.2)
+closed_as_by closes stands mid out now (Err e) s c = tt
+
+pub closed_as : {State V : Type 0} (closes : State → List ℕ → Type 0) (stood stands : State → Type 0) (mid out : OutputState) (result : Result V RunFault) → ((now : State) → stood now → stands now) → ((now : State) → stood now → OnOk result (Closes closes now mid out)) → (now : State) → stood now → OnOk result (Closes (ClosesAs closes stands) now mid out)
+closed_as closes stood stands mid out result on k now s = closed_as_by closes stands mid out now result (on now s) (k now s)
+
+-- ---- a run that is told with less
+
+closed_weaker : {State : Type 0} (step : State → List ℕ → State → List ℕ → Type 0) (more less : State → List ℕ → Type 0) → ((now : State) (end : List ℕ) → more now end → less now end) → (first : State) (lines : List (List ℕ)) (text : List ℕ) → IsClosedRun step more first lines text → IsClosedRun step less first lines text
+closed_weaker step more less w first lines text c = (c.0, c.1, c.2, c.3, w c.0 c.2 c.4, c.5)
+
+may_close_weaker : {State : Type 0} (more less : State → List ℕ → Type 0) → ((now : State) (end : List ℕ) → more now end → less now end) → (now : State) (end : List ℕ) → MayClose more now end → MayClose less now end
+may_close_weaker more less w now end m = ⊎_elim (λ k. inl (w now end k)) (λ n. inr n) m
+
+text_weaker : {State V : Type 0} (step : State → List ℕ → State → List ℕ → Type 0) (more less : State → List ℕ → Type 0) → ((now : State) (end : List ℕ) → more now end → less now end) → (first : State) (result : Result V RunFault) (left a b : Option (List ℕ)) → OnOk result (IfSome left (λ bytes. AppendsClosed step more first (first_lines most_lines bytes) a b)) → OnOk result (IfSome left (λ bytes. AppendsClosed step less first (first_lines most_lines bytes) a b))
+text_weaker step more less w first (Err e) left a b k = tt
+text_weaker step more less w first (Ok x) None a b k = tt
+text_weaker step more less w first (Ok x) (Some bytes) a b k = (k.0, closed_weaker step more less w first _ k.0 k.1, k.2)
+
+front_weaker : {State : Type 0} (step : State → List ℕ → State → List ℕ → Type 0) (more less : State → List ℕ → Type 0) → ((now : State) (end : List ℕ) → more now end → less now end) → (first : State) (left a b : Option (List ℕ)) → IfSome left (λ bytes. AppendsClosedFront step (MayClose more) first (first_lines most_lines bytes) a b) → IfSome left (λ bytes. AppendsClosedFront step (MayClose less) first (first_lines most_lines bytes) a b)
+front_weaker step more less w first None a b k = tt
+front_weaker step more less w first (Some bytes) a b k = (k.0, closed_weaker step (MayClose more) (MayClose less) (may_close_weaker more less w) first _ k.0 k.1, k.2)
+
+pub RunsOver-closes : {State V : Type 0} (step : State → List ℕ → State → List ℕ → Type 0) (more less : State → List ℕ → Type 0) (wants : Type 0) (first : State) (input rest : InputState) (output out : OutputState) (result : Result V RunFault) → ((now : State) (end : List ℕ) → more now end → less now end) → RunsOver step more wants first input rest output out result → RunsOver step less wants first input rest output out result
+RunsOver-closes step more less wants first input rest output out result w r = record {
+  text = text_weaker step more less w first result input.left output.written out.written r.text;
+  done = r.done;
+  input_failed = r.input_failed;
+  output_failed = r.output_failed;
+  so_far = r.so_far;
+  no_memory = r.no_memory;
+  front = front_weaker step more less w first input.left output.written out.written r.front;
+}
+
+-- ---- the same of another result
+
+pub RunsOver-ok : {State V W : Type 0} (step : State → List ℕ → State → List ℕ → Type 0) (closes : State → List ℕ → Type 0) (wants : Type 0) (first : State) (input rest : InputState) (output out : OutputState) (ran : Result V RunFault) (x : V) (y : W) → ran ≡ Ok x → RunsOver step closes wants first input rest output out ran → RunsOver {T = W} step closes wants first input rest output out (Ok y)
+RunsOver-ok step closes wants first input rest output out (Ok z) x y e r = record {
+  text = r.text;
+  done = r.done;
+  input_failed = tt;
+  output_failed = tt;
+  so_far = tt;
+  no_memory = tt;
+  front = r.front;
+}
+RunsOver-ok step closes wants first input rest output out (Err z) x y e r = absurd (cc)
+
+pub RunsOver-err : {State V W : Type 0} (step : State → List ℕ → State → List ℕ → Type 0) (closes : State → List ℕ → Type 0) (wants : Type 0) (first : State) (input rest : InputState) (output out : OutputState) (ran : Result V RunFault) (x : RunFault) → ran ≡ Err x → RunsOver step closes wants first input rest output out ran → RunsOver {T = W} step closes wants first input rest output out (Err x)
+RunsOver-err step closes wants first input rest output out (Ok z) x e r = absurd (cc)
+RunsOver-err {W = W} step closes wants first input rest output out (Err z) x e r =
+    let same : z ≡ x = cc in
+    let P : RunFault → Type 0 = λ f. RunsOver {T = W} step closes wants first input rest output out (Err f) in
+    subst P same (record {
+      text = tt;
+      done = tt;
+      input_failed = r.input_failed;
+      output_failed = r.output_failed;
+      so_far = r.so_far;
+      no_memory = r.no_memory;
+      front = r.front;
+    })

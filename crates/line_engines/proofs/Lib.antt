@@ -1,0 +1,6 @@
+pub mod Auditing
+pub mod Confirming
+pub mod Driving
+pub mod Recording
+pub mod Running
+pub mod Scheduling

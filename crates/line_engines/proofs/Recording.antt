@@ -1,0 +1,351 @@
+-- The records of a machine's calls.
+use Rattle.std.proofs.Common.{◌≡◌, ◌+◌, ◌≤◌, ◌<◌, ℕ, zero, suc, true, ◌⊎◌, inl, inr, ⊎_elim, List, [], ◌∷◌, ◌++◌, take, length, get_or, Option, None, Some, Result, Ok, Err, refl, sym, ap, ◌∙◌, subst, arith}
+use Rattle.std.specs.Prelude.{OnOk, IfSome, slice_get}
+use Rattle.std.specs.Io.KnownBytes.{Appends}
+use Rattle.std.specs.List.{AllByRecursion, flat_map}
+use Rattle.std.proofs.lemmas.Grind.{flat_map-append}
+use Rattle.std.proofs.lemmas.List.{append-nil, take_more}
+use Rattle.std.specs.Borrow.{Bor}
+use Rattle.entry_book.specs.declared.reply.Reply.{Reply}
+use Rattle.entry_book.specs.Book.{Book}
+use Rattle.entry_book.specs.Batches.{Batch}
+use Rattle.entry_book.specs.History.{books_after, first_books, is_committed, reply_to}
+use Rattle.entry_book.specs.Order.{Within}
+use Rattle.entry_book.proofs.Sets.{All-more, All-within}
+use Rattle.call_machine.specs.Calls.{Call, Stage, State, waiting, running, ready, answered, committed, conflict, call_at, first_state, told_of}
+use Rattle.call_machine.specs.Known.{Tells, TellsAnswer, TellsCall}
+use Rattle.call_machine.specs.Laws.{HoldReplies, IsOrder, IsStamped}
+use Rattle.call_events.specs.Events.{IsFor}
+use Rattle.call_machine.specs.Machine.{AreFor, Runs}
+use Rattle.call_machine.specs.Schedules.{Answer, At, Different, EndedBefore, GaveOut, HandedIn, Happened, Headline, IsListed, IsReplyOf, OneBatch, RunsFrom, StandsBefore, accepted}
+use Rattle.call_events.specs.declared.call.CallAnswer.{CallAnswer}
+use Rattle.call_events.specs.declared.call.CallAnswer.TheVariants as is
+use Rattle.call_events.specs.declared.call.KnownCall.{KnownCall}
+use Rattle.call_events.specs.declared.event.Done.TheVariants.{Answered}
+use Rattle.call_events.specs.declared.event.Event.{Event}
+use Rattle.call_events.specs.declared.event.Event.TheVariants.{Invoke}
+use Rattle.call_events.specs.declared.event.Event.TheVariants as on
+use Rattle.call_events.specs.declared.event.Told.{Told}
+use Rattle.call_events.specs.declared.event.Told.TheVariants.{Replied}
+use Rattle.call_machine.proofs.Events.{first_sound}
+use Rattle.call_machine.proofs.Line.{is_begun}
+use Rattle.call_machine.proofs.Rows.{call_within, same_call}
+use Rattle.call_machine.proofs.Ties.{first_tied}
+use Rattle.call_machine.proofs.Whole.{Stands, calls_are_stamped, runs_stand}
+use Rattle.reg_lines.specs.CallRecords.{record_of, record_with}
+use Rattle.reg_lines.specs.RecordLines.{record_json}
+use Rattle.reg_lines.specs.Runs.{IsRun}
+use Rattle.reg_lines.specs.Spelled.{IsWrittenBatch, IsWrittenCall}
+use Rattle.reg_lines.specs.Stream.{OutputState, Puts}
+use Rattle.reg_lines.specs.declared.printing.records.CallRecord.{CallRecord}
+use Rattle.line_engines.specs.Answers.{as_line}
+use Rattle.line_engines.specs.Driver.{AppendsClosed, Closes}
+use Rattle.line_engines.specs.Recorded.{AppendsRecords, AreLegal, AreRecords, ClosesWithRecords, HasStamps, IsEnded, IsEndedAt, IsNotPast, IsRecordOf, IsWritten, Recorded, StampsInOrder, TakesEvent, TellsRecords, record_line}
+use Rattle.line_engines.specs.Schedules.{Scheduled, start}
+use Rattle.line_engines.specs.declared.fault.RunFault.{RunFault}
+
+-- ---- one record after another
+
+pub record_at : (calls : List Call) (numbers : List ℕ) (records : List Recorded) (i d : ℕ) → AreRecords calls numbers records → i < length numbers → (r : Recorded) × IsRecordOf calls (get_or numbers i d) r × (r ≡ get_or records i r) × (i < length records)
+record_at calls [] [] i d h l = absurd (omega arith)
+record_at calls [] (r ∷ rs) i d h l = absurd h
+record_at calls (m ∷ ns) [] i d h l = absurd h
+record_at calls (m ∷ ns) (r ∷ rs) zero d h l = (r, h.0, refl, omega arith)
+record_at calls (m ∷ ns) (r ∷ rs) (suc i) d h l =
+    let t = record_at calls ns rs i d h.1 (omega arith) in
+    (t.0, t.1, t.2, omega (arith, t.3))
+
+pub records_next : (records : List Recorded) (i : ℕ) (r : Recorded) → r ≡ get_or records i r → i < length records → flat_map record_line (take i records) ++ record_line r ≡ flat_map record_line (take (i + 1) records)
+records_next records i r e l =
+    ap (λ x. flat_map record_line (take i records) ++ x) (sym (append-nil (record_line r)))
+    ∙ (sym (flat_map-append record_line (take i records) (r ∷ []))
+    ∙ (ap (λ x. flat_map record_line (take i records ++ x ∷ [])) e
+    ∙ ap (flat_map record_line) (sym (take_more records i r l))))
+
+pub same_length : (calls : List Call) (numbers : List ℕ) (records : List Recorded) → AreRecords calls numbers records → length numbers ≡ length records
+same_length calls [] [] h = refl
+same_length calls [] (r ∷ rs) h = absurd h
+same_length calls (n ∷ ns) [] h = absurd h
+same_length calls (n ∷ ns) (r ∷ rs) h = ap suc (same_length calls ns rs h.1)
+
+pub written_next : (records : List Recorded) (i : ℕ) (r : Recorded) → r ≡ get_or records i r → i < length records → AllByRecursion IsWritten (take i records) → IsWritten r → AllByRecursion IsWritten (take (i + 1) records)
+written_next records i r e l all w =
+    subst (AllByRecursion IsWritten) (sym (take_more records i r l)) (All-more IsWritten (take i records) (get_or records i r) all (subst IsWritten e w))
+
+-- ---- what the machine tells of a call
+
+abbrev made : Batch → ℕ → ℕ → Option ℕ → Reply → Recorded
+made batch call invoked replied reply = record { batch = batch; call = call; invoked = invoked; replied = replied; reply = reply }
+
+abbrev recorded_as : CallRecord → Recorded
+recorded_as x = made x.batch.now x.call x.invoked x.replied x.reply.now
+
+-- the answer that is told is the reply
+replied_answer : (stage : Stage) (answer : Option CallAnswer) (reply : Reply) → told_of stage ≡ Some (Replied reply) → TellsAnswer stage answer → (b : Bor Reply) × (answer ≡ Some (is.Replied b)) × (b.now ≡ reply)
+replied_answer waiting answer reply e t = absurd (cc)
+replied_answer (running base made) answer reply e t = absurd (cc)
+replied_answer (ready base) answer reply e t = absurd (cc)
+replied_answer (conflict n) answer reply e t = absurd (cc)
+replied_answer (answered r) None reply e t = absurd t
+replied_answer (answered r) (Some (is.Conflict place)) reply e t = absurd t
+replied_answer (answered r) (Some (is.Replied b)) reply e t = (b, refl, t ∙ (cc))
+replied_answer (committed r) None reply e t = absurd t
+replied_answer (committed r) (Some (is.Conflict place)) reply e t = absurd t
+replied_answer (committed r) (Some (is.Replied b)) reply e t = (b, refl, t ∙ (cc))
+
+same_record : (r : Recorded) (batch : Batch) (call invoked : ℕ) (replied : Option ℕ) (reply : Reply) → r.batch ≡ batch → r.call ≡ call → r.invoked ≡ invoked → r.replied ≡ replied → r.reply ≡ reply → r ≡ made batch call invoked replied reply
+same_record r batch call invoked replied reply a b c d e =
+    ap (λ x. made x r.call r.invoked r.replied r.reply) a
+    ∙ (ap (λ x. made batch x r.invoked r.replied r.reply) b
+    ∙ (ap (λ x. made batch call x r.replied r.reply) c
+    ∙ (ap (λ x. made batch call invoked x r.reply) d
+    ∙ ap (λ x. made batch call invoked replied x) e)))
+
+-- what is told of a call is its record
+record_told : (calls : List Call) (n : ℕ) (r : Recorded) (known : KnownCall) → IsRecordOf calls n r → Tells (call_at n calls) (Some known) → (x : CallRecord) × (record_of n known ≡ Some x) × (r ≡ recorded_as x)
+record_told calls n r known of t =
+    let told : TellsCall of.call known = subst (λ o. Tells o (Some known)) of.found t in
+    let answer = replied_answer of.call.stage known.answer r.reply of.holds told.answer in (
+      record { batch = known.batch; call = n; invoked = known.invoked; replied = known.replied; reply = answer.0 },
+      ap (λ a. record_with n known a) answer.1,
+      same_record r known.batch.now n known.invoked known.replied answer.0.now (of.batch_is ∙ sym told.batch) of.number_is (of.invoked_is ∙ sym told.invoked) (of.replied_is ∙ sym told.replied) (sym answer.2),
+    )
+
+some_same : (a b : CallRecord) → Some a ≡ Some b → a ≡ b
+some_same a b e = cc
+
+told_same_record : (calls : List Call) (n : ℕ) (r : Recorded) (known : KnownCall) (x : CallRecord) → IsRecordOf calls n r → Tells (call_at n calls) (Some known) → Some x ≡ record_of n known → recorded_as x ≡ r
+told_same_record calls n r known x of t e =
+    let told = record_told calls n r known of t in
+    sym (told.2 ∙ ap recorded_as (some_same told.0 x (sym told.1 ∙ sym e)))
+
+pub told_line : (calls : List Call) (n : ℕ) (r : Recorded) (known : KnownCall) (x : CallRecord) → IsRecordOf calls n r → Tells (call_at n calls) (Some known) → Some x ≡ record_of n known → as_line (record_json x.batch.now x.call x.invoked x.replied x.reply.now) ≡ record_line r
+told_line calls n r known x of t e = ap record_line (told_same_record calls n r known x of t e)
+
+pub told_written : (calls : List Call) (n : ℕ) (r : Recorded) (known : KnownCall) (x : CallRecord) → IsRecordOf calls n r → Tells (call_at n calls) (Some known) → Some x ≡ record_of n known → IsWrittenBatch x.batch.now → IsWrittenCall x.call x.invoked x.replied x.reply.now → IsWritten r
+told_written calls n r known x of t e batch call = subst IsWritten (told_same_record calls n r known x of t e) (batch, call)
+
+-- ---- the records of an order
+
+abbrev recorded : (call : Call) (number : ℕ) (books : List Book) → Recorded
+recorded call number books = record { batch = call.batch; call = number; invoked = call.invoked; replied = call.replied; reply = reply_to call.batch books }
+
+records_of : (calls : List Call) (books : List Book) (order : List ℕ) → HoldReplies calls books order → (records : List Recorded) × AreRecords calls order records × AreLegal books records
+records_of calls books [] h = ([], tt, tt)
+records_of calls books (n ∷ ns) h =
+    let t = records_of calls (books_after h.0.batch books) ns h.3 in (
+      recorded h.0 n books ∷ t.0,
+      (record { call = h.0; found = h.1; number_is = refl; batch_is = refl; invoked_is = refl; replied_is = refl; holds = h.2 }, t.1),
+      (refl, t.2),
+    )
+
+-- ---- their stamps
+
+told_same : (a b : Told) → Some a ≡ Some b → a ≡ b
+told_same a b e = cc
+
+has_stamps : (log : List Happened) (calls : List Call) (n : ℕ) (r : Recorded) (of : IsRecordOf calls n r) → IsStamped log of.call → HasStamps log r
+has_stamps log calls n r of s =
+    let same : of.call.number ≡ r.call = (call_within n calls of.call of.found).1 ∙ sym of.number_is in
+    record {
+      invoked = (
+        s.invoked.0,
+        subst (λ b. At log r.invoked (Invoke r.call b) s.invoked.0) (sym of.batch_is)
+            (subst (λ k. At log r.invoked (Invoke k of.call.batch) s.invoked.0) same
+            (subst (λ i. At log i (Invoke of.call.number of.call.batch) s.invoked.0) (sym of.invoked_is) s.invoked.1)),
+      );
+      replied = λ i e.
+          let t = s.replied i (sym of.replied_is ∙ e) in
+          let is : t.0 ≡ Replied r.reply = told_same _ _ (sym t.1 ∙ of.holds) in
+          subst (λ k. At log i (on.Reply k) (Answered k (Replied r.reply))) same
+          (subst (λ (x : Told). At log i (on.Reply of.call.number) (Answered of.call.number x)) is t.2);
+    }
+
+have_stamps : (log : List Happened) (calls : List Call) → ((n : ℕ) (call : Call) → call_at n calls ≡ Some call → IsStamped log call) → (order : List ℕ) (records : List Recorded) → AreRecords calls order records → AllByRecursion (HasStamps log) records
+have_stamps log calls s [] [] h = tt
+have_stamps log calls s [] (r ∷ rs) h = absurd h
+have_stamps log calls s (n ∷ ns) [] h = absurd h
+have_stamps log calls s (n ∷ ns) (r ∷ rs) h = (has_stamps log calls n r h.0 (s n h.0.call h.0.found), have_stamps log calls s ns rs h.1)
+
+-- ---- strict by their stamps
+
+at_most : (i k : ℕ) → (k < i → ⊥) → i ≤ k
+at_most zero k f = omega arith
+at_most (suc i) zero f = absurd (f (omega arith))
+at_most (suc i) (suc k) f = let h = at_most i k (λ l. f (omega arith)) in omega arith
+
+stands_within : (order : List ℕ) (a b : ℕ) → StandsBefore order a b → Within order b
+stands_within [] a b s = absurd s
+stands_within (c ∷ cs) a b s = ⊎_elim (λ p. inr p.1) (λ t. inr (stands_within cs a b t)) s
+
+-- by the stamps of the records, the call of the second ended before that of the first
+ended_before : (log : List Happened) (first second : Recorded) (k : ℕ) → HasStamps log first → HasStamps log second → second.replied ≡ Some k → k < first.invoked → EndedBefore log second.call first.call
+ended_before log first second k f s e l = record {
+  reply_number = k;
+  invoke_number = first.invoked;
+  told = Answered second.call (Replied second.reply);
+  batch = first.batch;
+  done = f.invoked.0;
+  reply = s.replied k e;
+  invoke = f.invoked.1;
+  earlier = l;
+}
+
+none_past : (log : List Happened) (calls : List Call) (r : Recorded) → HasStamps log r → (order : List ℕ) (records : List Recorded) → AreRecords calls order records → AllByRecursion (HasStamps log) records → ((d : ℕ) → Within order d → EndedBefore log d r.call → ⊥) → AllByRecursion (IsNotPast r) records
+none_past log calls r h [] [] a s f = tt
+none_past log calls r h [] (x ∷ xs) a s f = absurd a
+none_past log calls r h (n ∷ ns) [] a s f = absurd a
+none_past log calls r h (n ∷ ns) (x ∷ xs) a s f = (
+  (λ k e. at_most r.invoked k (λ l. f x.call (inl (sym a.0.number_is)) (ended_before log r x k h s.0 e l))),
+  none_past log calls r h ns xs a.1 s.1 (λ d w. f d (inr w)),
+)
+
+in_order : (log : List Happened) (calls : List Call) (order : List ℕ) (records : List Recorded) → AreRecords calls order records → AllByRecursion (HasStamps log) records → Different order → ((a b : ℕ) → Within order a → Within order b → EndedBefore log a b → StandsBefore order a b) → StampsInOrder records
+in_order log calls [] [] a s d strict = tt
+in_order log calls [] (r ∷ rs) a s d strict = absurd a
+in_order log calls (n ∷ ns) [] a s d strict = absurd a
+in_order log calls (n ∷ ns) (r ∷ rs) a s d strict =
+    let apart : (c : ℕ) → Within ns c → n ≡ c → ⊥ = λ c w. All-within (λ x. n ≡ x → ⊥) ns c d.0 w in (
+      none_past log calls r s.0 ns rs a.1 s.1 (λ c w e.
+          let here : EndedBefore log c n = subst (λ k. EndedBefore log c k) a.0.number_is e in
+          ⊎_elim (λ p. apart c w p.0) (λ t. apart n (stands_within ns c n t) refl) (strict c n (inr w) (inl refl) here)),
+      in_order log calls ns rs a.1 s.1 d.1 (λ b c v w e. ⊎_elim (λ p. absurd (apart b v p.0)) (λ t. t) (strict b c (inr v) (inr w) e)),
+    )
+
+-- ---- their ends
+
+-- with the plain book's reply it has begun
+begun_told : (stage : Stage) (reply : Reply) → told_of stage ≡ Some (Replied reply) → is_begun stage ≡ true
+begun_told waiting reply e = absurd (cc)
+begun_told (running base made) reply e = absurd (cc)
+begun_told (ready base) reply e = absurd (cc)
+begun_told (conflict n) reply e = absurd (cc)
+begun_told (answered r) reply e = refl
+begun_told (committed r) reply e = refl
+
+-- a call that gave out a reply has replied
+gave_out : (log : List Happened) (s : State) → Stands log s → (n : ℕ) (call : Call) → call_at n s.calls ≡ Some call → (reply : Reply) → GaveOut log n reply → (k : ℕ) × (call.replied ≡ Some k)
+gave_out log s h n call found reply out =
+    let kept = h.tied.kept out.1.0 _ out.1.2 in
+    let within = call_within n s.calls call found in
+    let same : kept.0 ≡ call = same_call s.calls kept.0 call h.sound.numbers kept.1 within.0 (kept.2 ∙ sym within.1) in
+    (out.1.0 + 1, ap (λ (c : Call). c.replied) (sym same) ∙ kept.3)
+
+none_some : (k : ℕ) → None ≡ Some k → ⊥
+none_some k e = cc
+
+ended_by : (replied : Option ℕ) (invoked : ℕ) (reply : Reply) → (replied ≡ None → is_committed reply.outcome ≡ true) → ((k : ℕ) → replied ≡ Some k → invoked < k) → IsEndedAt replied invoked reply
+ended_by None invoked reply f g = f refl
+ended_by (Some k) invoked reply f g = g k refl
+
+-- the second list of books is the first one: both come from the batches of the calls
+have_ended : (log : List Happened) (s : State) → Stands log s → OneBatch log → ((n : ℕ) (call : Call) → call_at n s.calls ≡ Some call → IsStamped log call) → (books : List Book) (order : List ℕ) (records : List Recorded) → ((n : ℕ) → Within order n → IsListed log n) → AreRecords s.calls order records → AreLegal books records → RunsFrom log books order → AllByRecursion IsEnded records
+have_ended log s h one stamps books [] [] listed are legal runs = tt
+have_ended log s h one stamps books [] (r ∷ rs) listed are legal runs = absurd are
+have_ended log s h one stamps books (n ∷ ns) [] listed are legal runs = absurd are
+have_ended log s h one stamps books (n ∷ ns) (r ∷ rs) listed are legal runs =
+    let of = are.0 in
+    let call = of.call in
+    let within = call_within n s.calls call of.found in
+    let stamp = h.sound.stamped call within.0 in
+    let invoked = (stamps n call of.found).invoked in
+    let begun = begun_told call.stage r.reply of.holds in
+    let handed : HandedIn log n call.batch = subst (λ m. HandedIn log m call.batch) within.1 (call.invoked, invoked.0, invoked.1) in
+    let batch : runs.0 ≡ r.batch = one n runs.0 call.batch runs.1 handed ∙ sym of.batch_is in
+    let reply : reply_to runs.0 books ≡ r.reply = ap (λ b. reply_to b books) batch ∙ sym legal.0 in
+    let is_reply : IsReplyOf log n r.reply = subst (IsReplyOf log n) reply runs.2 in
+    let rest : RunsFrom log (books_after r.batch books) ns = subst (λ b. RunsFrom log (books_after b books) ns) batch runs.3 in (
+      ended_by r.replied r.invoked r.reply
+          (λ none. ⊎_elim
+          (λ c. (is_reply.committed c.0 c.1).1)
+          (λ g. let k = gave_out log s h n call of.found g.0 g.1 in absurd (none_some k.0 (sym none ∙ (of.replied_is ∙ k.1))))
+          (listed n (inl refl)))
+          (λ k e.
+          let late = (stamp.over k (sym of.replied_is ∙ e)).2 begun in
+          let early = (stamp.begun begun).0 in
+          let same = of.invoked_is in
+          omega arith),
+      have_ended log s h one stamps (books_after r.batch books) ns rs (λ m w. listed m (inr w)) are.1 legal.1 rest,
+    )
+
+-- ---- the trust domain of their batches
+
+all_accepted : (own : List ℕ) (events : List Event) (answers : List Answer) → AreFor own events → AllByRecursion (λ h. IsFor own h.event) (accepted events answers)
+all_accepted own [] answers m = tt
+all_accepted own (e ∷ es) [] m = tt
+all_accepted own (e ∷ es) (Ok d ∷ answers) m = (m.0, all_accepted own es answers m.1)
+all_accepted own (e ∷ es) (Err r ∷ answers) m = all_accepted own es answers m.1
+
+same_event : (g h : Happened) → Some g ≡ Some h → g ≡ h
+same_event g h e = cc
+
+at_event : (P : Happened → Type 0) (log : List Happened) (i : ℕ) (h : Happened) → AllByRecursion P log → slice_get log i ≡ Some h → P h
+at_event P [] i h all e = absurd (cc)
+at_event P (g ∷ log) zero h all e = subst P (same_event g h e) all.0
+at_event P (g ∷ log) (suc i) h all e = at_event P log i h all.1 e
+
+made_for : (own : List ℕ) (log : List Happened) → AllByRecursion (λ h. IsFor own h.event) log → (records : List Recorded) → AllByRecursion (HasStamps log) records → AllByRecursion (λ r. r.batch.domain ≡ own) records
+made_for own log all [] s = tt
+made_for own log all (r ∷ rs) s =
+    let invoked = s.0.invoked.1 in
+    (at_event (λ h. IsFor own h.event) log invoked.0 _ all invoked.2, made_for own log all rs s.1)
+
+-- ---- what the end of a run tells
+
+pub tells_records : (own : List ℕ) (last : Scheduled) (order : List ℕ) → Runs (first_state own) last.events last.answers last.machine → AreFor own last.events → IsOrder last.machine order → Headline (accepted last.events last.answers) order → HoldReplies last.machine.calls first_books order → ((records : List Recorded) → AreRecords last.machine.calls order records → AllByRecursion IsWritten records) → (records : List Recorded) × TellsRecords own last order records (flat_map record_line records)
+tells_records own last order runs made is headline held written =
+    let log = accepted last.events last.answers in
+    let calls = last.machine.calls in
+    let found = records_of calls first_books order held in
+    let stamps : (n : ℕ) (call : Call) → call_at n calls ≡ Some call → IsStamped log call = λ n call at. calls_are_stamped own last.events last.answers last.machine n call runs at in
+    let stands : Stands log last.machine = runs_stand last.events last.answers [] (first_state own) last.machine (record { sound = first_sound own; tied = first_tied own }) runs in
+    let stamped = have_stamps log calls (λ n call at. calls_are_stamped own last.events last.answers last.machine n call runs at) order found.0 found.1 in (
+      found.0,
+      record {
+        is_order = is;
+        headline = headline;
+        records = found.1;
+        stamped = stamped;
+        ended = have_ended log last.machine stands headline.one_batch stamps first_books order found.0 (λ n w. (headline.serial.listed n).0 w) found.1 found.2 headline.legal;
+        legal = found.2;
+        in_order = in_order log calls order found.0 found.1 stamped headline.serial.once (λ a b v w e. headline.strict a b ((headline.serial.listed a).0 v) ((headline.serial.listed b).0 w) e);
+        made_for = made_for own log (all_accepted own last.events last.answers made) found.0 stamped;
+        written = written found.0 found.1;
+        end_is = refl;
+      },
+    )
+
+-- ---- nothing else is written
+
+nothing_told : (domain : List ℕ) (first last : Scheduled) (lines : List (List ℕ)) (text : List ℕ) → IsRun (TakesEvent domain) first lines last text → text ≡ []
+nothing_told domain first last [] text r = r.1
+nothing_told domain first last (l ∷ lines) text r =
+    r.4 ∙ (ap (λ x. x ++ r.2) r.3.0 ∙ nothing_told domain r.0 last lines r.2 r.5)
+
+records_alone : (domain seed : List ℕ) (lines : List (List ℕ)) (old new : Option (List ℕ)) → AppendsClosed (TakesEvent domain) (ClosesWithRecords domain) (start domain seed) lines old new → AppendsRecords domain seed lines old new
+records_alone domain seed lines old new a =
+    let run = a.1 in
+    let none = nothing_told domain (start domain seed) run.0 lines run.1 run.3 in
+    let text : a.0 ≡ run.2 = run.5 ∙ ap (λ x. x ++ run.2) none in (
+      run.0,
+      run.2,
+      subst (λ (x : List ℕ). IsRun (TakesEvent domain) (start domain seed) lines run.0 x) none run.3,
+      run.4,
+      subst (λ (x : List ℕ). Appends old new x) text a.2,
+    )
+
+pub alone : {V : Type 0} (domain seed : List ℕ) (result : Result V RunFault) (all : Option (List ℕ)) (lines : List ℕ → List (List ℕ)) (old new : Option (List ℕ)) → OnOk result (IfSome all (λ bytes. AppendsClosed (TakesEvent domain) (ClosesWithRecords domain) (start domain seed) (lines bytes) old new)) → OnOk result (IfSome all (λ bytes. AppendsRecords domain seed (lines bytes) old new))
+alone domain seed (Err e) all lines old new h = tt
+alone domain seed (Ok x) None lines old new h = tt
+alone domain seed (Ok x) (Some bytes) lines old new h = records_alone domain seed (lines bytes) old new h
+
+-- the records were put behind what was put before
+pub closed_with_records : (own : List ℕ) (now : Scheduled) (m : State) (order : List ℕ) → now.machine ≡ m → Runs (first_state own) now.events now.answers now.machine → AreFor own now.events → IsOrder m order → ((own : List ℕ) (events : List Event) (answers : List Answer) → Runs (first_state own) events answers m → Headline (accepted events answers) order) → ((own : List ℕ) (events : List Event) (answers : List Answer) → Runs (first_state own) events answers m → HoldReplies m.calls first_books order) → (a b : OutputState) → ((records : List Recorded) → AreRecords m.calls order records → Puts a b (flat_map record_line records)) → ((records : List Recorded) → AreRecords m.calls order records → AllByRecursion IsWritten records) → Closes (ClosesWithRecords own) now a b
+closed_with_records own now m order e runs made is headline held a b put written =
+    let ran = subst (λ s. Runs (first_state own) now.events now.answers s) e runs in
+    let told = tells_records own now order runs made
+    (subst (λ s. IsOrder s order) (sym e) is)
+    (headline own now.events now.answers ran)
+    (subst (λ (s : State). HoldReplies s.calls first_books order) (sym e) (held own now.events now.answers ran))
+    (λ records are. written records (subst (λ (s : State). AreRecords s.calls order records) e are)) in
+    (flat_map record_line told.0, (order, told.0, told.1), put told.0 (subst (λ (s : State). AreRecords s.calls order told.0) e told.1.records))

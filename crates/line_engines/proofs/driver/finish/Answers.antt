@@ -1,0 +1,34 @@
+use Rattle.std.proofs.Common.{◌≡◌, [], arith, inr, refl, subst}
+use Rattle.std.proofs.lemmas.Grind.{common_steps}
+use Rattle.reg_lines.specs.Stream.{Puts}
+use Rattle.line_engines.proofs.Driving.{Closes-flushed, closed_or_none}
+use Rattle.line_engines.proofs.driver.finish.Goals as goal
+
+pub returns-then-has_failed-clause-closed : goal.returns-then-has_failed-clause-closed
+returns-then-has_failed-clause-closed g c = λ now stands.
+    closed_or_none (g.A.Answerer.closes (g.A.Answerer.setting c.args.answerer.now)) now c.close-closed.result _ _ _ (c.close-closed.ensures.closed now stands) c.close-closed.ensures.stays c.flush.ensures.put
+
+pub returns-in-Ok-clause-closed : goal.returns-in-Ok-clause-closed
+returns-in-Ok-clause-closed g c = λ now stands.
+    closed_or_none (g.A.Answerer.closes (g.A.Answerer.setting c.args.answerer.now)) now c.close-closed.result _ _ _ (c.close-closed.ensures.closed now stands) c.close-closed.ensures.stays c.flush.ensures.put
+
+pub returns-in-Ok-clause-ok_closed : goal.returns-in-Ok-clause-ok_closed
+returns-in-Ok-clause-ok_closed g c = λ now stands.
+    Closes-flushed (g.A.Answerer.closes (g.A.Answerer.setting c.args.answerer.now)) now _ _ _ (c.in-Ok.ensures.closed now stands) c.flush.ensures.put
+
+pub returns-in-Err-clause-closed : goal.returns-in-Err-clause-closed
+returns-in-Err-clause-closed g c = λ now stands.
+    closed_or_none (g.A.Answerer.closes (g.A.Answerer.setting c.args.answerer.now)) now c.close-closed.result _ _ _ (c.close-closed.ensures.closed now stands) c.close-closed.ensures.stays c.flush.ensures.put
+
+pub returns-in-Err-clause-err : goal.returns-in-Err-clause-err
+returns-in-Err-clause-err g c =
+    let none : c.flush.new.self.failures ≡ 0 = grind (arith, common_steps) in
+    inr (
+      refl,
+      record {
+        may = c.in-Err.ensures.wanting;
+        none_put = subst (λ o. Puts o c.flush.new.self []) c.in-Err.ensures.stays c.flush.ensures.put;
+        not_failed = none;
+        out = c.flush.ensures.out none;
+      },
+    )

@@ -1,0 +1,134 @@
+use Rattle.std.proofs.Common.{◌≡◌, ◌+◌, ◌≤◌, ◌<◌, true, false, Err, arith, inl, inr, refl, ap, ◌∙◌}
+use Rattle.std.proofs.lemmas.Bool.{false≢true}
+use Rattle.std.proofs.lemmas.Grind.{common_steps}
+use Rattle.std.proofs.lemmas.Result.{err_from_is_err_and}
+use Rattle.reg_lines.specs.Lines.{most_lines}
+use Rattle.reg_lines.specs.Stream.{IsOut}
+use Rattle.line_engines.specs.Driver.{ClosesAs, Steps}
+use Rattle.line_engines.specs.declared.fault.RunFault.TheVariants.{NoMemory}
+use Rattle.line_engines.proofs.Driving.{IsDriven-start, IsDriven-flush, IsDriven-more, IsThrough-ended, IsThrough-end, IsThrough-most, RunsOver-no_memory, RunsOver-output, RunsOver-input, RunsOver-finished, some_step, of_setting, of_bytes, of_verdict, closes_of, closed_of, closes_as, closed_as}
+use Rattle.line_engines.proofs.driver.run_lines.Goals as goal
+
+pub returns-in_err-line : goal.returns-in_err-line
+returns-in_err-line g c =
+    let setting = g.A.Answerer.setting c.args.answerer.now in
+    let ends = g.A.Answerer.ends in
+    let answers = g.A.Answerer.answers setting in
+    let wants = g.A.Answerer.wants in
+    let step = Steps ends answers in
+    let some = some_step ends answers (g.met.A.Answerer.some_answer setting) in
+    λ first stands begun.
+    let p = err_from_is_err_and c.from_residual.result c.from_residual.ensures.1 in
+    let is : c.from_residual.result ≡ Err NoMemory = grind (arith, common_steps) in
+    RunsOver-no_memory step _ wants c.from_residual.result some first c.args.input.now c.args.output.now c.requires.output c.requires.none_held is
+
+pub loop-count-init : goal.loop-count-init
+loop-count-init g c =
+    record {
+      way = λ first stands begun. IsDriven-start g.A.Answerer.ends (g.A.Answerer.answers (g.A.Answerer.setting c.args.answerer.now)) (g.A.Answerer.stands c.args.answerer.now) first c.args.input.now.left c.args.output.now stands begun;
+      setting = refl;
+      lines = c.requires.fresh;
+      input = c.requires.input;
+      count = omega arith;
+    }
+
+pub returns-then-has_failed : goal.returns-then-has_failed
+returns-then-has_failed g c =
+    let setting = g.A.Answerer.setting c.args.answerer.now in
+    let ends = g.A.Answerer.ends in
+    let answers = g.A.Answerer.answers setting in
+    let wants = g.A.Answerer.wants in
+    let step = Steps ends answers in
+    let some = some_step ends answers (g.met.A.Answerer.some_answer setting) in
+    λ first stands begun.
+    let way = IsDriven-flush ends answers (g.A.Answerer.stands c.loop-count.answerer) first c.args.input.now.left c.loop-count.input.left c.args.output.now c.loop-count.output c.flush_before_waiting.new.output c.loop-count.count (c.loop-count.invariant.way first stands begun) c.flush_before_waiting.ensures.put in
+    let failed : 0 < c.flush_before_waiting.new.output.failures = grind (arith, common_steps) in
+    RunsOver-output step _ wants some first c.args.input.now c.loop-count.input c.args.output.now c.flush_before_waiting.new.output c.loop-count.count way.state c.requires.output c.requires.none_held failed c.loop-count.invariant.count way.way
+
+pub returns-in-Err : goal.returns-in-Err
+returns-in-Err g c =
+    let setting = g.A.Answerer.setting c.args.answerer.now in
+    let ends = g.A.Answerer.ends in
+    let answers = g.A.Answerer.answers setting in
+    let wants = g.A.Answerer.wants in
+    let step = Steps ends answers in
+    let some = some_step ends answers (g.met.A.Answerer.some_answer setting) in
+    λ first stands begun.
+    let way = IsDriven-flush ends answers (g.A.Answerer.stands c.loop-count.answerer) first c.args.input.now.left c.loop-count.input.left c.args.output.now c.loop-count.output c.flush_before_waiting.new.output c.loop-count.count (c.loop-count.invariant.way first stands begun) c.flush_before_waiting.ensures.put in
+    let failed : 0 < c.read_line.new.self.failures = grind (arith, common_steps) in
+    let none : c.flush_before_waiting.new.output.failures ≡ 0 = grind (arith, common_steps) in
+    let out : IsOut c.flush_before_waiting.new.output = elim (c.flush_before_waiting.ensures.ready none) [ inl h ↦ absurd (false≢true (c.in-Err.ensures.held h).0) | inr e ↦ e ] in
+    RunsOver-input step _ wants some first c.args.input.now c.read_line.new.self c.loop-count.input.left c.args.output.now c.flush_before_waiting.new.output c.loop-count.count way.state c.requires.output c.requires.none_held failed none out c.in-Err.ensures.line c.loop-count.invariant.count way.way
+
+pub returns-then-not-answer : goal.returns-then-not-answer
+returns-then-not-answer g c =
+    let setting = g.A.Answerer.setting c.args.answerer.now in
+    let ends = g.A.Answerer.ends in
+    let answers = g.A.Answerer.answers setting in
+    let wants = g.A.Answerer.wants in
+    let step = Steps ends answers in
+    let some = some_step ends answers (g.met.A.Answerer.some_answer setting) in
+    λ first stands begun.
+    let way = IsDriven-flush ends answers (g.A.Answerer.stands c.loop-count.answerer) first c.args.input.now.left c.loop-count.input.left c.args.output.now c.loop-count.output c.flush_before_waiting.new.output c.loop-count.count (c.loop-count.invariant.way first stands begun) c.flush_before_waiting.ensures.put in
+    let line = rw c.in-Ok-true.field-0-test at c.in-Ok-true.ensures.line in
+    let told = of_setting ends g.A.Answerer.answers (g.A.Answerer.stands c.answer.new.self) _ _ c.loop-count.invariant.setting way.state _ _ _ _ (c.answer.ensures.answered way.state way.stood) in
+    let read = of_bytes ends answers (g.A.Answerer.stands c.answer.new.self) way.state _ _ _ _ _ c.as_bytes.ensures told in
+    let verdict : c.answer.result ≡ false = grind (arith, common_steps) in
+    let over = of_verdict ends answers (g.A.Answerer.stands c.answer.new.self) way.state _ _ _ _ _ verdict read in
+    let more : c.loop-count.count + 1 ≤ most_lines = omega arith in
+    let through = IsThrough-ended ends answers (g.A.Answerer.stands c.loop-count.answerer) (g.A.Answerer.stands c.answer.new.self) first c.args.input.now.left c.loop-count.input.left c.read_line.new.self.left c.args.output.now c.flush_before_waiting.new.output c.answer.new.output c.loop-count.count _ way line more over in
+    let none : c.read_line.new.self.failures ≡ 0 = grind (arith, common_steps) in
+    let same = c.answer.ensures.setting ∙ c.loop-count.invariant.setting in
+    RunsOver-finished step (ClosesAs (g.A.Answerer.closes setting) (g.A.Answerer.stands c.finish.new.answerer)) wants (g.A.Answerer.stands c.answer.new.self) c.finish.result first c.args.input.now c.read_line.new.self c.args.output.now c.answer.new.output c.finish.new.output c.requires.output c.requires.none_held none through (closes_as (g.A.Answerer.closes setting) (g.A.Answerer.stands c.answer.new.self) (g.A.Answerer.stands c.finish.new.answerer) _ _ c.finish.ensures.stood (closes_of g.A.Answerer.closes (g.A.Answerer.stands c.answer.new.self) _ _ same c.answer.new.output c.finish.new.output c.finish.ensures.closed)) (closed_as (g.A.Answerer.closes setting) (g.A.Answerer.stands c.answer.new.self) (g.A.Answerer.stands c.finish.new.answerer) _ _ c.finish.result c.finish.ensures.stood (closed_of g.A.Answerer.closes (g.A.Answerer.stands c.answer.new.self) _ _ c.finish.result same c.answer.new.output c.finish.new.output c.finish.ensures.ok_closed)) c.finish.ensures.ok c.finish.ensures.err
+
+pub returns-in-Ok-false : goal.returns-in-Ok-false
+returns-in-Ok-false g c =
+    let setting = g.A.Answerer.setting c.args.answerer.now in
+    let ends = g.A.Answerer.ends in
+    let answers = g.A.Answerer.answers setting in
+    let wants = g.A.Answerer.wants in
+    let step = Steps ends answers in
+    let some = some_step ends answers (g.met.A.Answerer.some_answer setting) in
+    λ first stands begun.
+    let way = IsDriven-flush ends answers (g.A.Answerer.stands c.loop-count.answerer) first c.args.input.now.left c.loop-count.input.left c.args.output.now c.loop-count.output c.flush_before_waiting.new.output c.loop-count.count (c.loop-count.invariant.way first stands begun) c.flush_before_waiting.ensures.put in
+    let end = rw c.in-Ok-false.field-0-test at c.in-Ok-false.ensures.line in
+    let through = IsThrough-end ends answers (g.A.Answerer.stands c.loop-count.answerer) first c.args.input.now.left c.loop-count.input.left c.args.output.now c.flush_before_waiting.new.output c.loop-count.count way end.0 c.loop-count.invariant.count in
+    let none : c.read_line.new.self.failures ≡ 0 = grind (arith, common_steps) in
+    RunsOver-finished step (ClosesAs (g.A.Answerer.closes setting) (g.A.Answerer.stands c.finish-in-Ok-false.new.answerer)) wants (g.A.Answerer.stands c.loop-count.answerer) c.finish-in-Ok-false.result first c.args.input.now c.read_line.new.self c.args.output.now c.flush_before_waiting.new.output c.finish-in-Ok-false.new.output c.requires.output c.requires.none_held none through (closes_as (g.A.Answerer.closes setting) (g.A.Answerer.stands c.loop-count.answerer) (g.A.Answerer.stands c.finish-in-Ok-false.new.answerer) _ _ c.finish-in-Ok-false.ensures.stood (closes_of g.A.Answerer.closes (g.A.Answerer.stands c.loop-count.answerer) _ _ c.loop-count.invariant.setting c.flush_before_waiting.new.output c.finish-in-Ok-false.new.output c.finish-in-Ok-false.ensures.closed)) (closed_as (g.A.Answerer.closes setting) (g.A.Answerer.stands c.loop-count.answerer) (g.A.Answerer.stands c.finish-in-Ok-false.new.answerer) _ _ c.finish-in-Ok-false.result c.finish-in-Ok-false.ensures.stood (closed_of g.A.Answerer.closes (g.A.Answerer.stands c.loop-count.answerer) _ _ c.finish-in-Ok-false.result c.loop-count.invariant.setting c.flush_before_waiting.new.output c.finish-in-Ok-false.new.output c.finish-in-Ok-false.ensures.ok_closed)) c.finish-in-Ok-false.ensures.ok c.finish-in-Ok-false.ensures.err
+
+pub returns : goal.returns
+returns g c =
+    let setting = g.A.Answerer.setting c.args.answerer.now in
+    let ends = g.A.Answerer.ends in
+    let answers = g.A.Answerer.answers setting in
+    let wants = g.A.Answerer.wants in
+    let step = Steps ends answers in
+    let some = some_step ends answers (g.met.A.Answerer.some_answer setting) in
+    λ first stands begun.
+    let all : c.loop-count.count ≡ most_lines = omega arith in
+    let through = IsThrough-most ends answers (g.A.Answerer.stands c.loop-count.answerer) first c.args.input.now.left c.loop-count.input.left c.args.output.now c.loop-count.output c.loop-count.count (c.loop-count.invariant.way first stands begun) all in
+    RunsOver-finished step (ClosesAs (g.A.Answerer.closes setting) (g.A.Answerer.stands c.finish-2.new.answerer)) wants (g.A.Answerer.stands c.loop-count.answerer) c.finish-2.result first c.args.input.now c.loop-count.input c.args.output.now c.loop-count.output c.finish-2.new.output c.requires.output c.requires.none_held c.loop-count.invariant.input through (closes_as (g.A.Answerer.closes setting) (g.A.Answerer.stands c.loop-count.answerer) (g.A.Answerer.stands c.finish-2.new.answerer) _ _ c.finish-2.ensures.stood (closes_of g.A.Answerer.closes (g.A.Answerer.stands c.loop-count.answerer) _ _ c.loop-count.invariant.setting c.loop-count.output c.finish-2.new.output c.finish-2.ensures.closed)) (closed_as (g.A.Answerer.closes setting) (g.A.Answerer.stands c.loop-count.answerer) (g.A.Answerer.stands c.finish-2.new.answerer) _ _ c.finish-2.result c.finish-2.ensures.stood (closed_of g.A.Answerer.closes (g.A.Answerer.stands c.loop-count.answerer) _ _ c.finish-2.result c.loop-count.invariant.setting c.loop-count.output c.finish-2.new.output c.finish-2.ensures.ok_closed)) c.finish-2.ensures.ok c.finish-2.ensures.err
+
+pub loop-count-preserved : goal.loop-count-preserved
+loop-count-preserved g c =
+    record {
+      way = (
+          let setting = g.A.Answerer.setting c.args.answerer.now in
+          let ends = g.A.Answerer.ends in
+          let answers = g.A.Answerer.answers setting in
+          let wants = g.A.Answerer.wants in
+          let step = Steps ends answers in
+          let some = some_step ends answers (g.met.A.Answerer.some_answer setting) in
+          λ first stands begun.
+          let way = IsDriven-flush ends answers (g.A.Answerer.stands c.loop-count.answerer) first c.args.input.now.left c.loop-count.input.left c.args.output.now c.loop-count.output c.flush_before_waiting.new.output c.loop-count.count (c.loop-count.invariant.way first stands begun) c.flush_before_waiting.ensures.put in
+          let line = rw c.in-Ok-true.field-0-test at c.in-Ok-true.ensures.line in
+          let told = of_setting ends g.A.Answerer.answers (g.A.Answerer.stands c.answer.new.self) _ _ c.loop-count.invariant.setting way.state _ _ _ _ (c.answer.ensures.answered way.state way.stood) in
+          let read = of_bytes ends answers (g.A.Answerer.stands c.answer.new.self) way.state _ _ _ _ _ c.as_bytes.ensures told in
+          let verdict : c.answer.result ≡ true = grind (arith, common_steps) in
+          let goes_on = of_verdict ends answers (g.A.Answerer.stands c.answer.new.self) way.state _ _ _ _ _ verdict read in
+          IsDriven-more ends answers (g.A.Answerer.stands c.loop-count.answerer) (g.A.Answerer.stands c.answer.new.self) first c.args.input.now.left c.loop-count.input.left c.read_line.new.self.left c.args.output.now c.flush_before_waiting.new.output c.answer.new.output c.loop-count.count _ way line goes_on);
+      setting = c.answer.ensures.setting ∙ c.loop-count.invariant.setting;
+      lines = c.answer.ensures.lines ∙ ap (λ n. n + 1) c.loop-count.invariant.lines;
+      input = grind (arith, common_steps);
+      count = omega arith;
+    }

@@ -1,0 +1,97 @@
+-- What the engine `audit` keeps from line to line, and what it tells in the end.
+use Rattle.std.specs.Prelude.{◌≡◌, ℕ, ◌+◌, Bool, ⊤, List, [], ◌∷◌, ◌++◌, length, Option, None, Some, is_some, Result, Ok, Err, IfOk, IfSome, refl}
+use Rattle.std.specs.Io.KnownBytes.{Appends}
+use Rattle.reg_lines.specs.Lines.{most_lines}
+use Rattle.reg_lines.specs.Records.{AuditRecord}
+use Rattle.reg_lines.specs.Runs.{first_lines}
+use Rattle.reg_lines.specs.Stream.{InputState, OutputState}
+use Rattle.call_audit.specs.declared.cause.Cause.{Cause}
+use Rattle.call_audit.specs.declared.verdict.Verdict.{Verdict}
+use Rattle.call_audit.specs.declared.verdict.Verdict.TheVariants.{Yes, No}
+use Rattle.call_audit.specs.Audits.{judged}
+use Rattle.call_audit.specs.Keeps.{AuditState, Keeps}
+use Rattle.call_audit.specs.Texts.{verdict_json}
+use Rattle.call_audit.specs.Verdicts.{verdict_of}
+use Rattle.line_engines.specs.Answers.{as_line}
+use Rattle.line_engines.specs.Driver.{RunsOver, Steps}
+use Rattle.line_engines.specs.declared.audit_engine.Over.{Over}
+use Rattle.line_engines.specs.declared.audit_engine.Over.TheVariants.{Denied, NoMemory}
+use Rattle.line_engines.specs.declared.fault.RunFault.{RunFault}
+use Rattle.line_engines.specs.declared.outcome.Outcome.{Outcome}
+use Rattle.line_engines.specs.declared.outcome.Outcome.TheVariants as outcome
+
+-- What a run has come to: the records that were taken, and why it takes no more, where it doesn't.
+pub record Audited : Type 0 where
+  pub records : List AuditRecord
+  pub over : Option Over
+
+abbrev pub start : Audited
+start = record { records = []; over = None }
+
+abbrev pub is_over : Audited → Bool
+is_over now = is_some now.over
+
+-- A line is taken, or it has a fault, or memory is wanting for it; none gets a reply of its own. Behind the end nothing changes.
+pub data AnswersRecord (domain : List ℕ) (now : Audited) (line : List ℕ) (next : Audited) (reply : List ℕ) : Type 0 where
+  taken : now.over ≡ None → (r : AuditRecord) → judged domain now.records line ≡ Ok r → next ≡ record { records = now.records ++ r ∷ []; over = None } → reply ≡ [] → AnswersRecord domain now line next reply
+  denied : now.over ≡ None → (cause : Cause) → judged domain now.records line ≡ Err cause → next ≡ record { records = now.records; over = Some (Denied (length now.records + 1) cause) } → reply ≡ [] → AnswersRecord domain now line next reply
+  wanting : now.over ≡ None → next ≡ record { records = now.records; over = Some NoMemory } → reply ≡ [] → AnswersRecord domain now line next reply
+  past : (over : Over) → now.over ≡ Some over → next ≡ now → reply ≡ [] → AnswersRecord domain now line next reply
+
+-- Each line has an answer in every state, at least that memory is wanting.
+an_audit_by : (domain : List ℕ) (now : Audited) (line : List ℕ) (over : Option Over) → now.over ≡ over → (next : Audited) × (reply : List ℕ) × AnswersRecord domain now line next reply
+an_audit_by domain now line None e = (record { records = now.records; over = Some NoMemory }, [], wanting e refl refl)
+an_audit_by domain now line (Some over) e = (now, [], past over e refl refl)
+
+pub an_audit : (domain : List ℕ) (now : Audited) (line : List ℕ) → (next : Audited) × (reply : List ℕ) × AnswersRecord domain now line next reply
+an_audit domain now line = an_audit_by domain now line now.over refl
+
+-- ---- the end
+
+abbrev pub verdict_over : Option Over → ℕ → Option Verdict
+verdict_over None calls = Some (Yes calls)
+verdict_over (Some (Denied line cause)) calls = Some (No line cause)
+verdict_over (Some NoMemory) calls = None
+
+abbrev pub verdict_in : Audited → Option Verdict
+verdict_in last = verdict_over last.over (length last.records)
+
+-- the verdict is the last line, and the only one
+abbrev pub ClosesWithVerdict : Audited → List ℕ → Type 0
+ClosesWithVerdict last end = (verdict : Verdict) × (verdict_in last ≡ Some verdict) × (end ≡ as_line (verdict_json verdict))
+
+abbrev pub outcome_of : Option Over → Outcome
+outcome_of None = outcome.Done
+outcome_of (Some (Denied line cause)) = outcome.Denied
+outcome_of (Some NoMemory) = outcome.Done
+
+abbrev pub outcome_by : Verdict → Outcome
+outcome_by (Yes calls) = outcome.Done
+outcome_by (No line cause) = outcome.Denied
+
+-- known bytes grow by the verdict's line, and the outcome is the verdict's
+abbrev pub TellsVerdict : Verdict → Outcome → Option (List ℕ) → Option (List ℕ) → Type 0
+TellsVerdict verdict told old new = Appends old new (as_line (verdict_json verdict)) × (told ≡ outcome_by verdict)
+
+-- What a run of the engine over an input and an output has done: it is a run of lines, and where it got to its end, the verdict on the lines was told.
+pub record RunsAudit (domain : List ℕ) (input rest : InputState) (output out : OutputState) (result : Result Outcome RunFault) : Type 0 where
+  pub run : RunsOver (Steps is_over (AnswersRecord domain)) ClosesWithVerdict ⊤ start input rest output out result
+  pub told : IfOk result (λ outcome. IfSome input.left (λ bytes. TellsVerdict (verdict_of domain (first_lines most_lines bytes)) outcome output.written out.written))
+
+-- ---- what the engine keeps of a run
+
+pub record AuditKept : Type 0 where
+  pub auditor : AuditState
+  pub lines : ℕ
+  pub over : Option Over
+
+-- the auditor keeps the records, unless the run is over
+pub record StandsFor (kept : AuditKept) (now : Audited) : Type 0 where
+  pub over : now.over ≡ kept.over
+  pub keeps : kept.over ≡ None → Keeps kept.auditor now.records
+
+-- one line was audited behind these records
+abbrev pub AuditsLine : List ℕ → List AuditRecord → List ℕ → AuditState → Option Over → Type 0
+AuditsLine domain records line auditor None = (r : AuditRecord) × (judged domain records line ≡ Ok r) × Keeps auditor (records ++ r ∷ [])
+AuditsLine domain records line auditor (Some (Denied number cause)) = (number ≡ length records + 1) × (judged domain records line ≡ Err cause)
+AuditsLine domain records line auditor (Some NoMemory) = ⊤

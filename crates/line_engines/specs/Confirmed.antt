@@ -1,0 +1,19 @@
+-- The records that a schedule leaves are audited yes.
+use Rattle.std.specs.Prelude.{◌≡◌, ℕ, List, length}
+use Rattle.std.specs.List.{AllByRecursion}
+use Rattle.reg_lines.specs.Lines.{lines_of}
+use Rattle.reg_lines.specs.Spelled.{Fits}
+use Rattle.call_audit.specs.Confirmed.{RecordedCall, text_of_call}
+use Rattle.call_audit.specs.Verdicts.{verdict_of}
+use Rattle.call_audit.specs.declared.verdict.Verdict.TheVariants.{Yes}
+use Rattle.line_engines.specs.Recorded.{Recorded, TellsRecords}
+use Rattle.line_engines.specs.Schedules.{Scheduled}
+
+-- a record, as the auditor's law has it
+abbrev pub call_of : Recorded → RecordedCall
+call_of r = record { batch = r.batch; call = r.call; invoked = r.invoked; replied = r.replied; reply = r.reply }
+
+-- The text that a schedule leaves in the end is audited yes in its trust domain, with as many calls as there are records, where each of these fits into a line.
+abbrev pub RecordsAreAudited : Type 0
+RecordsAreAudited = (domain : List ℕ) (last : Scheduled) (order : List ℕ) (recorded : List Recorded) (end : List ℕ) → TellsRecords domain last order recorded end → AllByRecursion (λ r. Fits (text_of_call (call_of r))) recorded
+    → verdict_of domain (lines_of end) ≡ Yes (length recorded)

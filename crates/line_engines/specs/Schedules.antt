@@ -1,0 +1,117 @@
+-- What the engine `schedule` answers, line by line, and what it tells in the end.
+use Rattle.std.specs.Prelude.{◌≡◌, ◌≤◌, ℕ, ◌+◌, ⊤, List, [], ◌∷◌, ◌++◌, Result, Ok, Err, refl}
+use Rattle.rand_chacha.specs.ChaCha.{ChaCha}
+use Rattle.call_machine.specs.Calls.{State, first_state}
+use Rattle.call_machine.specs.Laws.{IsOrder}
+use Rattle.call_machine.specs.Machine.{Applies, AreFor, Runs}
+use Rattle.call_machine.specs.Schedules.{Answer, Headline, accepted}
+use Rattle.call_events.specs.declared.event.Event.{Event}
+use Rattle.reg_lines.specs.EventAnswers.{event_json, event_refusal_json, order_json}
+use Rattle.reg_lines.specs.Events.{spelled_event}
+use Rattle.reg_lines.specs.Ids.{first_ids}
+use Rattle.reg_lines.specs.Refusals.{fault_json, no_memory_json, refusal_json}
+use Rattle.reg_lines.specs.Runs.{StepsKept}
+use Rattle.reg_lines.specs.Stream.{InputState, OutputState}
+use Rattle.line_reading.specs.declared.fault.Fault.{Fault}
+use Rattle.line_engines.specs.Answers.{as_line}
+use Rattle.line_engines.specs.Driver.{RunsOver}
+use Rattle.line_engines.specs.declared.fault.RunFault.{RunFault}
+use Rattle.line_engines.specs.declared.schedule_engine.LineAnswer.{LineAnswer}
+use Rattle.line_engines.specs.declared.schedule_engine.LineAnswer.TheVariants.{Done, Refused, NotRead}
+
+-- What a run has come to: the events that lines spelled and what each was answered, where the machine stands after them, the
+-- ids that are still to be given, and how many lines were read.
+pub record Scheduled : Type 0 where
+  pub events : List Event
+  pub answers : List Answer
+  pub machine : State
+  pub ids : ChaCha
+  pub lines : ℕ
+
+-- before the first line
+abbrev pub start : List ℕ → List ℕ → Scheduled
+start domain seed = record { events = []; answers = []; machine = first_state domain; ids = first_ids seed; lines = 0 }
+
+-- a line that spelled no event
+abbrev pub passed : Scheduled → Scheduled
+passed now = record now { lines = now.lines + 1 }
+
+-- a line whose event was answered so, which left the machine here, and these ids
+abbrev pub stepped : Scheduled → Event → Answer → State → ChaCha → Scheduled
+stepped now event answer machine ids = record { events = now.events ++ event ∷ []; answers = now.answers ++ answer ∷ []; machine = machine; ids = ids; lines = now.lines + 1 }
+
+-- what the event of the line of this number is answered, as it is printed
+abbrev pub answer_json : ℕ → Answer → List ℕ
+answer_json line (Ok done) = event_json done
+answer_json line (Err refused) = event_refusal_json line refused.refusal
+
+-- The reply that a line may get in a run, and what the run has come to then. A line that spells an event gets the machine's
+-- answer to it, also where that is a refusal: it has drawn the ids of its creates all the same. Where memory is wanting for
+-- the reading of a line, it is answered so, and changes nothing.
+pub data AnswersEvent (domain : List ℕ) (now : Scheduled) (line : List ℕ) (next : Scheduled) (reply : List ℕ) : Type 0 where
+  refused : (fault : Fault) → spelled_event domain now.ids line ≡ Err fault → next ≡ passed now → reply ≡ as_line (fault_json (now.lines + 1) fault) → AnswersEvent domain now line next reply
+  applied : (event : Event) (ids : ChaCha) (answer : Answer) (machine : State) → spelled_event domain now.ids line ≡ Ok (event, ids) → Applies now.machine event answer machine → next ≡ stepped now event answer machine ids → reply ≡ as_line (answer_json (now.lines + 1) answer) → AnswersEvent domain now line next reply
+  not_read : next ≡ passed now → reply ≡ as_line (no_memory_json (now.lines + 1)) → AnswersEvent domain now line next reply
+
+-- The order line is the last: it tells an order of the machine's calls, and the headline holds of the events and of what they were answered, and of this order.
+pub record TellsOrder (last : Scheduled) (order : List ℕ) (end : List ℕ) : Type 0 where
+  pub is_order : IsOrder last.machine order
+  pub headline : Headline (accepted last.events last.answers) order
+  pub end_is : end ≡ as_line (order_json order)
+
+abbrev pub ClosesWithOrder : Scheduled → List ℕ → Type 0
+ClosesWithOrder last end = (order : List ℕ) × TellsOrder last order end
+
+-- Each line has an answer in every state, at least that memory is wanting.
+pub an_event_answer : (domain : List ℕ) (now : Scheduled) (line : List ℕ) → (next : Scheduled) × (reply : List ℕ) × AnswersEvent domain now line next reply
+an_event_answer domain now line = (passed now, as_line (no_memory_json (now.lines + 1)), not_read refl refl)
+
+-- what a run of the engine over an input and an output has done
+abbrev pub RunsSchedule : {T : Type 0} → List ℕ → List ℕ → InputState → InputState → OutputState → OutputState → Result T RunFault → Type 0
+RunsSchedule domain seed input rest output out result = RunsOver (AnswersEvent domain) ClosesWithOrder ⊤ (start domain seed) input rest output out result
+
+-- ---- what the engine keeps of a run
+
+pub record ScheduleKept : Type 0 where
+  pub machine : State
+  pub ids : ChaCha
+  pub lines : ℕ
+
+pub record StandsFor (kept : ScheduleKept) (now : Scheduled) : Type 0 where
+  pub runs : Runs (first_state kept.machine.domain) now.events now.answers now.machine
+  -- each batch was made for the machine's trust domain
+  pub made : AreFor kept.machine.domain now.events
+  pub machine : now.machine ≡ kept.machine
+  pub ids : now.ids ≡ kept.ids
+  pub lines : now.lines ≡ kept.lines
+
+-- the machine is that of the trust domain, and has accepted no more events than lines were read
+pub record Counts (domain : List ℕ) (machine : State) (lines : ℕ) : Type 0 where
+  pub of_domain : machine.domain ≡ domain
+  pub count : machine.count ≤ lines
+
+-- what a line is answered, as it is printed
+abbrev pub line_answer_json : LineAnswer → List ℕ
+line_answer_json (Done done) = event_json done
+line_answer_json (Refused event) = event_refusal_json event.line event.refusal
+line_answer_json (NotRead refusal) = refusal_json refusal
+
+-- one event was applied, and its answer is printed so
+abbrev pub Applied : State → Event → ℕ → List ℕ → State → Type 0
+Applied machine event line text after = (answer : Answer) × Applies machine event answer after × (text ≡ answer_json line answer)
+
+-- One line was taken: its reply has this text, and this is where it left the machine and the ids; a run goes on by it.
+pub record TakesEventLine (domain : List ℕ) (now : Scheduled) (line : List ℕ) (text : List ℕ) (machine : State) (ids : ChaCha) : Type 0 where
+  pub next : Scheduled
+  pub answers : AnswersEvent domain now line next (as_line text)
+  pub machine_is : next.machine ≡ machine
+  pub ids_is : next.ids ≡ ids
+  pub lines_is : next.lines ≡ now.lines + 1
+  pub domain_is : machine.domain ≡ now.machine.domain
+  pub count : machine.count ≤ now.machine.count + 1
+  pub runs : (first : State) → Runs first now.events now.answers now.machine → Runs first next.events next.answers next.machine
+  pub made : AreFor domain now.events → AreFor domain next.events
+
+-- the line of which these bytes are kept was taken, whichever line it is, and what is kept of the run stands for what it has come to then
+abbrev pub TakesKept : List ℕ → ScheduleKept → Scheduled → List ℕ → List ℕ → Type 0
+TakesKept domain kept now bytes text = (next : Scheduled) × StepsKept (AnswersEvent domain) now bytes next (as_line text) × StandsFor kept next

@@ -1,0 +1,157 @@
+//! How is an input of records audited?
+
+ghost use Rattle.std.specs.Prelude.{◌≡◌, ◌+◌, ◌<◌, ◌^◌, [], List};
+ghost use Rattle.reg_lines.specs.Records.{AuditRecord};
+ghost use Rattle.call_audit.specs.Keeps.{Keeps};
+ghost use Rattle.line_engines.specs.Audited.{AuditsLine, RunsAudit};
+
+use crate::driver::{Answerer, run_lines};
+use crate::fault::RunFault;
+use crate::outcome::Outcome;
+use call_audit::{Auditor, Cause, Verdict};
+use reg_lines::{Input, Output, Sink, Source, print_line};
+use spiffe_name::TrustDomain;
+use std::alloc::{AllocError, Global};
+use std::marker::Model;
+
+/// Audits the records of the input, in order, and tells the verdict: yes where no line has a fault, and else the first one that
+/// has. What follows that line isn't read.
+///
+/// Memory may be wanting at each line, and the run ends there with no verdict.
+pub fn audit<S: Source, K: Sink>(
+    alloc: Global,
+    domain: TrustDomain,
+    input: &mut Input<S>,
+    output: &mut Output<K>,
+) -> Result<Outcome, RunFault>
+    requires input { input.old.failures ≡ 0 }
+    requires output { output.old.failures ≡ 0 }
+    requires none_held { output.old.held ≡ [] }
+    ensures { RunsAudit domain input.old input.new output.old output.new result }
+{
+    let mut run = AuditRun::new(alloc, domain)?;
+    match run_lines(alloc, &mut run, input, output) {
+        Ok(()) => Ok(run.outcome()),
+        Err(fault) => Err(fault),
+    }
+}
+
+/// Why an audit is over before the end of the lines.
+#[derive(Clone, Copy, Debug, PartialEq, Eq, Drop)]
+enum Over {
+    /// The line of this number has a fault, for this cause.
+    Denied(u64, Cause),
+    /// Memory was wanting.
+    NoMemory,
+}
+
+/// An auditor that takes lines, how many lines were answered, and why it takes no more.
+#[derive(Drop)]
+struct AuditRun {
+    auditor: Auditor,
+    lines: u64,
+    over: Option<Over>,
+}
+
+impl Model for AuditRun {
+    ghost use Rattle.line_engines.specs.Audited.{AuditKept};
+
+    ghost Value = { AuditKept };
+
+    ghost view = { λ r. record { auditor = r.auditor; lines = r.lines; over = r.over } };
+}
+
+impl AuditRun {
+    ghost use Rattle.std.specs.Prelude.{◌≡◌, IfOk};
+    ghost use Rattle.line_engines.specs.Audited.{Audited, StandsFor, outcome_of, start, verdict_in};
+
+    /// Before the first line. The error is that memory was refused.
+    fn new(alloc: Global, domain: TrustDomain) -> Result<AuditRun, AllocError>
+        ensures stands { IfOk result (λ run. StandsFor run start) }
+        ensures domain { IfOk result (λ run. run.auditor.book.domain ≡ domain) }
+        ensures lines { IfOk result (λ run. run.lines ≡ 0) }
+    {
+        Ok(AuditRun {
+            auditor: Auditor::new(alloc, domain)?,
+            lines: 0,
+            over: None,
+        })
+    }
+
+    /// The verdict after the lines so far. The error is that memory was wanting for one of them.
+    fn verdict(&self) -> Result<Verdict, AllocError>
+        ensures { (now : Audited) → StandsFor self.now now → IfOk result (λ verdict. verdict_in now ≡ Some verdict) }
+    {
+        match &self.over {
+            None => Ok(Verdict::Yes(self.auditor.count() as u64)),
+            Some(Over::Denied(line, cause)) => Ok(Verdict::No(*line, *cause)),
+            Some(Over::NoMemory) => Err(AllocError),
+        }
+    }
+
+    /// What the exit status tells of it.
+    fn outcome(&self) -> Outcome
+        ensures { result ≡ outcome_of self.now.over }
+    {
+        match &self.over {
+            Some(Over::Denied(_, _)) => Outcome::Denied,
+            Some(Over::NoMemory) | None => Outcome::Done,
+        }
+    }
+}
+
+impl Answerer for AuditRun {
+    ghost use Rattle.std.specs.Prelude.{ℕ, List, ⊤};
+    ghost use Rattle.line_engines.specs.Audited.{AnswersRecord, Audited, ClosesWithVerdict, StandsFor, an_audit, is_over};
+
+    ghost State = { Audited };
+
+    ghost Setting = { List ℕ };
+
+    ghost setting = { λ r. r.auditor.book.domain };
+
+    ghost stands = { StandsFor };
+
+    ghost lines = { λ r. r.lines };
+
+    ghost answers = { AnswersRecord };
+
+    ghost ends = { is_over };
+
+    ghost closes = { λ _. ClosesWithVerdict };
+
+    ghost wants = { ⊤ };
+
+    ghost some_answer = { an_audit };
+
+    /// A line gets no reply of its own.
+    fn answer<K: Sink>(&mut self, _: Global, line: &[u8], _: &mut Output<K>) -> bool {
+        self.lines += 1;
+        if self.over.is_some() {
+            return false;
+        }
+        self.over = audit_line(&mut self.auditor, line);
+        self.over.is_none()
+    }
+
+    /// Tells the verdict.
+    fn close<K: Sink>(&mut self, _: Global, output: &mut Output<K>) -> Result<(), AllocError> {
+        let verdict = self.verdict()?;
+        print_line(&verdict, output);
+        Ok(())
+    }
+}
+
+/// Has the next line audited, and tells why the audit is over, where it is.
+fn audit_line(auditor: &mut Auditor, line: &[u8]) -> Option<Over>
+    ensures domain { auditor.new.book.domain ≡ auditor.old.book.domain }
+    ensures line { (records : List AuditRecord) → Keeps auditor.old records
+        → AuditsLine auditor.old.book.domain records line.now auditor.new result }
+{
+    let number = auditor.count() as u64 + 1;
+    match auditor.audit(line) {
+        Ok(None) => None,
+        Ok(Some(cause)) => Some(Over::Denied(number, cause)),
+        Err(AllocError) => Some(Over::NoMemory),
+    }
+}

@@ -1,0 +1,120 @@
+//! How are the lines of an input answered, whatever it is that answers them?
+
+ghost use Rattle.std.specs.Prelude.{◌≡◌, ◌+◌, ◌<◌, ◌^◌, ◌⊎◌, ℕ, Bool, false, List, [], OnErr, OnOk, IfErr};
+ghost use Rattle.reg_lines.specs.Stream.{IsOut, Puts};
+ghost use Rattle.line_engines.specs.Driver.{AnswersKept, Closes, ClosesAs, FailsToClose, RunsOver, Steps};
+
+use crate::fault::RunFault;
+use reg_lines::{Input, Line, Output, Sink, Source, flush_before_waiting, most_lines};
+use std::alloc::{AllocError, Global};
+
+/// What answers the lines of an input, one after another, and may have a last text.
+pub trait Answerer {
+    // What a run has come to.
+    ghost State: { Type 0 };
+
+    // What stays as it is in a run.
+    ghost Setting: { Type 0 };
+
+    ghost setting: { Self → Self.Setting };
+
+    // What is kept stands for what the run has come to.
+    ghost stands: { Self → Self.State → Type 0 };
+
+    // How many lines were answered.
+    ghost lines: { Self → ℕ };
+
+    // The reply that a line may get, and what the run has come to then.
+    ghost answers: { Self.Setting → Self.State → List ℕ → Self.State → List ℕ → Type 0 };
+
+    // Whether the run has ended, whatever lines follow.
+    ghost ends: { Self.State → Bool };
+
+    // The text that may come behind the last reply.
+    ghost closes: { Self.Setting → Self.State → List ℕ → Type 0 };
+
+    // Whether memory may be wanting for that text.
+    ghost wants: { Type 0 };
+
+    /// Answers the line that comes next, and tells whether the run goes on. Of the line these bytes are kept.
+    fn answer<K: Sink>(&mut self, alloc: Global, line: &[u8], output: &mut Output<K>) -> bool
+        requires { Self.lines self.old < 2 ^ 63 }
+        ensures lines { Self.lines self.new ≡ Self.lines self.old + 1 }
+        ensures setting { Self.setting self.new ≡ Self.setting self.old }
+        ensures answered { (now : Self.State) → Self.stands self.old now
+            → AnswersKept (Self.answers (Self.setting self.old)) Self.ends (Self.stands self.new) now line.now output.old output.new result };
+
+    /// Puts the text that comes behind the last reply, and leaves what the run has come to. The error is want of memory, and
+    /// nothing is put then.
+    fn close<K: Sink>(&mut self, alloc: Global, output: &mut Output<K>) -> Result<(), AllocError>
+        ensures closed { (now : Self.State) → Self.stands self.old now
+            → OnOk result (Closes (Self.closes (Self.setting self.old)) now output.old output.new) }
+        ensures stood { (now : Self.State) → Self.stands self.old now → Self.stands self.new now }
+        ensures wanting { OnErr result Self.wants }
+        ensures stays { OnErr result (output.new ≡ output.old) };
+
+    // Each line may get a reply.
+    ghost some_answer: { (s : Self.Setting) (now : Self.State) (line : List ℕ) → (next : Self.State) × (reply : List ℕ) × Self.answers s now line next reply };
+}
+
+/// Has each line of the input answered, in order, until the answerer ends the run, and then the last text put.
+///
+/// The replies are out before each read that may wait, and at the end. What the run has come to then is what the answerer
+/// stands for.
+pub fn run_lines<A: Answerer, S: Source, K: Sink>(
+    alloc: Global,
+    answerer: &mut A,
+    input: &mut Input<S>,
+    output: &mut Output<K>,
+) -> Result<(), RunFault>
+    requires fresh { A.lines answerer.old ≡ 0 }
+    requires input { input.old.failures ≡ 0 }
+    requires output { output.old.failures ≡ 0 }
+    requires none_held { output.old.held ≡ [] }
+    ensures { (first : A.State) → A.stands answerer.old first → A.ends first ≡ false
+        → RunsOver (Steps A.ends (A.answers (A.setting answerer.old))) (ClosesAs (A.closes (A.setting answerer.old)) (A.stands answerer.new)) A.wants first input.old input.new output.old output.new result }
+{
+    let mut line = Line::new(alloc)?;
+    for count in 0..most_lines() {
+        flush_before_waiting(input, output);
+        if output.has_failed() {
+            return Err(RunFault::Output);
+        }
+        match input.read_line(&mut line) {
+            Err(_) => return Err(RunFault::Input),
+            Ok(false) => return finish(alloc, answerer, output),
+            Ok(true) => {
+                if !answerer.answer(alloc, line.as_bytes(), output) {
+                    return finish(alloc, answerer, output);
+                }
+            }
+        }
+    }
+    finish(alloc, answerer, output)
+}
+
+/// Puts the last text, and flushes what is left, also where memory is wanting for that text.
+fn finish<A: Answerer, K: Sink>(
+    alloc: Global,
+    answerer: &mut A,
+    output: &mut Output<K>,
+) -> Result<(), RunFault>
+    ensures closed { (now : A.State) → A.stands answerer.old now
+        → Closes (A.closes (A.setting answerer.old)) now output.old output.new ⊎ Puts output.old output.new [] }
+    ensures stood { (now : A.State) → A.stands answerer.old now → A.stands answerer.new now }
+    ensures ok { OnOk result ((output.new.failures ≡ 0) × IsOut output.new) }
+    ensures ok_closed { (now : A.State) → A.stands answerer.old now
+        → OnOk result (Closes (A.closes (A.setting answerer.old)) now output.old output.new) }
+    ensures err { IfErr result (λ fault. ((fault ≡ RunFault.Output) × (0 < output.new.failures))
+        ⊎ ((fault ≡ RunFault.NoMemory) × FailsToClose A.wants output.old output.new)) }
+{
+    let closed = answerer.close(alloc, output);
+    output.flush();
+    if output.has_failed() {
+        return Err(RunFault::Output);
+    }
+    match closed {
+        Ok(()) => Ok(()),
+        Err(AllocError) => Err(RunFault::NoMemory),
+    }
+}

@@ -1,0 +1,30 @@
+//! How are the lines of an input answered, from the bytes that are read to the bytes that are written?
+//!
+//! - [`Answerer`]: what answers the lines of an input; [`run_lines`]: a run of any of them over the bytes.
+//! - [`plain`]: from the bytes of request lines to the bytes of reply lines, on a plain book; [`schedule`]: from event lines to
+//!   their answers and the order of the calls; [`record_schedule`]: the same to the records of the calls alone; [`audit`]: from
+//!   records of calls to the verdict on them.
+//! - [`Outcome`]: how a run ended that got to its end; [`RunFault`]: why it stopped.
+//! - [`recorded_runs_are_confirmed`]: the records that a schedule leaves are audited yes.
+//!
+//! The definitions stand in `specs/`: what a run of any answerer does in `Driver`, and what each engine answers in `Answers`,
+//! `Schedules`, `Recorded` and `Audited`.
+#![tactic(auto)]
+
+mod audit_engine;
+mod driver;
+mod fault;
+mod laws;
+mod outcome;
+mod plain_engine;
+mod record_engine;
+mod schedule_engine;
+
+pub use audit_engine::audit;
+pub use driver::{Answerer, run_lines};
+pub use fault::RunFault;
+pub use laws::recorded_runs_are_confirmed;
+pub use outcome::Outcome;
+pub use plain_engine::plain;
+pub use record_engine::record_schedule;
+pub use schedule_engine::schedule;

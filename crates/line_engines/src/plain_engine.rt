@@ -1,0 +1,173 @@
+//! How is an input of request lines answered on a plain book?
+
+ghost use Rattle.std.specs.Prelude.{◌≡◌, ◌+◌, ◌<◌, ◌≤◌, ◌^◌, [], List};
+ghost use Rattle.entry_book.specs.Book.{Book};
+ghost use Rattle.entry_book.specs.History.{Stands};
+ghost use Rattle.line_engines.specs.Answers.{AnswersBatch, AnswersLine, RunsPlain};
+
+use crate::driver::{Answerer, run_lines};
+use crate::fault::RunFault;
+use entry_book::Batch;
+use plain_book::PlainBook;
+use reg_lines::{
+    CallReply, Ids, Input, LineRefusal, Output, Sink, Source, print_line, read_request,
+};
+use spiffe_name::{Failure, TrustDomain};
+use std::alloc::{AllocError, Global};
+use std::marker::Model;
+
+/// Answers each line of the input on a plain book of the trust domain, in order. Creates that come without an id get the
+/// ids of the seed, in order.
+///
+/// The replies are out before each read that may wait, and at the end.
+pub fn plain<S: Source, K: Sink>(
+    alloc: Global,
+    domain: TrustDomain,
+    seed: [u8; 32],
+    input: &mut Input<S>,
+    output: &mut Output<K>,
+) -> Result<(), RunFault>
+    requires input { input.old.failures ≡ 0 }
+    requires output { output.old.failures ≡ 0 }
+    requires none_held { output.old.held ≡ [] }
+    ensures { RunsPlain domain seed input.old input.new output.old output.new result }
+{
+    let mut run = PlainRun::new(alloc, domain, seed)?;
+    run_lines(alloc, &mut run, input, output)
+}
+
+/// A plain book that answers lines, the ids that it gives, and how many calls were run and lines read.
+#[derive(Drop)]
+struct PlainRun {
+    book: PlainBook,
+    ids: Ids,
+    calls: u64,
+    lines: u64,
+}
+
+impl Model for PlainRun {
+    ghost use Rattle.std.specs.Prelude.{◌≤◌};
+    ghost use Rattle.line_engines.specs.Answers.{Keeping};
+
+    ghost Value = { Keeping };
+
+    ghost view = { λ r. record { book = r.book; ids = r.ids; calls = r.calls; lines = r.lines } };
+
+    ghost invariant = { λ r. r.calls ≤ r.lines };
+}
+
+impl PlainRun {
+    ghost use Rattle.std.specs.Prelude.{◌≡◌, IfOk};
+    ghost use Rattle.line_engines.specs.Answers.{StandsFor, start};
+
+    /// Before the first line. The error is that memory was refused.
+    fn new(alloc: Global, domain: TrustDomain, seed: [u8; 32]) -> Result<PlainRun, AllocError>
+        ensures stands { IfOk result (λ run. StandsFor run (start seed)) }
+        ensures domain { IfOk result (λ run. run.book.domain ≡ domain) }
+    {
+        Ok(PlainRun {
+            book: PlainBook::new(alloc, domain)?,
+            ids: Ids::of_seed(seed),
+            calls: 0,
+            lines: 0,
+        })
+    }
+}
+
+impl Answerer for PlainRun {
+    ghost use Rattle.std.specs.Prelude.{ℕ, List, false, ◌+◌, refl};
+    ghost use Rattle.line_engines.specs.Answers.{Answers, ClosesWithNothing, Keeping, Running, StandsFor, an_answer};
+
+    ghost State = { Running };
+
+    ghost Setting = { List ℕ };
+
+    ghost setting = { λ r. r.book.domain };
+
+    ghost stands = { StandsFor };
+
+    ghost lines = { λ r. r.lines };
+
+    ghost answers = { Answers };
+
+    ghost ends = { λ _. false };
+
+    ghost closes = { λ _. ClosesWithNothing };
+
+    ghost wants = { ⊥ };
+
+    ghost some_answer = { an_answer };
+
+    fn answer<K: Sink>(&mut self, alloc: Global, line: &[u8], output: &mut Output<K>) -> bool {
+        self.calls = answer(
+            alloc,
+            &mut self.book,
+            &mut self.ids,
+            self.calls,
+            self.lines,
+            line,
+            output,
+        );
+        self.lines += 1;
+        true
+    }
+
+    /// No text comes behind the last reply.
+    fn close<K: Sink>(&mut self, _: Global, _: &mut Output<K>) -> Result<(), AllocError> {
+        Ok(())
+    }
+}
+
+/// Answers one line, of which `lines` came before, after `calls` calls; the result is how many calls there are then.
+fn answer<K: Sink>(
+    alloc: Global,
+    book: &mut PlainBook,
+    ids: &mut Ids,
+    calls: u64,
+    lines: u64,
+    line: &[u8],
+    output: &mut Output<K>,
+) -> u64
+    requires calls { calls ≤ lines }
+    requires lines { lines < 2 ^ 63 }
+    ensures domain { book.new.domain ≡ book.old.domain }
+    ensures calls { result ≤ calls + 1 }
+    ensures line { (books : List Book) → Stands book.old books
+        → AnswersLine book.old.domain (record { books = books; ids = ids.old; calls = calls; lines = lines }) line.now output.old output.new book.new ids.new result }
+{
+    match read_request(alloc, book.domain(), ids, line, lines + 1) {
+        Err(refusal) => {
+            print_line(&refusal, output);
+            calls
+        }
+        Ok(request) => {
+            call(book, &request.batch, calls + 1, lines + 1, output);
+            calls + 1
+        }
+    }
+}
+
+/// Runs the batch of the line of this number on the book, as the call of this number, and answers it.
+fn call<K: Sink>(book: &mut PlainBook, batch: &Batch, call: u64, line: u64, output: &mut Output<K>)
+    requires made_for { batch.now.domain ≡ book.old.domain }
+    ensures domain { book.new.domain ≡ book.old.domain }
+    ensures answered { (books : List Book) → Stands book.old books
+        → AnswersBatch books batch.now call line output.old output.new book.new }
+{
+    match book.run(batch) {
+        Ok(reply) => print_line(
+            &CallReply {
+                call,
+                reply: &reply,
+            },
+            output,
+        ),
+        Err(_) => print_line(
+            &LineRefusal {
+                line,
+                failure: Failure::NoMemory,
+            },
+            output,
+        ),
+    }
+}

@@ -1,0 +1,119 @@
+//! Which records does an input of event lines leave?
+
+ghost use Rattle.std.specs.Prelude.{◌≡◌, [], List};
+ghost use Rattle.std.specs.List.{AllByRecursion, flat_map};
+ghost use Rattle.reg_lines.specs.Stream.{Puts};
+ghost use Rattle.line_engines.specs.Recorded.{AreRecords, IsRecordOf, IsWritten, Recorded, RunsRecord, record_line};
+
+use crate::driver::{Answerer, run_lines};
+use crate::fault::RunFault;
+use crate::schedule_engine::ScheduleRun;
+use call_machine::Machine;
+use reg_lines::{CallRecord, Input, Output, Sink, Source, print_line};
+use spiffe_name::TrustDomain;
+use std::alloc::{AllocError, Global};
+use std::marker::Model;
+
+/// Takes each line of the input on a machine of calls of the trust domain, in order, as `schedule` does, and writes none of its
+/// answers, but at the end of the input a record of each call of the machine's order, in this order. Creates that come without an
+/// id get the ids of the seed, in order.
+///
+/// Memory may be wanting before the first line, and for the order.
+pub fn record_schedule<S: Source, K: Sink>(
+    alloc: Global,
+    domain: TrustDomain,
+    seed: [u8; 32],
+    input: &mut Input<S>,
+    output: &mut Output<K>,
+) -> Result<(), RunFault>
+    requires input { input.old.failures ≡ 0 }
+    requires output { output.old.failures ≡ 0 }
+    requires none_held { output.old.held ≡ [] }
+    ensures { RunsRecord domain seed input.old input.new output.old output.new result }
+{
+    let mut run = RecordRun {
+        schedule: ScheduleRun::new(alloc, domain, seed)?,
+    };
+    run_lines(alloc, &mut run, input, output)
+}
+
+/// A machine that takes event lines, and tells nothing of them before the end.
+#[derive(Drop)]
+struct RecordRun {
+    schedule: ScheduleRun,
+}
+
+impl Model for RecordRun {
+    ghost use Rattle.line_engines.specs.Schedules.{ScheduleKept};
+
+    ghost Value = { ScheduleKept };
+
+    ghost view = { λ r. r.schedule };
+}
+
+impl Answerer for RecordRun {
+    ghost use Rattle.std.specs.Prelude.{ℕ, List, false, ⊤};
+    ghost use Rattle.line_engines.specs.Recorded.{ClosesWithRecords, TakesEvent, an_event_taken};
+    ghost use Rattle.line_engines.specs.Schedules.{Scheduled, StandsFor};
+
+    ghost State = { Scheduled };
+
+    ghost Setting = { List ℕ };
+
+    ghost setting = { λ r. r.machine.domain };
+
+    ghost stands = { StandsFor };
+
+    ghost lines = { λ r. r.lines };
+
+    ghost answers = { TakesEvent };
+
+    ghost ends = { λ _. false };
+
+    ghost closes = { ClosesWithRecords };
+
+    ghost wants = { ⊤ };
+
+    ghost some_answer = { an_event_taken };
+
+    /// A line gets no reply.
+    fn answer<K: Sink>(&mut self, alloc: Global, line: &[u8], _: &mut Output<K>) -> bool {
+        let _ = self.schedule.take(alloc, line);
+        true
+    }
+
+    /// Writes the records of the calls, in their order.
+    fn close<K: Sink>(&mut self, _: Global, output: &mut Output<K>) -> Result<(), AllocError> {
+        let machine = self.schedule.machine();
+        let order = machine.order()?;
+        print_records(machine, order.as_slice(), output);
+        Ok(())
+    }
+}
+
+/// Prints the record of each of these calls, each on a line.
+fn print_records<K: Sink>(machine: &Machine, calls: &[u64], output: &mut Output<K>)
+    ensures printed { (records : List Recorded) → AreRecords machine.now.calls calls.now records
+        → Puts output.old output.new (flat_map record_line records) }
+    ensures written { (records : List Recorded) → AreRecords machine.now.calls calls.now records
+        → AllByRecursion IsWritten records }
+{
+    for call in calls {
+        print_record(machine, *call, output);
+    }
+}
+
+/// Prints the record of the call of this number.
+fn print_record<K: Sink>(machine: &Machine, call: u64, output: &mut Output<K>)
+    ensures printed { (r : Recorded) → IsRecordOf machine.now.calls call r
+        → Puts output.old output.new (record_line r) }
+    ensures written { (r : Recorded) → IsRecordOf machine.now.calls call r → IsWritten r }
+{
+    let Some(known) = machine.call(call) else {
+        return;
+    };
+    if let Some(record) = CallRecord::of(call, &known) {
+        record.know_types();
+        print_line(&record, output);
+    }
+}

@@ -1,0 +1,207 @@
+//! How is an input of event lines answered by a machine of calls?
+
+ghost use Rattle.std.specs.Prelude.{◌≡◌, ◌+◌, ◌<◌, ◌^◌, []};
+ghost use Rattle.call_events.specs.Events.{IsFor};
+ghost use Rattle.line_engines.specs.Schedules.{Applied, RunsSchedule, Scheduled, TakesEventLine, line_answer_json};
+
+use crate::driver::{Answerer, run_lines};
+use crate::fault::RunFault;
+use call_machine::{Done, Event, Machine};
+use reg_lines::{
+    CallOrder, EventRefused, Ids, Input, LineRefusal, Output, PrintJson, Sink, Source, print_line,
+    read_event,
+};
+use spiffe_name::TrustDomain;
+use std::alloc::{AllocError, Global};
+use std::marker::Model;
+
+/// Answers each line of the input on a machine of calls of the trust domain, in order, and then tells the order of the
+/// calls. Creates that come without an id get the ids of the seed, in order.
+///
+/// The replies are out before each read that may wait, and at the end. Memory may be wanting before the first line, and for
+/// the order.
+pub fn schedule<S: Source, K: Sink>(
+    alloc: Global,
+    domain: TrustDomain,
+    seed: [u8; 32],
+    input: &mut Input<S>,
+    output: &mut Output<K>,
+) -> Result<(), RunFault>
+    requires input { input.old.failures ≡ 0 }
+    requires output { output.old.failures ≡ 0 }
+    requires none_held { output.old.held ≡ [] }
+    ensures { RunsSchedule domain seed input.old input.new output.old output.new result }
+{
+    let mut run = ScheduleRun::new(alloc, domain, seed)?;
+    run_lines(alloc, &mut run, input, output)
+}
+
+/// A machine that answers event lines, the ids that it gives, and how many lines were read.
+#[derive(Drop)]
+pub(crate) struct ScheduleRun {
+    domain: TrustDomain,
+    machine: Machine,
+    ids: Ids,
+    lines: u64,
+}
+
+impl Model for ScheduleRun {
+    ghost use Rattle.line_engines.specs.Schedules.{Counts, ScheduleKept};
+
+    ghost Value = { ScheduleKept };
+
+    ghost view = { λ r. record { machine = r.machine; ids = r.ids; lines = r.lines } };
+
+    ghost invariant = { λ r. Counts r.domain r.machine r.lines };
+}
+
+impl ScheduleRun {
+    ghost use Rattle.std.specs.Prelude.{◌≡◌, ◌+◌, ◌<◌, ◌^◌, IfOk};
+    ghost use Rattle.line_engines.specs.Schedules.{Scheduled, StandsFor, TakesKept, line_answer_json, start};
+
+    /// Before the first line. The error is that memory was refused.
+    pub(crate) fn new(
+        alloc: Global,
+        domain: TrustDomain,
+        seed: [u8; 32],
+    ) -> Result<ScheduleRun, AllocError>
+        ensures stands { IfOk result (λ run. StandsFor run (start domain seed)) }
+        ensures domain { IfOk result (λ run. run.machine.domain ≡ domain) }
+        ensures lines { IfOk result (λ run. run.lines ≡ 0) }
+    {
+        Ok(ScheduleRun {
+            machine: Machine::new(alloc, domain.clone()?)?,
+            domain,
+            ids: Ids::of_seed(seed),
+            lines: 0,
+        })
+    }
+
+    /// Takes the line that comes next, of which these bytes are kept: what it is answered.
+    pub(crate) fn take(&mut self, alloc: Global, line: &[u8]) -> LineAnswer
+        requires lines { self.old.lines < 2 ^ 63 }
+        ensures lines { self.new.lines ≡ self.old.lines + 1 }
+        ensures domain { self.new.machine.domain ≡ self.old.machine.domain }
+        ensures taken { (now : Scheduled) → StandsFor self.old now
+            → TakesKept self.old.machine.domain self.new now line.now (line_answer_json result) }
+    {
+        let answer = take(
+            alloc,
+            &self.domain,
+            &mut self.machine,
+            &mut self.ids,
+            self.lines,
+            line,
+        );
+        self.lines += 1;
+        answer
+    }
+
+    /// The machine, after the lines so far.
+    pub(crate) fn machine(&self) -> &Machine
+        ensures { result.now ≡ self.now.machine }
+    {
+        &self.machine
+    }
+}
+
+impl Answerer for ScheduleRun {
+    ghost use Rattle.std.specs.Prelude.{ℕ, List, false, ⊤};
+    ghost use Rattle.line_engines.specs.Schedules.{AnswersEvent, ClosesWithOrder, Scheduled, StandsFor, an_event_answer};
+
+    ghost State = { Scheduled };
+
+    ghost Setting = { List ℕ };
+
+    ghost setting = { λ r. r.machine.domain };
+
+    ghost stands = { StandsFor };
+
+    ghost lines = { λ r. r.lines };
+
+    ghost answers = { AnswersEvent };
+
+    ghost ends = { λ _. false };
+
+    ghost closes = { λ _. ClosesWithOrder };
+
+    ghost wants = { ⊤ };
+
+    ghost some_answer = { an_event_answer };
+
+    fn answer<K: Sink>(&mut self, alloc: Global, line: &[u8], output: &mut Output<K>) -> bool {
+        print_line(&self.take(alloc, line), output);
+        true
+    }
+
+    /// Tells the order of the calls.
+    fn close<K: Sink>(&mut self, _: Global, output: &mut Output<K>) -> Result<(), AllocError> {
+        let order = self.machine.order()?;
+        print_line(
+            &CallOrder {
+                calls: order.as_slice(),
+            },
+            output,
+        );
+        Ok(())
+    }
+}
+
+/// What a line is answered.
+#[derive(Drop)]
+pub(crate) enum LineAnswer {
+    /// What the machine answers to its event.
+    Done(Done),
+    /// The machine refuses its event.
+    Refused(EventRefused),
+    /// It spells no event, or memory was wanting to read it.
+    NotRead(LineRefusal),
+}
+
+impl PrintJson for LineAnswer {
+    ghost text = { line_answer_json };
+
+    fn print_to<S: Sink>(&self, output: &mut Output<S>) {
+        match self {
+            LineAnswer::Done(done) => done.print_to(output),
+            LineAnswer::Refused(refused) => refused.print_to(output),
+            LineAnswer::NotRead(refusal) => refusal.print_to(output),
+        }
+    }
+}
+
+/// Takes one line, of which `lines` came before: what it is answered.
+fn take(
+    alloc: Global,
+    domain: &TrustDomain,
+    machine: &mut Machine,
+    ids: &mut Ids,
+    lines: u64,
+    line: &[u8],
+) -> LineAnswer
+    requires domain { domain.now ≡ machine.old.domain }
+    requires numbers { machine.old.count + 1 < 2 ^ 64 }
+    requires lines { lines + 1 < 2 ^ 64 }
+    ensures line { (now : Scheduled) → now.machine ≡ machine.old → now.ids ≡ ids.old → now.lines ≡ lines
+        → TakesEventLine domain.now now line.now (line_answer_json result) machine.new ids.new }
+{
+    match read_event(alloc, domain, ids, line, lines + 1) {
+        Err(refusal) => LineAnswer::NotRead(refusal),
+        Ok(event) => apply(machine, event, lines + 1),
+    }
+}
+
+/// Applies the event of the line of this number: what it is answered.
+fn apply(machine: &mut Machine, event: Event, line: u64) -> LineAnswer
+    requires domain { IsFor machine.old.domain event }
+    requires numbers { machine.old.count + 1 < 2 ^ 64 }
+    ensures { Applied machine.old event line (line_answer_json result) machine.new }
+{
+    match machine.apply(event) {
+        Ok(done) => LineAnswer::Done(done),
+        Err(refused) => LineAnswer::Refused(EventRefused {
+            line,
+            refusal: refused.refusal,
+        }),
+    }
+}

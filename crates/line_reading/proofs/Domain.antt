@@ -1,0 +1,89 @@
+-- The batch that a line spells in a trust domain was made for that domain.
+use Rattle.std.proofs.Common.{◌≡◌, ℕ, List, Option, None, Some, Result, Ok, Err, refl, subst}
+use Rattle.std.specs.Prelude.{⊤, IfOk, [], ◌∷◌}
+use Rattle.rand_chacha.specs.ChaCha.{ChaCha}
+use Rattle.entry_book.specs.Batches.{Batch, batch_refusal}
+use Rattle.entry_book.specs.declared.fault.BatchRefusal.{BatchRefusal}
+use Rattle.entry_book.specs.declared.op.Op.{Op}
+use Rattle.serde_json.specs.Data.{Data, Members}
+use Rattle.serde_json.specs.Find.{as_object}
+use Rattle.line_reading.specs.declared.fault.Fault.{Fault}
+use Rattle.line_reading.specs.declared.request.Request.{Request}
+use Rattle.line_reading.specs.declared.fault.Key.{Key}
+use Rattle.line_reading.specs.declared.fault.Key.TheVariants as key
+use Rattle.line_reading.specs.Batches.{Listed, unless_refused, batch_of, listed_in, missing_beside, batch_in}
+use Rattle.line_reading.specs.Fields.{◌>>=◌, tries_at, no_others}
+use Rattle.line_reading.specs.Operations.{ops_in}
+use Rattle.line_reading.specs.Requests.{request_in, framed, value_in, object_in, spelled}
+
+-- what holds of each value that the second reader gives holds of what both give
+pub then_ok : {A B : Type 0} (P : B → Type 0) (r : Result A Fault) (f : A → Result B Fault) → ((x : A) → IfOk (f x) P) → IfOk (r >>= f) P
+then_ok P (Ok x) f h = h x
+then_ok P (Err e) f h = tt
+
+abbrev Read : Type 0
+Read = Result (Request × ChaCha) Fault
+
+abbrev made : List ℕ → Request × ChaCha → Type 0
+made domain read = read.0.batch.domain ≡ domain
+
+-- ---- a batch
+
+abbrev pub ReadBatch : Type 0
+ReadBatch = Result (Batch × ChaCha) Fault
+
+abbrev pub batch_made : List ℕ → Batch × ChaCha → Type 0
+batch_made domain read = read.0.domain ≡ domain
+
+abbrev batch_and : ChaCha → Batch → ReadBatch
+batch_and ids batch = Ok (batch, ids)
+
+unless_refused-domain : (o : Option BatchRefusal) (batch : Batch) (ids : ChaCha) → IfOk (unless_refused o batch >>= batch_and ids) (batch_made batch.domain)
+unless_refused-domain None batch ids = refl
+unless_refused-domain (Some r) batch ids = tt
+
+pub batch_in-domain : (domain : List ℕ) (ids : ChaCha) (listed : Listed) → IfOk (batch_in domain ids listed) (batch_made domain)
+unfolding batch_in
+batch_in-domain domain ids listed =
+    let batch : List Op → Batch = λ ops. record { domain = domain; ops = ops; after = listed.after; token = listed.token } in
+    let from_ops : List Op × ChaCha → ReadBatch = λ ops. batch_of domain ops.0 listed.after listed.token >>= batch_and ops.1 in
+    then_ok (batch_made domain) (ops_in 0 (missing_beside listed.token) ids listed.items) from_ops (λ ops. unless_refused-domain (batch_refusal domain ops.0 listed.token) (batch ops.0) ops.1)
+
+-- ---- a request
+
+-- what holds of each value that the first reader gives, and then of what the second makes of it, holds of what both give
+pub both_ok : {A B : Type 0} (Q : A → Type 0) (P : B → Type 0) (r : Result A Fault) (f : A → Result B Fault) → IfOk r Q → ((x : A) → Q x → IfOk (f x) P) → IfOk (r >>= f) P
+both_ok Q P (Ok x) f q h = h x q
+both_ok Q P (Err e) f q h = tt
+
+abbrev request_of : ℕ → Batch × ChaCha → Read
+request_of tries batch = Ok (record { batch = batch.0; tries = tries }, batch.1)
+
+request_in-domain : (domain : List ℕ) (ids : ChaCha) (d : Data) (ms : Members) → IfOk (request_in domain ids d ms) (made domain)
+unfolding request_in
+request_in-domain domain ids d ms =
+    let keys : List Key = key.Ops ∷ key.After ∷ key.Token ∷ key.Tries ∷ [] in
+    let from_keys : Listed → ℕ → ⊤ → Read = λ listed tries none. batch_in domain ids listed >>= request_of tries in
+    let from_tries : Listed → ℕ → Read = λ listed tries. no_others keys ms >>= from_keys listed tries in
+    let from_listed : Listed → Read = λ listed. tries_at key.Tries d >>= from_tries listed in
+    then_ok (made domain) (listed_in d) from_listed (λ listed.
+    then_ok (made domain) (tries_at key.Tries d) (from_tries listed) (λ tries.
+    then_ok (made domain) (no_others keys ms) (from_keys listed tries) (λ none.
+    both_ok (batch_made domain) (made domain) (batch_in domain ids listed) (request_of tries) (batch_in-domain domain ids listed) (λ batch e. e))))
+
+-- ---- a line
+
+spelled-made : (domain : List ℕ) (ids : ChaCha) (line : List ℕ) → IfOk (spelled domain ids line) (made domain)
+unfolding spelled
+spelled-made domain ids line =
+    let from_object : Data → Members → Read = λ d ms. request_in domain ids d ms in
+    let from_value : Data → Read = λ d. object_in (as_object d) >>= from_object d in
+    let from_line : ⊤ → Read = λ none. value_in line >>= from_value in
+    then_ok (made domain) (framed line) from_line (λ none.
+    then_ok (made domain) (value_in line) from_value (λ d.
+    then_ok (made domain) (object_in (as_object d)) (from_object d) (λ ms. request_in-domain domain ids d ms)))
+
+pub spelled-domain : (domain : List ℕ) (ids after : ChaCha) (line : List ℕ) (request : Request) → spelled domain ids line ≡ Ok (request, after) → request.batch.domain ≡ domain
+spelled-domain domain ids after line request e =
+    let P : Read → Type 0 = λ r. IfOk r (made domain) in
+    subst P e (spelled-made domain ids line)

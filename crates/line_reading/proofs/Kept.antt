@@ -1,0 +1,121 @@
+-- What is kept of a line is enough.
+use Rattle.std.proofs.Common.{◌≡◌, ◌+◌, ◌-◌, ◌<◌, ◌≤◌, ◌⊎◌, zero, suc, ℕ, Bool, true, false, ◌==◌, ◌&&◌, cond, List, [], ◌∷◌, length, take, refl, sym, ap, ◌∙◌, inl, inr, arith}
+use Rattle.std.proofs.lemmas.Bool.{false≢true}
+use Rattle.std.proofs.lemmas.Bool.Decides.{nat_tests}
+use Rattle.std.proofs.lemmas.List.{take_all, take-append-le, take-append-drop, length-append, length-take-le}
+use Rattle.std.proofs.lemmas.List.Folds.{list_any-append, list_any_at}
+use Rattle.std.specs.Prelude.{⊤, Result, Ok, nat_lt, ◌||◌, drop}
+use Rattle.std.specs.Io.BufRead.{ends_with_byte, strip_last}
+use Rattle.rand_chacha.specs.ChaCha.{ChaCha}
+use Rattle.serde_json.specs.Find.{as_object}
+use Rattle.call_events.specs.declared.event.Event.{Event}
+use Rattle.line_reading.specs.declared.fault.Code.TheVariants as code
+use Rattle.line_reading.specs.declared.fault.Fault.{Fault}
+use Rattle.line_reading.specs.declared.request.Request.{Request}
+use Rattle.line_reading.specs.Fields.{◌>>=◌, at_line}
+use Rattle.line_reading.specs.Events.{event_in, spelled_event}
+use Rattle.line_reading.specs.Kept.{KeptSpells, KeptSpellsEvent, KeptSpellsRecord}
+use Rattle.line_devices.specs.Lines.{has_lf, kept, kept_bytes, IsLine}
+use Rattle.line_reading.specs.Records.{AuditRecord, record_in, spelled_record}
+use Rattle.line_reading.specs.Requests.{framed, line_limit, request_in, object_in, spelled, value_in}
+
+lt_true : (a b : ℕ) → a < b → nat_lt a b ≡ true
+lt_true a b l = grind (arith, nat_tests)
+
+positive : (n : ℕ) → nat_lt 0 n ≡ true → 0 < n
+positive n e = grind (arith, nat_tests)
+
+both : (a b : Bool) → (a && b) ≡ true → (a ≡ true) × (b ≡ true)
+both true b e = (refl, e)
+both false b e = absurd (false≢true e)
+
+no_more : (a b : Bool) → (a || b) ≡ false → a ≡ false
+no_more true b e = absurd (false≢true (sym e))
+no_more false b e = refl
+
+ends_none : (bytes : List ℕ) (ends : Bool) → ends_with_byte 10 bytes ≡ ends → has_lf bytes ≡ false → ends ≡ false
+ends_none bytes true e none =
+    let p = both _ _ e in
+    let l = positive (length bytes) p.0 in
+    absurd (false≢true (sym none ∙ list_any_at (λ b. b == 10) bytes (length bytes - 1) 0 (omega (arith, l)) p.1))
+ends_none bytes false e none = refl
+
+cut_longer : (ends : Bool) (bytes : List ℕ) → length bytes ≤ length (cond ends (take (length bytes - 1) bytes) bytes) + 1
+cut_longer true bytes =
+    let e = length-take-le (length bytes - 1) bytes (omega arith) in
+    omega (arith, e)
+cut_longer false bytes = omega arith
+
+limit_is : kept_bytes ≡ line_limit + 1
+unfolding kept_bytes line_limit
+limit_is = refl
+
+-- a line of more bytes than may stand before its LF
+framed-long : (line : List ℕ) → line_limit < length (strip_last 10 line) → framed line ≡ at_line code.LineTooLong
+unfolding framed
+framed-long line l = ap (λ b. cond b (at_line code.LineTooLong) (cond (ends_with_byte 10 line) (Ok tt) (at_line code.Truncated))) (lt_true line_limit (length (strip_last 10 line)) l)
+
+-- where no LF is among the bytes kept
+framed-cut : (bytes : List ℕ) → has_lf bytes ≡ false → line_limit < length bytes → framed bytes ≡ at_line code.LineTooLong
+framed-cut bytes none l =
+    let e : strip_last 10 bytes ≡ bytes = ap (λ b. cond b (take (length bytes - 1) bytes) bytes) (ends_none bytes (ends_with_byte 10 bytes) refl none) in
+    let n : length (strip_last 10 bytes) ≡ length bytes = ap length e in
+    framed-long bytes (omega (arith, n, l))
+
+spelled-long : (domain : List ℕ) (ids : ChaCha) (line : List ℕ) → framed line ≡ at_line code.LineTooLong → spelled domain ids line ≡ at_line code.LineTooLong
+unfolding spelled
+spelled-long domain ids line e =
+    let next : ⊤ → Result (Request × ChaCha) Fault = λ none. value_in line >>= (λ d. object_in (as_object d) >>= (λ ms. request_in domain ids d ms)) in
+    ap (λ r. r >>= next) e
+
+spelled_event-long : (domain : List ℕ) (ids : ChaCha) (line : List ℕ) → framed line ≡ at_line code.LineTooLong → spelled_event domain ids line ≡ at_line code.LineTooLong
+unfolding spelled_event
+spelled_event-long domain ids line e =
+    let next : ⊤ → Result (Event × ChaCha) Fault = λ none. value_in line >>= (λ d. object_in (as_object d) >>= (λ ms. event_in domain ids d ms)) in
+    ap (λ r. r >>= next) e
+
+spelled_record-long : (domain line : List ℕ) → framed line ≡ at_line code.LineTooLong → spelled_record domain line ≡ at_line code.LineTooLong
+unfolding spelled_record
+spelled_record-long domain line e =
+    let next : ⊤ → Result AuditRecord Fault = λ none. value_in line >>= (λ d. object_in (as_object d) >>= (λ ms. record_in domain d ms)) in
+    ap (λ r. r >>= next) e
+
+take_none : (n : ℕ) (front : List ℕ) → has_lf front ≡ false → has_lf (take n front) ≡ false
+take_none n front none =
+    no_more _ (has_lf (drop n front)) (sym (list_any-append (λ b. b == 10) (take n front) (drop n front)) ∙ (ap has_lf (take-append-drop n front) ∙ none))
+
+-- of a line whose LF comes later no LF is kept
+cut_none : (n : ℕ) (line : List ℕ) → IsLine line → n < length line → has_lf (take n line) ≡ false
+cut_none n line (inl w) l =
+    let e : length line ≡ length w.0 + 1 = ap length w.2 ∙ length-append w.0 (10 ∷ []) in
+    ap has_lf (ap (take n) w.2 ∙ take-append-le n w.0 (10 ∷ []) (omega (arith, e, l))) ∙ take_none n w.0 w.1
+cut_none n line (inr r) l = take_none n line r.0
+
+-- a reader that tells of a line that is too long nothing else
+abbrev TellsTooLong : {A : Type 0} → (List ℕ → Result A Fault) → Type 0
+TellsTooLong read = (line : List ℕ) → framed line ≡ at_line code.LineTooLong → read line ≡ at_line code.LineTooLong
+
+kept_reads-long : {A : Type 0} (read : List ℕ → Result A Fault) (n : ℕ) (line : List ℕ) → TellsTooLong read → n ≡ line_limit + 1 → IsLine line → n < length line → read (take n line) ≡ read line
+kept_reads-long read n line too_long is a l =
+    let e = length-take-le n line (omega (arith, l)) in
+    let longer = cut_longer (ends_with_byte 10 line) line in
+    too_long (take n line) (framed-cut (take n line) (cut_none n line a l) (omega (arith, e, is)))
+    ∙ sym (too_long line (framed-long line (omega (arith, longer, is, l))))
+
+kept_reads-by : {A : Type 0} (read : List ℕ → Result A Fault) (line : List ℕ) → TellsTooLong read → IsLine line → (length line ≤ kept_bytes) ⊎ (kept_bytes < length line) → read (kept line) ≡ read line
+kept_reads-by read line too_long a (inl l) = ap read (take_all kept_bytes line l)
+kept_reads-by read line too_long a (inr l) = kept_reads-long read kept_bytes line too_long limit_is a l
+
+split_at : (a b : ℕ) → (a ≤ b) ⊎ (b < a)
+split_at zero b = inl (omega arith)
+split_at (suc a) zero = inr (omega arith)
+split_at (suc a) (suc b) = elim (split_at a b) [ inl l ↦ inl (omega (arith, l)) | inr l ↦ inr (omega (arith, l)) ]
+
+pub kept_spells : KeptSpells
+kept_spells domain ids line a = kept_reads-by (spelled domain ids) line (spelled-long domain ids) a (split_at (length line) kept_bytes)
+
+pub kept_spells_event : KeptSpellsEvent
+kept_spells_event domain ids line a = kept_reads-by (spelled_event domain ids) line (spelled_event-long domain ids) a (split_at (length line) kept_bytes)
+
+pub kept_spells_record : KeptSpellsRecord
+kept_spells_record domain line a = kept_reads-by (spelled_record domain) line (spelled_record-long domain) a (split_at (length line) kept_bytes)

@@ -1,0 +1,9 @@
+pub mod Draws
+pub mod SeedIds
+pub mod Front
+pub mod Utf8
+pub mod Domain
+pub mod EventDomain
+pub mod RecordDomain
+pub mod Kept
+pub mod Others

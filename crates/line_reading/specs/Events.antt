@@ -1,0 +1,72 @@
+-- What an event's line spells: an event, or the first fault found. The order of the lines of each reader is the order of the format.
+use Rattle.std.specs.Prelude.{ℕ, List, [], ◌∷◌, Option, Some, None, Result, Ok, bytes_eq, codes, option_and_then, if◌then◌else◌}
+use Rattle.serde_json.specs.Data.{Data, Members}
+use Rattle.serde_json.specs.Find.{get, as_object, as_str}
+use Rattle.rand_chacha.specs.ChaCha.{ChaCha}
+use Rattle.call_events.specs.declared.event.Event.{Event}
+use Rattle.call_events.specs.declared.event.Event.TheVariants as on
+use Rattle.line_reading.specs.declared.fault.Fault.{Fault}
+use Rattle.line_reading.specs.declared.fault.Key.{Key}
+use Rattle.line_reading.specs.declared.fault.Key.TheVariants as key
+use Rattle.line_reading.specs.declared.event.EventKind.{EventKind}
+use Rattle.line_reading.specs.declared.event.EventKind.TheVariants as kind
+use Rattle.line_reading.specs.Codes.{key_name}
+use Rattle.line_reading.specs.Batches.{batch_alone_in}
+use Rattle.line_reading.specs.Fields.{◌>>=◌, beside, required, number_at, no_others}
+use Rattle.line_reading.specs.Requests.{framed, value_in, object_in}
+
+-- ---- what happens to a call
+
+abbrev pub kind_of : List ℕ → Option EventKind
+kind_of text =
+    if bytes_eq text (codes "invoke") then Some kind.Invoke else (
+    if bytes_eq text (codes "begin") then Some kind.Begin else (
+    if bytes_eq text (codes "step") then Some kind.Step else (
+    if bytes_eq text (codes "commit") then Some kind.Commit else (
+    if bytes_eq text (codes "reply") then Some kind.Reply else
+    None))))
+
+unfoldable pub kind_at : Key → Data → Result EventKind Fault
+kind_at key d = required key (option_and_then kind_of (option_and_then as_str (get (key_name key) d)))
+
+-- ---- an event
+
+-- A batch is handed in. The keys of its object come after those of the line.
+unfoldable pub invoke_in : List ℕ → ChaCha → ℕ → Data → Members → Result (Event × ChaCha) Fault
+invoke_in domain ids call d ms = do
+  inner ← required key.Batch (get (key_name key.Batch) d)
+  members ← required key.Batch (as_object inner)
+  none ← no_others (key.Event ∷ key.Call ∷ key.Batch ∷ []) ms
+  batch ← batch_alone_in domain ids inner members
+  Ok (on.Invoke call batch.0, batch.1)
+
+-- an event that has nothing but its call
+unfoldable pub event_alone_in : Event → Members → Result Event Fault
+event_alone_in event ms = do
+  none ← no_others (key.Event ∷ key.Call ∷ []) ms
+  Ok event
+
+abbrev pub event_of : List ℕ → ChaCha → EventKind → ℕ → Data → Members → Result (Event × ChaCha) Fault
+event_of domain ids kind.Invoke call d ms = invoke_in domain ids call d ms
+event_of domain ids kind.Begin call d ms = beside ids (event_alone_in (on.Begin call) ms)
+event_of domain ids kind.Step call d ms = beside ids (event_alone_in (on.Step call) ms)
+event_of domain ids kind.Commit call d ms = beside ids (event_alone_in (on.Commit call) ms)
+event_of domain ids kind.Reply call d ms = beside ids (event_alone_in (on.Reply call) ms)
+
+-- Beside the event stands what is left of the ids.
+unfoldable pub event_in : List ℕ → ChaCha → Data → Members → Result (Event × ChaCha) Fault
+event_in domain ids d ms = do
+  kind ← kind_at key.Event d
+  call ← number_at key.Call d
+  event_of domain ids kind call d ms
+
+-- ---- a line
+
+-- Which event a line spells in a trust domain, the line with its LF where it has one. Beside the event stands what is left
+-- of the ids: a line that spells none draws none.
+unfoldable pub spelled_event : List ℕ → ChaCha → List ℕ → Result (Event × ChaCha) Fault
+spelled_event domain ids line = do
+  none ← framed line
+  d ← value_in line
+  ms ← object_in (as_object d)
+  event_in domain ids d ms

@@ -1,0 +1,10 @@
+pub mod Codes
+pub mod Ids
+pub mod Fields
+pub mod Operations
+pub mod Batches
+pub mod Requests
+pub mod Events
+pub mod Records
+pub mod RecordViews
+pub mod Kept

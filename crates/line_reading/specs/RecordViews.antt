@@ -1,0 +1,7 @@
+-- What a record that was read stands for.
+use Rattle.serde_json.specs.View.{view}
+use Rattle.line_reading.specs.declared.record.Record.{Record}
+use Rattle.line_reading.specs.Records.{AuditRecord}
+
+abbrev pub recorded : Record → AuditRecord
+recorded r = record { batch = r.batch; call = r.call; invoked = r.invoked; replied = r.replied; reply = view r.reply }

@@ -1,0 +1,75 @@
+-- What a record's line spells: a call of a schedule, or the first fault found. The order of the lines of each reader is the order of the format.
+use Rattle.std.specs.Prelude.{ℕ, List, [], ◌∷◌, replicate, Option, Result, Ok}
+use Rattle.serde_json.specs.Data.{Data, Members}
+use Rattle.serde_json.specs.Find.{get, as_object}
+use Rattle.rand_chacha.specs.ChaCha.{ChaCha}
+use Rattle.entry_book.specs.Batches.{Batch}
+use Rattle.line_reading.specs.declared.fault.Fault.{Fault}
+use Rattle.line_reading.specs.declared.fault.Key.{Key}
+use Rattle.line_reading.specs.declared.fault.Key.TheVariants as key
+use Rattle.line_reading.specs.declared.ids.MissingId.TheVariants.{Refused}
+use Rattle.line_reading.specs.Codes.{key_name}
+use Rattle.line_reading.specs.Batches.{batch_of, listed_in}
+use Rattle.line_reading.specs.Fields.{◌>>=◌, optional, number_in, number_at, required, no_others, unless_null}
+use Rattle.line_reading.specs.Ids.{first_ids}
+use Rattle.line_reading.specs.Operations.{ops_in}
+use Rattle.line_reading.specs.Requests.{framed, value_in, object_in}
+
+-- ---- a record
+
+-- What is told of a call: its batch, its number, the numbers of its invoke and of its reply among the accepted events, and its reply, which is an object. It says that the call hasn't replied by null.
+pub record AuditRecord : Type 0 where
+  pub batch : Batch
+  pub call : ℕ
+  pub invoked : ℕ
+  pub replied : Option ℕ
+  pub reply : Data
+
+-- ---- its keys
+
+-- a whole number, or null: what is missing is neither
+unfoldable pub number_or_null_at : Key → Data → Result (Option ℕ) Fault
+number_or_null_at key d = do
+  value ← required key (get (key_name key) d)
+  optional (number_in key) (unless_null value)
+
+unfoldable pub object_at : Key → Data → Result Data Fault
+object_at key d = do
+  value ← required key (get (key_name key) d)
+  members ← required key (as_object value)
+  Ok value
+
+-- The ids of which none is drawn: which ones they are makes no difference.
+unfoldable pub no_ids : ChaCha
+no_ids = first_ids (replicate 32 0)
+
+-- The batch of an object that has no further keys: each of its creates has its id.
+unfoldable pub recorded_batch_in : List ℕ → Data → Members → Result Batch Fault
+recorded_batch_in domain d ms = do
+  listed ← listed_in d
+  none ← no_others (key.Ops ∷ key.After ∷ key.Token ∷ []) ms
+  ops ← ops_in 0 Refused no_ids listed.items
+  batch_of domain ops.0 listed.after listed.token
+
+-- The keys of the batch's object come after those of the line.
+unfoldable pub record_in : List ℕ → Data → Members → Result AuditRecord Fault
+record_in domain d ms = do
+  inner ← required key.Batch (get (key_name key.Batch) d)
+  members ← required key.Batch (as_object inner)
+  call ← number_at key.Call d
+  invoked ← number_at key.Invoked d
+  replied ← number_or_null_at key.Replied d
+  reply ← object_at key.Reply d
+  none ← no_others (key.Batch ∷ key.Call ∷ key.Invoked ∷ key.Replied ∷ key.Reply ∷ []) ms
+  batch ← recorded_batch_in domain inner members
+  Ok (record { batch = batch; call = call; invoked = invoked; replied = replied; reply = reply })
+
+-- ---- a line
+
+-- Which record a line spells in a trust domain, the line with its LF where it has one.
+unfoldable pub spelled_record : List ℕ → List ℕ → Result AuditRecord Fault
+spelled_record domain line = do
+  none ← framed line
+  d ← value_in line
+  ms ← object_in (as_object d)
+  record_in domain d ms

@@ -1,0 +1,56 @@
+-- What a line spells: a request, or the first fault found. The order of the lines of each reader is the order of the format.
+use Rattle.std.specs.Prelude.{ℕ, List, [], ◌∷◌, Option, Some, None, Result, Ok, ⊤, length, nat_lt, if◌then◌else◌}
+use Rattle.std.specs.Io.BufRead.{ends_with_byte, strip_last}
+use Rattle.std.specs.Str.{is_utf8}
+use Rattle.serde_json.specs.Data.{Data, Members}
+use Rattle.serde_json.specs.Find.{as_object}
+use Rattle.serde_json.specs.Read.{read}
+use Rattle.rand_chacha.specs.ChaCha.{ChaCha}
+use Rattle.line_reading.specs.declared.fault.Code.TheVariants as code
+use Rattle.line_reading.specs.declared.fault.Fault.{Fault}
+use Rattle.line_reading.specs.declared.fault.Key.TheVariants as key
+use Rattle.line_reading.specs.declared.request.Request.{Request}
+use Rattle.line_reading.specs.Batches.{listed_in, batch_in}
+use Rattle.line_reading.specs.Fields.{◌>>=◌, at_line, tries_at, no_others}
+
+-- ---- a request
+
+-- Beside the request stands what is left of the ids.
+unfoldable pub request_in : List ℕ → ChaCha → Data → Members → Result (Request × ChaCha) Fault
+request_in domain ids d ms = do
+  listed ← listed_in d
+  tries ← tries_at key.Tries d
+  none ← no_others (key.Ops ∷ key.After ∷ key.Token ∷ key.Tries ∷ []) ms
+  batch ← batch_in domain ids listed
+  Ok (record { batch = batch.0; tries = tries }, batch.1)
+
+-- ---- a line
+
+-- how many bytes may stand before a line's LF
+unfoldable pub line_limit : ℕ
+line_limit = 1048576
+
+-- the line isn't too long, and it has its LF
+unfoldable pub framed : List ℕ → Result ⊤ Fault
+framed line = if nat_lt line_limit (length (strip_last 10 line)) then at_line code.LineTooLong else (if ends_with_byte 10 line then Ok tt else at_line code.Truncated)
+
+abbrev pub json_in : Option Data → Result Data Fault
+json_in None = at_line code.NotJson
+json_in (Some d) = Ok d
+
+-- the value that the line's text is
+unfoldable pub value_in : List ℕ → Result Data Fault
+value_in line = json_in (if is_utf8 line then read line else None)
+
+abbrev pub object_in : Option Members → Result Members Fault
+object_in None = at_line code.NotObject
+object_in (Some ms) = Ok ms
+
+-- What a line spells in a trust domain, the line with its LF where it has one. Beside the request stands what is left of
+-- the ids: a line that spells none draws none.
+unfoldable pub spelled : List ℕ → ChaCha → List ℕ → Result (Request × ChaCha) Fault
+spelled domain ids line = do
+  none ← framed line
+  d ← value_in line
+  ms ← object_in (as_object d)
+  request_in domain ids d ms

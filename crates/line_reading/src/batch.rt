@@ -1,0 +1,128 @@
+//! Which batch does an object spell?
+//!
+//! An object that holds a batch has keys of the batch's own, which [`listed_in`] reads; [`batch_in`] then reads the
+//! operations. A line that has further keys looks at them in between; [`batch_alone_in`] reads an object that has none.
+
+ghost use Rattle.std.specs.Prelude.{◌≡◌};
+ghost use Rattle.serde_json.specs.View.{items_view, members_view, view};
+ghost use Rattle.line_reading.specs.Batches.{batch_alone_in, batch_in, batch_of, items_at, listed_in, missing_beside};
+ghost use Rattle.line_reading.specs.Fields.{Gives};
+
+use crate::fault::{Code, Fault, Key};
+use crate::fields::{at_key, no_others, optional_number_at, optional_uuid_at, value_at};
+use crate::ids::{Ids, MissingId};
+use crate::ops::ops_in;
+use entry_book::{Batch, Op, Sequence};
+use serde_json::{Map, Value};
+use spiffe_name::{Failure, TrustDomain};
+use std::alloc::Global;
+use uuid::Uuid;
+
+/// What stands at a batch's own keys.
+#[derive(Drop)]
+pub(crate) struct Listed<'a> {
+    /// The operations, as they are listed.
+    pub(super) items: &'a [Value],
+    /// The least place at which the batch may run.
+    pub(super) after: u64,
+    /// The token under which its commit is kept, where it carries one.
+    pub(super) token: Option<Uuid>,
+}
+
+/// The operations, as an object lists them.
+#[tactic(auto, unfolding(crate::specs::Batches::items_at))]
+fn items_at(object: &Value) -> Result<&[Value], Failure<Fault>>
+    ensures { Gives (λ items. items_view items.now) result (items_at (view object.now)) }
+{
+    match value_at(object, Key::Ops).and_then(Value::as_array) {
+        Some(items) => Ok(items),
+        None => Err(at_key(Code::Field, Key::Ops)),
+    }
+}
+
+/// What an object has at a batch's own keys: the batch may run at every place by default.
+#[tactic(auto, unfolding(crate::specs::Batches::listed_in))]
+pub(crate) fn listed_in(object: &Value) -> Result<Listed<'_>, Failure<Fault>>
+    ensures { Gives (λ listed. record {
+      items = items_view listed.items.now;
+      after = listed.after;
+      token = listed.token;
+    }) result (listed_in (view object.now)) }
+{
+    let items = items_at(object)?;
+    let after = optional_number_at(object, Key::After)?;
+    let token = optional_uuid_at(object, Key::Token)?;
+    Ok(Listed {
+        items,
+        after: after.unwrap_or(0),
+        token,
+    })
+}
+
+/// The batch of these operations.
+pub(super) fn batch_of(
+    alloc: Global,
+    domain: &TrustDomain,
+    ops: Sequence<Op>,
+    after: u64,
+    token: Option<Uuid>,
+) -> Result<Batch, Failure<Fault>>
+    ensures { Gives (λ batch. batch) result (batch_of domain.now ops after token) }
+{
+    match Batch::new(alloc, domain, ops, after, token) {
+        Ok(batch) => Ok(batch),
+        Err(Failure::NoMemory) => Err(Failure::NoMemory),
+        Err(Failure::Refused(refusal)) => Err(Failure::Refused(Fault {
+            code: Code::Batch(refusal),
+            field: None,
+            op: refusal.op(),
+        })),
+    }
+}
+
+/// What becomes of a create without an id in a batch with this token, or with none.
+fn missing_beside(token: &Option<Uuid>) -> MissingId
+    ensures { result ≡ missing_beside token.now }
+{
+    match token {
+        None => MissingId::Drawn,
+        Some(_) => MissingId::Refused,
+    }
+}
+
+/// The batch of what is listed, for a trust domain.
+#[tactic(auto, unfolding(crate::specs::Batches::batch_in))]
+pub(crate) fn batch_in(
+    alloc: Global,
+    domain: &TrustDomain,
+    ids: &mut Ids,
+    listed: &Listed<'_>,
+) -> Result<Batch, Failure<Fault>>
+    ensures { Gives (λ batch. (batch, ids.new)) result
+        (batch_in domain.now ids.old (record {
+          items = items_view listed.now.items.now;
+          after = listed.now.after;
+          token = listed.now.token;
+        })) }
+{
+    let missing = missing_beside(&listed.token);
+    let ops = ops_in(alloc, missing, ids, listed.items)?;
+    batch_of(alloc, domain, ops, listed.after, listed.token)
+}
+
+/// The batch of an object that has no further keys.
+#[tactic(auto, unfolding(crate::specs::Batches::batch_alone_in))]
+pub(crate) fn batch_alone_in(
+    alloc: Global,
+    domain: &TrustDomain,
+    ids: &mut Ids,
+    object: &Value,
+    members: &Map<String, Value>,
+) -> Result<Batch, Failure<Fault>>
+    ensures { Gives (λ batch. (batch, ids.new)) result
+        (batch_alone_in domain.now ids.old (view object.now) (members_view members.now.entries)) }
+{
+    let listed = listed_in(object)?;
+    no_others(members, &[Key::Ops, Key::After, Key::Token])?;
+    batch_in(alloc, domain, ids, &listed)
+}

@@ -1,0 +1,199 @@
+//! Which event does a line spell?
+
+ghost use Rattle.std.specs.Prelude.{◌≡◌, IfOk, MatchResult, OnErr};
+ghost use Rattle.serde_json.specs.View.{members_view, view};
+ghost use Rattle.call_events.specs.Events.{IsFor};
+ghost use Rattle.line_reading.specs.Events.{event_alone_in, event_in, event_of, invoke_in, kind_at, kind_of, spelled_event};
+ghost use Rattle.line_reading.specs.Fields.{Fails, Gives};
+
+use crate::batch::batch_alone_in;
+use crate::fault::{Code, Fault, Key};
+use crate::fields::{at_key, no_others, number_at, value_at};
+use crate::ids::Ids;
+use crate::refusal::LineRefusal;
+use crate::request::{framed, object_in, value_in};
+use call_events::Event;
+use serde_json::{Map, Value};
+use spiffe_name::{Failure, TrustDomain};
+use std::alloc::Global;
+
+/// What happens to a call.
+#[derive(Clone, Copy, Debug, PartialEq, Eq, Drop)]
+pub(crate) enum EventKind {
+    /// Its batch is handed in.
+    Invoke,
+    /// Its work begins.
+    Begin,
+    /// Its work makes its next read.
+    Step,
+    /// Its changes are to be committed.
+    Commit,
+    /// Its answer is given out.
+    Reply,
+}
+
+/// The kind of event that has this name.
+fn kind_of(word: &str) -> Option<EventKind>
+    ensures { result ≡ kind_of word.now }
+{
+    if word == "invoke" {
+        return Some(EventKind::Invoke);
+    }
+    if word == "begin" {
+        return Some(EventKind::Begin);
+    }
+    if word == "step" {
+        return Some(EventKind::Step);
+    }
+    if word == "commit" {
+        return Some(EventKind::Commit);
+    }
+    if word == "reply" {
+        return Some(EventKind::Reply);
+    }
+    None
+}
+
+/// The kind of event that is named at the key.
+#[tactic(auto, unfolding(crate::specs::Events::kind_at))]
+fn kind_at(object: &Value, key: Key) -> Result<EventKind, Failure<Fault>>
+    ensures { Gives (λ kind. kind) result (kind_at key (view object.now)) }
+{
+    match value_at(object, key)
+        .and_then(Value::as_str)
+        .and_then(kind_of)
+    {
+        Some(kind) => Ok(kind),
+        None => Err(at_key(Code::Field, key)),
+    }
+}
+
+/// The call of this number is handed in with a batch, whose keys come after those of the line.
+#[tactic(auto, unfolding(crate::specs::Events::invoke_in))]
+fn invoke_in(
+    alloc: Global,
+    domain: &TrustDomain,
+    ids: &mut Ids,
+    call: u64,
+    object: &Value,
+    members: &Map<String, Value>,
+) -> Result<Event, Failure<Fault>>
+    ensures { Gives (λ event. (event, ids.new)) result
+        (invoke_in domain.now ids.old call (view object.now) (members_view members.now.entries)) }
+{
+    let Some(inner) = value_at(object, Key::Batch) else {
+        return Err(at_key(Code::Field, Key::Batch));
+    };
+    let Some(inner_members) = inner.as_object() else {
+        return Err(at_key(Code::Field, Key::Batch));
+    };
+    no_others(members, &[Key::Event, Key::Call, Key::Batch])?;
+    let batch = batch_alone_in(alloc, domain, ids, inner, inner_members)?;
+    Ok(Event::Invoke(call, batch))
+}
+
+/// An event that has nothing but its call.
+#[tactic(auto, unfolding(crate::specs::Events::event_alone_in))]
+fn event_alone_in(event: Event, members: &Map<String, Value>) -> Result<Event, Failure<Fault>>
+    ensures { Gives (λ e. e) result (event_alone_in event (members_view members.now.entries)) }
+{
+    no_others(members, &[Key::Event, Key::Call])?;
+    Ok(event)
+}
+
+/// What happens to the call of this number.
+fn event_of(
+    alloc: Global,
+    domain: &TrustDomain,
+    ids: &mut Ids,
+    kind: EventKind,
+    call: u64,
+    object: &Value,
+    members: &Map<String, Value>,
+) -> Result<Event, Failure<Fault>>
+    ensures { Gives (λ event. (event, ids.new)) result
+        (event_of domain.now ids.old kind call (view object.now) (members_view members.now.entries)) }
+{
+    match kind {
+        EventKind::Invoke => invoke_in(alloc, domain, ids, call, object, members),
+        EventKind::Begin => event_alone_in(Event::Begin(call), members),
+        EventKind::Step => event_alone_in(Event::Step(call), members),
+        EventKind::Commit => event_alone_in(Event::Commit(call), members),
+        EventKind::Reply => event_alone_in(Event::Reply(call), members),
+    }
+}
+
+/// The event that an object spells.
+#[tactic(auto, unfolding(crate::specs::Events::event_in))]
+fn event_in(
+    alloc: Global,
+    domain: &TrustDomain,
+    ids: &mut Ids,
+    object: &Value,
+    members: &Map<String, Value>,
+) -> Result<Event, Failure<Fault>>
+    ensures { Gives (λ event. (event, ids.new)) result
+        (event_in domain.now ids.old (view object.now) (members_view members.now.entries)) }
+{
+    let kind = kind_at(object, Key::Event)?;
+    let call = number_at(object, Key::Call)?;
+    event_of(alloc, domain, ids, kind, call, object, members)
+}
+
+/// What the line spells.
+#[tactic(auto, unfolding(crate::specs::Events::spelled_event))]
+fn spelled_event(
+    alloc: Global,
+    domain: &TrustDomain,
+    ids: &mut Ids,
+    line: &[u8],
+) -> Result<Event, Failure<Fault>>
+    ensures { Gives (λ event. (event, ids.new)) result (spelled_event domain.now ids.old line.now) }
+{
+    framed(line)?;
+    let value = value_in(alloc, line)?;
+    let members = object_in(&value)?;
+    event_in(alloc, domain, ids, &value, members)
+}
+
+/// What the line spells; if it is no event, the ids stay.
+fn drawn_event(
+    alloc: Global,
+    domain: &TrustDomain,
+    ids: &mut Ids,
+    line: &[u8],
+) -> Result<Event, Failure<Fault>>
+    ensures spelled { Gives (λ event. (event, ids.new)) result (spelled_event domain.now ids.old line.now) }
+    ensures kept { OnErr result (ids.new ≡ ids.old) }
+{
+    let mut after = ids.clone()?;
+    let event = spelled_event(alloc, domain, &mut after, line)?;
+    *ids = after;
+    Ok(event)
+}
+
+/// Reads an event's line: its bytes with its LF where it has one (of a line over the limit the first 1,048,577 bytes are
+/// enough), and its number from 1. Each entry of its batch that comes without an id gets the next of the ids, as
+/// [`read_request`](crate::read_request) gives them. The error is the first fault found, or want of memory, with the line's
+/// number; the ids are then as before.
+pub fn read_event(
+    alloc: Global,
+    domain: &TrustDomain,
+    ids: &mut Ids,
+    line: &[u8],
+    number: u64,
+) -> Result<Event, LineRefusal>
+    ensures spelled { MatchResult result
+        (λ event. spelled_event domain.now ids.old line.now ≡ Ok (event, ids.new))
+        (λ refusal. (refusal.line ≡ number) × Fails refusal.failure (spelled_event domain.now ids.old line.now)) }
+    ensures kept { OnErr result (ids.new ≡ ids.old) }
+    ensures domain { IfOk result (IsFor domain.now) }
+{
+    match drawn_event(alloc, domain, ids, line) {
+        Ok(event) => Ok(event),
+        Err(failure) => Err(LineRefusal {
+            line: number,
+            failure,
+        }),
+    }
+}

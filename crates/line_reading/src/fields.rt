@@ -1,0 +1,97 @@
+//! What does a value spell at its keys?
+//!
+//! A reader for each kind of key. Each answers the value, or the first fault, as the definition of its name says. What
+//! ends in `_in` reads a value for a key, what ends in `_at` the value at the key.
+
+ghost use Rattle.std.specs.Prelude.{◌≡◌, None, Some, option_map};
+ghost use Rattle.serde_json.specs.Find.{get};
+ghost use Rattle.serde_json.specs.View.{members_view, view};
+ghost use Rattle.spiffe_name.specs.declared.refusals.Failure.TheVariants.{Refused};
+ghost use Rattle.line_reading.specs.Codes.{key_name};
+ghost use Rattle.line_reading.specs.Fields.{Gives, HasNoOther, IsLeastOther, given_at, is_one_of, no_others};
+
+mod lists;
+mod names;
+mod numbers;
+mod texts;
+
+use crate::fault::{Code, Fault, Field, Key};
+use entry_book::Text;
+pub(crate) use lists::{
+    optional_domain_at, optional_domains_at, optional_selectors_at, selectors_at,
+};
+pub(crate) use names::{domain_at, id_at, new_uuid_at, optional_id_at, optional_uuid_at, uuid_at};
+pub(crate) use numbers::{number_at, number_in, optional_number_at, tries_at};
+use serde_json::{Map, Value};
+use spiffe_name::Failure;
+pub(crate) use texts::{optional_match_at, optional_mode_at, optional_text_at, text_at};
+
+/// A fault of the line as a whole.
+pub(crate) fn at_line(code: Code) -> Failure<Fault>
+    ensures { result ≡ Refused (record { code = code; field = None; op = None }) }
+{
+    Failure::Refused(Fault {
+        code,
+        field: None,
+        op: None,
+    })
+}
+
+/// A fault at a key.
+pub(crate) fn at_key(code: Code, key: Key) -> Failure<Fault>
+    ensures { result ≡ Refused (record { code = code; field = Some (Field.Known key); op = None }) }
+{
+    Failure::Refused(Fault {
+        code,
+        field: Some(Field::Known(key)),
+        op: None,
+    })
+}
+
+/// The value at a key of an object.
+pub(crate) fn value_at(object: &Value, key: Key) -> Option<&Value>
+    ensures { option_map (λ v. view v.now) result ≡ get (key_name key) (view object.now) }
+{
+    object.get(key.name())
+}
+
+/// The value at an optional key of an object, where null counts as absent.
+fn given_at(object: &Value, key: Key) -> Option<&Value>
+    ensures { option_map (λ v. view v.now) result ≡ given_at key (view object.now) }
+{
+    let value = value_at(object, key)?;
+    if value.is_null() {
+        return None;
+    }
+    Some(value)
+}
+
+/// Is this the name of one of the keys?
+fn is_one_of(keys: &[Key], name: &str) -> bool
+    ensures { result ≡ is_one_of keys.now name.now }
+{
+    keys.iter().any(|key| key.name() == name)
+}
+
+/// Refuses the least key that is none of these, in the order of bytes.
+pub(crate) fn no_others(members: &Map<String, Value>, keys: &[Key]) -> Result<(), Failure<Fault>>
+    ensures { Gives (λ _. tt) result (no_others keys.now (members_view members.now.entries)) }
+{
+    for (name, _) in members {
+        if !is_one_of(keys, name) {
+            return Err(Failure::Refused(Fault {
+                code: Code::Field,
+                field: Some(Field::Unknown(Text::of(name.clone()?))),
+                op: None,
+            }));
+        }
+    }
+    Ok(())
+}
+
+/// Which unknown key is told: of those that an object has, the least in the order of bytes; and none only where it has
+/// none. This function has no code: it is a fact to cite.
+pub fn unknown_keys_law()
+    ensures least { IsLeastOther }
+    ensures none { HasNoOther }
+{}

@@ -1,0 +1,159 @@
+//! Lists of names, each item looked at in its turn.
+
+ghost use Rattle.std.specs.Prelude.{◌≡◌, IfOk};
+ghost use Rattle.serde_json.specs.View.{items_view, view};
+ghost use Rattle.entry_book.specs.Rows.{domain_set};
+ghost use Rattle.line_reading.specs.Fields.{Gives, domain_in, domain_set_in, domains_in, optional_domain_at, optional_domains_at, optional_selectors_at, selector_in, selector_set_in, selectors_at, selectors_in};
+
+use super::names::domain_of;
+use super::texts::text_in;
+use super::{at_key, given_at, value_at};
+use crate::fault::{Code, Fault, Key};
+use entry_book::{DomainSet, Sequence};
+use serde_json::Value;
+use spiffe_name::{Failure, Selector, SelectorSet, TrustDomain};
+use std::alloc::{AllocError, Global};
+
+/// The selector that an item of the key's list is.
+#[tactic(auto, unfolding(crate::specs::Fields::selector_in))]
+fn selector_in(alloc: Global, item: &Value, key: Key) -> Result<Selector, Failure<Fault>>
+    ensures { Gives (λ selector. selector) result (selector_in key (view item.now)) }
+{
+    let text = text_in(item, key)?;
+    match Selector::parse(alloc, text) {
+        Ok(selector) => Ok(selector),
+        Err(Failure::NoMemory) => Err(Failure::NoMemory),
+        Err(Failure::Refused(refusal)) => Err(at_key(Code::Selector(refusal), key)),
+    }
+}
+
+/// The selectors that the items of the key's list are.
+fn selectors_in(
+    alloc: Global,
+    items: &[Value],
+    key: Key,
+) -> Result<Sequence<Selector>, Failure<Fault>>
+    ensures { Gives (λ selectors. selectors) result (selectors_in key (items_view items.now)) }
+{
+    let mut selectors = Sequence::empty(alloc);
+    for item in items {
+        selectors.push(selector_in(alloc, item, key)?)?;
+    }
+    Ok(selectors)
+}
+
+/// The set of the selectors that are listed at the key.
+#[tactic(auto, unfolding(crate::specs::Fields::selectors_at))]
+pub(crate) fn selectors_at(
+    alloc: Global,
+    object: &Value,
+    key: Key,
+) -> Result<SelectorSet, Failure<Fault>>
+    ensures { Gives (λ set. set) result (selectors_at key (view object.now)) }
+{
+    let Some(items) = value_at(object, key).and_then(Value::as_array) else {
+        return Err(at_key(Code::Field, key));
+    };
+    let selectors = selectors_in(alloc, items, key)?;
+    Ok(SelectorSet::of(selectors.into_vec())?)
+}
+
+/// The set of the selectors that the items of the key's list are.
+#[tactic(auto, unfolding(crate::specs::Fields::selector_set_in))]
+fn selector_set_in(alloc: Global, value: &Value, key: Key) -> Result<SelectorSet, Failure<Fault>>
+    ensures { Gives (λ set. set) result (selector_set_in key (view value.now)) }
+{
+    let Some(items) = value.as_array() else {
+        return Err(at_key(Code::Field, key));
+    };
+    let selectors = selectors_in(alloc, items, key)?;
+    Ok(SelectorSet::of(selectors.into_vec())?)
+}
+
+/// The set of the selectors that are listed at an optional key.
+#[tactic(auto, unfolding(crate::specs::Fields::optional_selectors_at))]
+pub(crate) fn optional_selectors_at(
+    alloc: Global,
+    object: &Value,
+    key: Key,
+) -> Result<Option<SelectorSet>, Failure<Fault>>
+    ensures { Gives (λ set. set) result (optional_selectors_at key (view object.now)) }
+{
+    let Some(value) = given_at(object, key) else {
+        return Ok(None);
+    };
+    Ok(Some(selector_set_in(alloc, value, key)?))
+}
+
+/// The trust domain that an item of the key's list is.
+#[tactic(auto, unfolding(crate::specs::Fields::domain_in))]
+fn domain_in(alloc: Global, item: &Value, key: Key) -> Result<TrustDomain, Failure<Fault>>
+    ensures { Gives (λ domain. domain) result (domain_in key (view item.now)) }
+{
+    let text = text_in(item, key)?;
+    domain_of(alloc, text, key)
+}
+
+/// The trust domain at an optional key.
+#[tactic(auto, unfolding(crate::specs::Fields::optional_domain_at))]
+pub(crate) fn optional_domain_at(
+    alloc: Global,
+    object: &Value,
+    key: Key,
+) -> Result<Option<TrustDomain>, Failure<Fault>>
+    ensures { Gives (λ domain. domain) result (optional_domain_at key (view object.now)) }
+{
+    let Some(value) = given_at(object, key) else {
+        return Ok(None);
+    };
+    Ok(Some(domain_in(alloc, value, key)?))
+}
+
+/// The trust domains that the items of the key's list are.
+fn domains_in(
+    alloc: Global,
+    items: &[Value],
+    key: Key,
+) -> Result<Sequence<TrustDomain>, Failure<Fault>>
+    ensures { Gives (λ domains. domains) result (domains_in key (items_view items.now)) }
+{
+    let mut domains = Sequence::empty(alloc);
+    for item in items {
+        domains.push(domain_in(alloc, item, key)?)?;
+    }
+    Ok(domains)
+}
+
+/// The set of these trust domains.
+fn domain_set(alloc: Global, domains: Sequence<TrustDomain>) -> Result<DomainSet, AllocError>
+    ensures { IfOk result (λ set. set ≡ domain_set domains) }
+{
+    Ok(DomainSet::of(alloc, domains.into_vec())?)
+}
+
+/// The set of the trust domains that the items of the key's list are.
+#[tactic(auto, unfolding(crate::specs::Fields::domain_set_in))]
+fn domain_set_in(alloc: Global, value: &Value, key: Key) -> Result<DomainSet, Failure<Fault>>
+    ensures { Gives (λ set. set) result (domain_set_in key (view value.now)) }
+{
+    let Some(items) = value.as_array() else {
+        return Err(at_key(Code::Field, key));
+    };
+    let domains = domains_in(alloc, items, key)?;
+    Ok(domain_set(alloc, domains)?)
+}
+
+/// The set of the trust domains that are listed at an optional key.
+#[tactic(auto, unfolding(crate::specs::Fields::optional_domains_at))]
+pub(crate) fn optional_domains_at(
+    alloc: Global,
+    object: &Value,
+    key: Key,
+) -> Result<Option<DomainSet>, Failure<Fault>>
+    ensures { Gives (λ set. set) result (optional_domains_at key (view object.now)) }
+{
+    let Some(value) = given_at(object, key) else {
+        return Ok(None);
+    };
+    Ok(Some(domain_set_in(alloc, value, key)?))
+}

@@ -1,0 +1,132 @@
+//! Texts, and words of a short list.
+
+ghost use Rattle.std.specs.Prelude.{◌≡◌, option_map};
+ghost use Rattle.serde_json.specs.View.{view};
+ghost use Rattle.line_reading.specs.Fields.{Gives, match_in, match_of, mode_in, mode_of, optional_match_at, optional_mode_at, optional_text_at, text_at, text_in};
+
+use super::{at_key, given_at, value_at};
+use crate::fault::{Code, Fault, Key};
+use entry_book::{DropMode, MatchMode, Text};
+use serde_json::Value;
+use spiffe_name::Failure;
+use std::alloc::Global;
+
+/// The text that a value is.
+#[tactic(auto, unfolding(crate::specs::Fields::text_in))]
+pub(super) fn text_in(value: &Value, key: Key) -> Result<&str, Failure<Fault>>
+    ensures { Gives (λ s. s.now) result (text_in key (view value.now)) }
+{
+    match value.as_str() {
+        Some(text) => Ok(text),
+        None => Err(at_key(Code::Field, key)),
+    }
+}
+
+/// The text at the key.
+#[tactic(auto, unfolding(crate::specs::Fields::text_at))]
+pub(crate) fn text_at(object: &Value, key: Key) -> Result<&str, Failure<Fault>>
+    ensures { Gives (λ s. s.now) result (text_at key (view object.now)) }
+{
+    match value_at(object, key).and_then(Value::as_str) {
+        Some(text) => Ok(text),
+        None => Err(at_key(Code::Field, key)),
+    }
+}
+
+/// The text at an optional key.
+#[tactic(auto, unfolding(crate::specs::Fields::optional_text_at))]
+pub(crate) fn optional_text_at(
+    alloc: Global,
+    object: &Value,
+    key: Key,
+) -> Result<Option<Text>, Failure<Fault>>
+    ensures { Gives (λ text. text) result (optional_text_at key (view object.now)) }
+{
+    let Some(value) = given_at(object, key) else {
+        return Ok(None);
+    };
+    let text = text_in(value, key)?;
+    Ok(Some(Text::of(String::from_str(alloc, text)?)))
+}
+
+/// The mode of this name.
+fn mode_of(word: &str) -> Option<DropMode>
+    ensures { result ≡ mode_of word.now }
+{
+    if word == "restrict" {
+        return Some(DropMode::Restrict);
+    }
+    if word == "delete" {
+        return Some(DropMode::Delete);
+    }
+    if word == "dissociate" {
+        return Some(DropMode::Dissociate);
+    }
+    None
+}
+
+/// The mode that a value names.
+#[tactic(auto, unfolding(crate::specs::Fields::mode_in))]
+fn mode_in(value: &Value, key: Key) -> Result<DropMode, Failure<Fault>>
+    ensures { Gives (λ mode. mode) result (mode_in key (view value.now)) }
+{
+    match value.as_str().and_then(mode_of) {
+        Some(mode) => Ok(mode),
+        None => Err(at_key(Code::Field, key)),
+    }
+}
+
+/// The mode at an optional key.
+#[tactic(auto, unfolding(crate::specs::Fields::optional_mode_at))]
+pub(crate) fn optional_mode_at(object: &Value, key: Key) -> Result<Option<DropMode>, Failure<Fault>>
+    ensures { Gives (λ mode. mode) result (optional_mode_at key (view object.now)) }
+{
+    let Some(value) = given_at(object, key) else {
+        return Ok(None);
+    };
+    Ok(Some(mode_in(value, key)?))
+}
+
+/// The way to match that has this name.
+fn match_of(word: &str) -> Option<MatchMode>
+    ensures { result ≡ match_of word.now }
+{
+    if word == "exact" {
+        return Some(MatchMode::Exact);
+    }
+    if word == "any" {
+        return Some(MatchMode::Any);
+    }
+    if word == "superset" {
+        return Some(MatchMode::Superset);
+    }
+    if word == "subset" {
+        return Some(MatchMode::Subset);
+    }
+    None
+}
+
+/// The way to match that a value names.
+#[tactic(auto, unfolding(crate::specs::Fields::match_in))]
+fn match_in(value: &Value, key: Key) -> Result<MatchMode, Failure<Fault>>
+    ensures { Gives (λ mode. mode) result (match_in key (view value.now)) }
+{
+    match value.as_str().and_then(match_of) {
+        Some(mode) => Ok(mode),
+        None => Err(at_key(Code::Field, key)),
+    }
+}
+
+/// The way to match at an optional key.
+#[tactic(auto, unfolding(crate::specs::Fields::optional_match_at))]
+pub(crate) fn optional_match_at(
+    object: &Value,
+    key: Key,
+) -> Result<Option<MatchMode>, Failure<Fault>>
+    ensures { Gives (λ mode. mode) result (optional_match_at key (view object.now)) }
+{
+    let Some(value) = given_at(object, key) else {
+        return Ok(None);
+    };
+    Ok(Some(match_in(value, key)?))
+}

@@ -1,0 +1,114 @@
+//! Pages of entries.
+
+ghost use Rattle.std.specs.Prelude.{◌≡◌, IfOk};
+ghost use Rattle.serde_json.specs.View.{members_view, view};
+ghost use Rattle.line_reading.specs.Fields.{Gives};
+ghost use Rattle.line_reading.specs.Operations.{filter_in, page_in, selector_match};
+
+use crate::fault::{Code, Fault, Key};
+use crate::fields::{
+    at_key, no_others, number_at, optional_domain_at, optional_id_at, optional_match_at,
+    optional_number_at, optional_selectors_at, optional_uuid_at,
+};
+use entry_book::{Filter, MatchMode, Op, PageQuery, SelectorMatch, Shared};
+use serde_json::{Map, Value};
+use spiffe_name::{Failure, SelectorSet, SpiffeId, TrustDomain};
+use std::alloc::{AllocError, Global};
+
+/// The ID, where it is given, to be shared. The error is want of memory.
+fn shared_id(alloc: Global, given: Option<SpiffeId>) -> Result<Option<Shared<SpiffeId>>, AllocError>
+    ensures { IfOk result (λ shared. shared ≡ given) }
+{
+    match given {
+        Some(id) => Ok(Some(Shared::of(alloc, id)?)),
+        None => Ok(None),
+    }
+}
+
+/// The trust domain, where it is given, to be shared. The error is want of memory.
+fn shared_domain(
+    alloc: Global,
+    given: Option<TrustDomain>,
+) -> Result<Option<Shared<TrustDomain>>, AllocError>
+    ensures { IfOk result (λ shared. shared ≡ given) }
+{
+    match given {
+        Some(domain) => Ok(Some(Shared::of(alloc, domain)?)),
+        None => Ok(None),
+    }
+}
+
+/// The question to selectors: by default an entry's contain those that are given. A way to match without selectors is
+/// refused.
+fn selector_match(
+    alloc: Global,
+    selectors: Option<SelectorSet>,
+    mode: Option<MatchMode>,
+) -> Result<Option<SelectorMatch>, Failure<Fault>>
+    ensures { Gives (λ question. question) result (selector_match selectors mode) }
+{
+    match (selectors, mode) {
+        (None, None) => Ok(None),
+        (None, Some(_)) => Err(at_key(Code::Field, Key::Match)),
+        (Some(selectors), mode) => Ok(Some(SelectorMatch {
+            selectors: Shared::of(alloc, selectors)?,
+            mode: mode.unwrap_or(MatchMode::Superset),
+        })),
+    }
+}
+
+#[tactic(auto, unfolding(crate::specs::Operations::filter_in))]
+fn filter_in(alloc: Global, object: &Value) -> Result<Filter, Failure<Fault>>
+    ensures { Gives (λ filter. filter) result (filter_in (view object.now)) }
+{
+    let parent = optional_id_at(alloc, object, Key::Parent)?;
+    let identity = optional_id_at(alloc, object, Key::Identity)?;
+    let domain = optional_domain_at(alloc, object, Key::Domain)?;
+    let selectors = optional_selectors_at(alloc, object, Key::Selectors)?;
+    let mode = optional_match_at(object, Key::Match)?;
+    let question = selector_match(alloc, selectors, mode)?;
+    Ok(Filter {
+        parent: shared_id(alloc, parent)?,
+        identity: shared_id(alloc, identity)?,
+        domain: shared_domain(alloc, domain)?,
+        selectors: question,
+    })
+}
+
+#[tactic(auto, unfolding(crate::specs::Operations::page_in))]
+pub(super) fn page_in(
+    alloc: Global,
+    object: &Value,
+    members: &Map<String, Value>,
+) -> Result<Op, Failure<Fault>>
+    ensures { Gives (λ op. op) result
+        (page_in (view object.now) (members_view members.now.entries)) }
+{
+    let size = number_at(object, Key::Size)?;
+    let at = optional_number_at(object, Key::At)?;
+    let from = optional_uuid_at(object, Key::From)?;
+    let filter = filter_in(alloc, object)?;
+    no_others(
+        members,
+        &[
+            Key::Op,
+            Key::Size,
+            Key::At,
+            Key::From,
+            Key::Parent,
+            Key::Identity,
+            Key::Domain,
+            Key::Selectors,
+            Key::Match,
+        ],
+    )?;
+    Ok(Op::Page(Shared::of(
+        alloc,
+        PageQuery {
+            size,
+            at,
+            from,
+            filter,
+        },
+    )?))
+}

@@ -1,0 +1,159 @@
+//! Which record of a call does a line spell?
+
+ghost use Rattle.std.specs.Prelude.{◌≡◌, Ok, IfOk, MatchResult};
+ghost use Rattle.serde_json.specs.View.{members_view, view};
+ghost use Rattle.line_reading.specs.Fields.{Fails, Gives};
+ghost use Rattle.line_reading.specs.RecordViews.{recorded};
+ghost use Rattle.line_reading.specs.Records.{number_or_null_at, object_at, record_in, recorded_batch_in, spelled_record};
+
+use crate::batch::{batch_of, listed_in};
+use crate::fault::{Code, Fault, Key};
+use crate::fields::{at_key, no_others, number_at, number_in, value_at};
+use crate::ids::{Ids, MissingId};
+use crate::ops::ops_in;
+use crate::refusal::LineRefusal;
+use crate::request::{framed, object_in, value_in};
+use entry_book::Batch;
+use serde_json::{Map, Value};
+use spiffe_name::{Failure, TrustDomain};
+use std::alloc::Global;
+
+/// What a record tells of a call.
+#[derive(Drop)]
+pub struct Record {
+    /// The batch that was handed in.
+    pub batch: Batch,
+    /// The number of the call.
+    pub call: u64,
+    /// The number of its invoke among the accepted events.
+    pub invoked: u64,
+    /// That of its reply; none where it hasn't replied.
+    pub replied: Option<u64>,
+    /// Its reply, an object.
+    pub reply: Value,
+}
+
+/// The whole number at a key, or none where null stands there: the key can't be missing.
+#[tactic(auto, unfolding(crate::specs::Records::number_or_null_at))]
+fn number_or_null_at(object: &Value, key: Key) -> Result<Option<u64>, Failure<Fault>>
+    ensures { Gives (λ n. n) result (number_or_null_at key (view object.now)) }
+{
+    let Some(value) = value_at(object, key) else {
+        return Err(at_key(Code::Field, key));
+    };
+    if value.is_null() {
+        return Ok(None);
+    }
+    Ok(Some(number_in(value, key)?))
+}
+
+/// The object at a key.
+#[tactic(auto, unfolding(crate::specs::Records::object_at))]
+fn object_at(object: &Value, key: Key) -> Result<&Value, Failure<Fault>>
+    ensures { Gives (λ value. view value.now) result (object_at key (view object.now)) }
+{
+    let Some(value) = value_at(object, key) else {
+        return Err(at_key(Code::Field, key));
+    };
+    if !value.is_object() {
+        return Err(at_key(Code::Field, key));
+    }
+    Ok(value)
+}
+
+/// The batch of an object of a record: each of its creates has its id.
+#[tactic(auto, unfolding(crate::specs::Records::recorded_batch_in, crate::specs::Records::no_ids))]
+fn recorded_batch_in(
+    alloc: Global,
+    domain: &TrustDomain,
+    object: &Value,
+    members: &Map<String, Value>,
+) -> Result<Batch, Failure<Fault>>
+    ensures { Gives (λ batch. batch) result
+        (recorded_batch_in domain.now (view object.now) (members_view members.now.entries)) }
+{
+    let listed = listed_in(object)?;
+    no_others(members, &[Key::Ops, Key::After, Key::Token])?;
+    let mut ids = Ids::of_seed([0; 32]);
+    let ops = ops_in(alloc, MissingId::Refused, &mut ids, listed.items)?;
+    batch_of(alloc, domain, ops, listed.after, listed.token)
+}
+
+/// The record that an object spells.
+#[tactic(auto, unfolding(crate::specs::Records::record_in))]
+fn record_in(
+    alloc: Global,
+    domain: &TrustDomain,
+    object: &Value,
+    members: &Map<String, Value>,
+) -> Result<Record, Failure<Fault>>
+    ensures { Gives recorded result
+        (record_in domain.now (view object.now) (members_view members.now.entries)) }
+{
+    let Some(inner) = value_at(object, Key::Batch) else {
+        return Err(at_key(Code::Field, Key::Batch));
+    };
+    let Some(inner_members) = inner.as_object() else {
+        return Err(at_key(Code::Field, Key::Batch));
+    };
+    let call = number_at(object, Key::Call)?;
+    let invoked = number_at(object, Key::Invoked)?;
+    let replied = number_or_null_at(object, Key::Replied)?;
+    let reply = object_at(object, Key::Reply)?;
+    no_others(
+        members,
+        &[
+            Key::Batch,
+            Key::Call,
+            Key::Invoked,
+            Key::Replied,
+            Key::Reply,
+        ],
+    )?;
+    let batch = recorded_batch_in(alloc, domain, inner, inner_members)?;
+    Ok(Record {
+        batch,
+        call,
+        invoked,
+        replied,
+        reply: reply.clone()?,
+    })
+}
+
+/// What the line spells.
+#[tactic(auto, unfolding(crate::specs::Records::spelled_record))]
+fn spelled_record(
+    alloc: Global,
+    domain: &TrustDomain,
+    line: &[u8],
+) -> Result<Record, Failure<Fault>>
+    ensures { Gives recorded result (spelled_record domain.now line.now) }
+{
+    framed(line)?;
+    let value = value_in(alloc, line)?;
+    let members = object_in(&value)?;
+    record_in(alloc, domain, &value, members)
+}
+
+/// Reads a record's line: its bytes with its LF where it has one (of a line over the limit the first 1,048,577 bytes are
+/// enough), and its number from 1. Each create of its batch has to have its id. The error is the first fault found, or want
+/// of memory, with the line's number.
+pub fn read_record(
+    alloc: Global,
+    domain: &TrustDomain,
+    line: &[u8],
+    number: u64,
+) -> Result<Record, LineRefusal>
+    ensures spelled { MatchResult result
+        (λ told. spelled_record domain.now line.now ≡ Ok (recorded told))
+        (λ refusal. (refusal.line ≡ number) × Fails refusal.failure (spelled_record domain.now line.now)) }
+    ensures domain { IfOk result (λ told. told.batch.domain ≡ domain.now) }
+{
+    match spelled_record(alloc, domain, line) {
+        Ok(told) => Ok(told),
+        Err(failure) => Err(LineRefusal {
+            line: number,
+            failure,
+        }),
+    }
+}

@@ -1,8 +1,0 @@
-use Rattle.std.proofs.Common.{arith, refl}
-use Rattle.std.proofs.lemmas.Grind.{common_steps}
-use Rattle.reg_lines.proofs.Puts.{Puts-handed}
-use Rattle.reg_lines.proofs.devices.output.Output.flush_sink.Goals as goal
-
-pub returns-then-not-self-clause-put : goal.returns-then-not-self-clause-put
-returns-then-not-self-clause-put g c =
-    rw (← c.self.view_is) (Puts-handed _ _ c.flush.result (grind (arith, common_steps)) (grind (arith, common_steps)) refl c.flush.ensures.bytes)

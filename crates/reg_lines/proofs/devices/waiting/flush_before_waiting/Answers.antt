@@ -1,5 +1,0 @@
-use Rattle.reg_lines.proofs.Puts.{Puts-nil}
-use Rattle.reg_lines.proofs.devices.waiting.flush_before_waiting.Goals as goal
-
-pub returns-else-not-has_line-clause-put : goal.returns-else-not-has_line-clause-put
-returns-else-not-has_line-clause-put g c = Puts-nil c.args.output.now

@@ -1,9 +1,0 @@
-use Rattle.std.proofs.Common.{◌≡◌, drop}
-use Rattle.serde_json.specs.View.{items_view}
-use Rattle.reg_lines.specs.Fields.{domains_in}
-use Rattle.reg_lines.proofs.Front.{with_front}
-use Rattle.reg_lines.proofs.reading.fields.lists.domains_in.Given as goal
-
-abbrev pub invariant-loop-item : goal.invariant-loop-item
-invariant-loop-item l =
-    with_front l.domains (domains_in l.key (items_view (drop l.item-index l.items))) ≡ domains_in l.key (items_view l.items)

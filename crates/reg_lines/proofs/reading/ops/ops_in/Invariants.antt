@@ -1,9 +1,0 @@
-use Rattle.std.proofs.Common.{◌≡◌, drop}
-use Rattle.serde_json.specs.View.{items_view}
-use Rattle.reg_lines.specs.Operations.{ops_in}
-use Rattle.reg_lines.proofs.Front.{with_ops}
-use Rattle.reg_lines.proofs.reading.ops.ops_in.Given as goal
-
-abbrev pub invariant-loop-index : goal.invariant-loop-index
-invariant-loop-index l =
-    with_ops l.ops (ops_in l.index l.fn.missing l.ids (items_view (drop l.index l.items))) ≡ ops_in 0 l.fn.missing l.fn.ids (items_view l.items)

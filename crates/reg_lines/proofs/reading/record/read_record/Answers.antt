@@ -1,6 +1,0 @@
-use Rattle.reg_lines.specs.RecordViews.{recorded}
-use Rattle.reg_lines.proofs.RecordDomain.{spelled_record-domain}
-use Rattle.reg_lines.proofs.reading.record.read_record.Goals as goal
-
-pub returns-in-Ok-clause-domain : goal.returns-in-Ok-clause-domain
-returns-in-Ok-clause-domain c = spelled_record-domain c.args.domain.now c.args.line.now (recorded c.in-Ok.told) c.in-Ok.ensures

@@ -1,5 +1,0 @@
-use Rattle.reg_lines.proofs.Domain.{spelled-domain}
-use Rattle.reg_lines.proofs.reading.request.read_request.Goals as goal
-
-pub returns-in-Ok-clause-domain : goal.returns-in-Ok-clause-domain
-returns-in-Ok-clause-domain c = spelled-domain c.args.domain.now c.args.ids.now _ c.args.line.now c.in-Ok.request c.in-Ok.ensures.spelled
