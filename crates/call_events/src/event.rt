@@ -1,8 +1,6 @@
-//! What happens to a call, and what is answered?
+//! What happens to a call, and why is it refused?
 
-use batch_work::Status;
-use entry_book::{Batch, Limit, Reply, Shared};
-use version_book::Mark;
+use entry_book::Batch;
 
 /// One event: what happens to the call of a number.
 #[derive(Drop)]
@@ -17,41 +15,6 @@ pub enum Event {
     Commit(u64),
     /// The call's answer is given out.
     Reply(u64),
-}
-
-/// What a commit comes to.
-#[derive(Clone, Copy, Debug, PartialEq, Eq)]
-pub enum Decision {
-    /// The changes are made.
-    Committed,
-    /// A batch that was committed since the call's begin wrote what the call has read.
-    Conflict,
-    /// This limit doesn't let the changes in.
-    Full(Limit),
-}
-
-/// What a call is answered.
-#[derive(Drop)]
-pub enum Told {
-    /// The plain book's reply.
-    Replied(Shared<Reply>),
-    /// A conflict, found at this place.
-    Conflicted(u64),
-}
-
-/// The answer to an event that was accepted. The first number is the call's.
-#[derive(Drop)]
-pub enum Done {
-    /// It waits for its begin.
-    Invoked(u64),
-    /// It began at this place, and now waits for this.
-    Begun(u64, u64, Status),
-    /// It read what this mark names, and now waits for this.
-    Stepped(u64, Mark, Status),
-    /// Its commit came to this, at this place.
-    Decided(u64, Decision, u64),
-    /// Its answer.
-    Answered(u64, Told),
 }
 
 /// Why an event is refused.

@@ -5,8 +5,8 @@ use Rattle.std.specs.Map.{lookup, set_value}
 use Rattle.entry_book.specs.Batches.{Batch, IsMadeFor}
 use Rattle.commit_head.specs.Heads.{Head, Stays}
 use Rattle.commit_head.specs.Journals.{batches_of}
-use Rattle.call_events.specs.declared.event.Decision.{Decision}
-use Rattle.call_events.specs.declared.event.Done.TheVariants.{Decided}
+use Rattle.call_answers.specs.declared.answer.Decision.{Decision}
+use Rattle.call_answers.specs.declared.answer.Done.TheVariants.{Decided}
 use Rattle.call_events.specs.declared.event.EventRefusal.{EventRefusal}
 use Rattle.call_events.specs.declared.event.EventRefusal.TheVariants.{NotNow, UnknownCall}
 use Rattle.call_machine.specs.declared.slot.Slot.{Slot}

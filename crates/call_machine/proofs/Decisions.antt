@@ -11,7 +11,7 @@ use Rattle.batch_work.specs.Working.{Work, status_of}
 use Rattle.commit_head.specs.Heads.{BeganOn, Fits, Head, IsDue as IsDueThere, IsItemOf, Prepared, Stays, newest_of, place_of}
 use Rattle.commit_head.specs.Journals.{batches_of}
 use Rattle.commit_head.proofs.Journals.{joins_on_books}
-use Rattle.call_events.specs.declared.event.Decision.TheVariants as to
+use Rattle.call_answers.specs.declared.answer.Decision.TheVariants as to
 use Rattle.call_machine.specs.declared.slot.End.{End}
 use Rattle.call_machine.specs.declared.slot.End.TheVariants as is
 use Rattle.call_machine.specs.Calls.{answered, committed, conflict}

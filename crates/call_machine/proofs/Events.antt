@@ -12,7 +12,7 @@ use Rattle.entry_book.specs.History.{is_committed, books_of, reply_to}
 use Rattle.batch_work.specs.Reads.{footprint_of, awaits_commit}
 use Rattle.call_events.specs.declared.event.Event.{Event}
 use Rattle.call_events.specs.declared.event.Event.TheVariants.{Invoke, Begin, Step, Commit, Reply as ReplyEvent}
-use Rattle.call_events.specs.declared.event.Done.{Done}
+use Rattle.call_answers.specs.declared.answer.Done.{Done}
 use Rattle.call_machine.specs.Calls.{running, ready, answered, committed, conflict, Call, State, first_state, moved, told_of, stage_settled, stage_on}
 use Rattle.call_machine.specs.Machine.{Invokes, Begins, Steps, CommitsNow, IsFull, Conflicts, Commits, Replies, Accepts}
 use Rattle.call_machine.proofs.Rows.{call_within, call_none}

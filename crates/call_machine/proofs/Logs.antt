@@ -7,11 +7,11 @@ use Rattle.entry_book.specs.Batches.{Batch}
 use Rattle.entry_book.specs.declared.reply.Reply.{Reply}
 use Rattle.call_events.specs.declared.event.Event.{Event}
 use Rattle.call_events.specs.declared.event.Event.TheVariants.{Invoke, Begin, Step, Commit, Reply as ReplyEvent}
-use Rattle.call_events.specs.declared.event.Decision.{Decision}
-use Rattle.call_events.specs.declared.event.Decision.TheVariants.{Conflict, Committed, Full}
-use Rattle.call_events.specs.declared.event.Done.{Done}
-use Rattle.call_events.specs.declared.event.Done.TheVariants.{Invoked, Begun, Stepped, Decided, Answered}
-use Rattle.call_events.specs.declared.event.Told.{Told}
+use Rattle.call_answers.specs.declared.answer.Decision.{Decision}
+use Rattle.call_answers.specs.declared.answer.Decision.TheVariants.{Conflict, Committed, Full}
+use Rattle.call_answers.specs.declared.answer.Done.{Done}
+use Rattle.call_answers.specs.declared.answer.Done.TheVariants.{Invoked, Begun, Stepped, Decided, Answered}
+use Rattle.call_answers.specs.declared.answer.Told.{Told}
 use Rattle.batch_work.specs.declared.status.Status.{Status}
 use Rattle.call_machine.specs.Schedules.{Happened, At, HandedIn, BatchesOf, commit_of, commits_in, IsDueConflict, ConflictsAreDue, Different}
 use Rattle.call_machine.specs.Calls.{Stage, waiting, running, ready, answered, committed, conflict, Call, State, with_call, told_of}

@@ -8,10 +8,10 @@ use Rattle.entry_book.specs.Batches.{Batch}
 use Rattle.entry_book.specs.declared.reply.Reply.{Reply}
 use Rattle.entry_book.specs.History.{books_of, books_after, reply_to, commits, first_books}
 use Rattle.call_events.specs.declared.event.Event.TheVariants.{Commit, Reply as ReplyEvent}
-use Rattle.call_events.specs.declared.event.Decision.TheVariants.{Committed, Conflict}
-use Rattle.call_events.specs.declared.event.Done.{Done}
-use Rattle.call_events.specs.declared.event.Done.TheVariants.{Decided, Answered}
-use Rattle.call_events.specs.declared.event.Told.TheVariants.{Conflicted, Replied}
+use Rattle.call_answers.specs.declared.answer.Decision.TheVariants.{Committed, Conflict}
+use Rattle.call_answers.specs.declared.answer.Done.{Done}
+use Rattle.call_answers.specs.declared.answer.Done.TheVariants.{Decided, Answered}
+use Rattle.call_answers.specs.declared.answer.Told.TheVariants.{Conflicted, Replied}
 use Rattle.call_machine.specs.Schedules.{ConflictsAreOver, ConflictsWereMet, Happened, At, IsListed, Different, IsSerial, IsReplyOf, RunsFrom, IsLegal, StandsBefore, IsStrict, OneBatch, Headline}
 use Rattle.call_machine.specs.Calls.{Stage, waiting, running, ready, answered, committed, conflict, Call, State, told_of}
 use Rattle.call_machine.specs.Laws.{is_listed_at, is_listed, AscendingTurns, number_of, number_in, HoldReplies, IsOrder}

@@ -2,7 +2,7 @@
 use Rattle.std.proofs.Common.{◌≡◌, ◌+◌, ◌≤◌, List, [], ◌∷◌, ◌++◌, Ok, Err, refl, sym, ap, subst, ⊎_elim, arith}
 use Rattle.call_events.specs.declared.event.Event.{Event}
 use Rattle.call_events.specs.declared.event.Event.TheVariants.{Invoke, Begin, Step, Commit, Reply as ReplyEvent}
-use Rattle.call_events.specs.declared.event.Done.{Done}
+use Rattle.call_answers.specs.declared.answer.Done.{Done}
 use Rattle.call_machine.specs.Schedules.{Answer}
 use Rattle.call_machine.specs.Calls.{State}
 use Rattle.call_machine.specs.Laws.{EventLeaves, RunsGoOn}

@@ -11,12 +11,12 @@ use Rattle.entry_book.proofs.Sets.{within_left, within_right, from_within_append
 use Rattle.batch_work.specs.Reads.{footprint_of, awaits_commit}
 use Rattle.call_events.specs.declared.event.Event.{Event}
 use Rattle.call_events.specs.declared.event.Event.TheVariants.{Invoke, Begin, Step, Commit, Reply as ReplyEvent}
-use Rattle.call_events.specs.declared.event.Decision.{Decision}
-use Rattle.call_events.specs.declared.event.Decision.TheVariants.{Conflict, Committed, Full}
-use Rattle.call_events.specs.declared.event.Done.{Done}
-use Rattle.call_events.specs.declared.event.Done.TheVariants.{Invoked, Begun, Stepped, Decided, Answered}
-use Rattle.call_events.specs.declared.event.Told.{Told}
-use Rattle.call_events.specs.declared.event.Told.TheVariants.{Conflicted, Replied}
+use Rattle.call_answers.specs.declared.answer.Decision.{Decision}
+use Rattle.call_answers.specs.declared.answer.Decision.TheVariants.{Conflict, Committed, Full}
+use Rattle.call_answers.specs.declared.answer.Done.{Done}
+use Rattle.call_answers.specs.declared.answer.Done.TheVariants.{Invoked, Begun, Stepped, Decided, Answered}
+use Rattle.call_answers.specs.declared.answer.Told.{Told}
+use Rattle.call_answers.specs.declared.answer.Told.TheVariants.{Conflicted, Replied}
 use Rattle.batch_work.specs.declared.status.Status.{Status}
 use Rattle.call_machine.specs.Schedules.{Happened, At, HandedIn, BatchesOf, commit_of, commits_in, IsDueConflict}
 use Rattle.call_machine.specs.Calls.{Stage, waiting, running, ready, answered, committed, conflict, Call, State, first_state, with_call, told_of, stage_settled, stage_on, status_at}

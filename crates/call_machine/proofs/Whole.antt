@@ -3,8 +3,8 @@ use Rattle.std.proofs.Common.{List, [], ◌∷◌, ◌++◌, Ok, Err, sym, subst
 use Rattle.std.proofs.lemmas.List.{append-nil}
 use Rattle.call_events.specs.declared.event.Event.{Event}
 use Rattle.call_events.specs.declared.event.Event.TheVariants.{Reply as ReplyEvent}
-use Rattle.call_events.specs.declared.event.Done.TheVariants.{Answered}
-use Rattle.call_events.specs.declared.event.Told.{Told}
+use Rattle.call_answers.specs.declared.answer.Done.TheVariants.{Answered}
+use Rattle.call_answers.specs.declared.answer.Told.{Told}
 use Rattle.call_machine.specs.Schedules.{Answer, At, Happened, accepted}
 use Rattle.call_machine.specs.Calls.{Call, State, first_state, told_of}
 use Rattle.call_machine.specs.Machine.{Runs}

@@ -8,8 +8,8 @@ use Rattle.entry_book.specs.History.{books_of, reply_to}
 use Rattle.batch_work.specs.Reads.{footprint_of, awaits_commit}
 use Rattle.batch_work.specs.declared.status.Status.{Status}
 use Rattle.batch_work.specs.declared.status.Status.TheVariants.{New, Running, Ready, Settled}
-use Rattle.call_events.specs.declared.event.Told.{Told}
-use Rattle.call_events.specs.declared.event.Told.TheVariants.{Replied, Conflicted}
+use Rattle.call_answers.specs.declared.answer.Told.{Told}
+use Rattle.call_answers.specs.declared.answer.Told.TheVariants.{Replied, Conflicted}
 
 -- Where a call stands. Its base is the place that its begin found.
 pub data Stage : Type 0 where

@@ -15,9 +15,9 @@ use Rattle.batch_work.specs.Working.{Base, Work, footprint_there, awaits_there, 
 use Rattle.commit_head.specs.declared.item.Item.{Item}
 use Rattle.commit_head.specs.Heads.{Head, IsAppended, IsJournal, place_of}
 use Rattle.commit_head.specs.Journals.{Leads, batches_of, first_state}
-use Rattle.call_events.specs.declared.event.Decision.{Decision}
-use Rattle.call_events.specs.declared.event.Decision.TheVariants as to
-use Rattle.call_events.specs.declared.event.Done.{Done}
+use Rattle.call_answers.specs.declared.answer.Decision.{Decision}
+use Rattle.call_answers.specs.declared.answer.Decision.TheVariants as to
+use Rattle.call_answers.specs.declared.answer.Done.{Done}
 use Rattle.call_events.specs.declared.event.Event.{Event}
 use Rattle.call_events.specs.declared.event.EventRefusal.{EventRefusal}
 use Rattle.call_events.specs.declared.event.EventRefusal.TheVariants.{NotNow, NoMemory}

@@ -1,9 +1,9 @@
 -- What a machine tells of a call.
 use Rattle.std.specs.Prelude.{◌≡◌, ⊤, ℕ, Option, Some, None}
 use Rattle.entry_book.specs.declared.reply.Reply.{Reply}
-use Rattle.call_events.specs.declared.call.CallAnswer.{CallAnswer}
-use Rattle.call_events.specs.declared.call.CallAnswer.TheVariants as is
-use Rattle.call_events.specs.declared.call.KnownCall.{KnownCall}
+use Rattle.call_answers.specs.declared.call.CallAnswer.{CallAnswer}
+use Rattle.call_answers.specs.declared.call.CallAnswer.TheVariants as is
+use Rattle.call_answers.specs.declared.call.KnownCall.{KnownCall}
 use Rattle.call_machine.specs.Calls.{Stage, waiting, running, ready, answered, committed, conflict, Call}
 
 -- its reply, once it has one

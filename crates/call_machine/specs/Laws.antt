@@ -8,10 +8,10 @@ use Rattle.entry_book.specs.History.{books_after, first_books, reply_to}
 use Rattle.call_events.specs.declared.event.Event.{Event}
 use Rattle.call_events.specs.declared.event.Event.TheVariants.{Invoke}
 use Rattle.call_events.specs.declared.event.Event.TheVariants as on
-use Rattle.call_events.specs.declared.event.Done.{Done}
-use Rattle.call_events.specs.declared.event.Done.TheVariants.{Answered}
-use Rattle.call_events.specs.declared.event.Told.{Told}
-use Rattle.call_events.specs.declared.event.Told.TheVariants.{Replied}
+use Rattle.call_answers.specs.declared.answer.Done.{Done}
+use Rattle.call_answers.specs.declared.answer.Done.TheVariants.{Answered}
+use Rattle.call_answers.specs.declared.answer.Told.{Told}
+use Rattle.call_answers.specs.declared.answer.Told.TheVariants.{Replied}
 use Rattle.call_machine.specs.Schedules.{Answer, At, Happened, Headline, accepted}
 use Rattle.call_machine.specs.Calls.{Stage, waiting, running, ready, answered, committed, conflict, Call, State, call_at, first_state, told_of}
 use Rattle.call_machine.specs.Machine.{Applies, Runs}

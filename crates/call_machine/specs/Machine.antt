@@ -13,10 +13,10 @@ use Rattle.call_events.specs.Events.{IsFor}
 use Rattle.call_events.specs.declared.event.Event.{Event}
 use Rattle.call_events.specs.declared.event.Event.TheVariants.{Invoke, Begin, Step, Commit}
 use Rattle.call_events.specs.declared.event.Event.TheVariants as on
-use Rattle.call_events.specs.declared.event.Decision.TheVariants as is
-use Rattle.call_events.specs.declared.event.Done.{Done}
-use Rattle.call_events.specs.declared.event.Done.TheVariants.{Invoked, Begun, Stepped, Decided, Answered}
-use Rattle.call_events.specs.declared.event.Told.{Told}
+use Rattle.call_answers.specs.declared.answer.Decision.TheVariants as is
+use Rattle.call_answers.specs.declared.answer.Done.{Done}
+use Rattle.call_answers.specs.declared.answer.Done.TheVariants.{Invoked, Begun, Stepped, Decided, Answered}
+use Rattle.call_answers.specs.declared.answer.Told.{Told}
 use Rattle.call_events.specs.declared.event.EventRefusal.{EventRefusal}
 use Rattle.call_events.specs.declared.event.EventRefusal.TheVariants.{CallTaken, UnknownCall, NotNow, TooManyCalls, NoMemory}
 use Rattle.call_events.specs.declared.event.RefusedEvent.{RefusedEvent}

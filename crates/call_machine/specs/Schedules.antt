@@ -15,10 +15,10 @@ use Rattle.batch_work.specs.declared.status.Status.{Status}
 use Rattle.call_events.specs.declared.event.Event.{Event}
 use Rattle.call_events.specs.declared.event.Event.TheVariants.{Invoke, Begin, Commit}
 use Rattle.call_events.specs.declared.event.Event.TheVariants as on
-use Rattle.call_events.specs.declared.event.Decision.TheVariants as is
-use Rattle.call_events.specs.declared.event.Done.{Done}
-use Rattle.call_events.specs.declared.event.Done.TheVariants.{Invoked, Begun, Stepped, Decided, Answered}
-use Rattle.call_events.specs.declared.event.Told.TheVariants.{Replied, Conflicted}
+use Rattle.call_answers.specs.declared.answer.Decision.TheVariants as is
+use Rattle.call_answers.specs.declared.answer.Done.{Done}
+use Rattle.call_answers.specs.declared.answer.Done.TheVariants.{Invoked, Begun, Stepped, Decided, Answered}
+use Rattle.call_answers.specs.declared.answer.Told.TheVariants.{Replied, Conflicted}
 use Rattle.call_events.specs.declared.event.RefusedEvent.{RefusedEvent}
 
 -- ---- a schedule

@@ -22,7 +22,6 @@ pub mod laws;
 mod machine;
 mod slot;
 
-pub use call_events::{
-    CallAnswer, Decision, Done, Event, EventRefusal, KnownCall, RefusedEvent, Told,
-};
+pub use call_answers::{CallAnswer, Decision, Done, KnownCall, Told};
+pub use call_events::{Event, EventRefusal, RefusedEvent};
 pub use machine::Machine;

@@ -5,7 +5,8 @@ ghost use Rattle.call_machine.specs.Kept.{calls_kept, with_event};
 ghost use Rattle.call_machine.specs.Laws.{is_listed, number_in, turn_of};
 
 use crate::slot::Slot;
-use call_events::{Done, Event, EventRefusal, KnownCall, RefusedEvent};
+use call_answers::{Done, KnownCall};
+use call_events::{Event, EventRefusal, RefusedEvent};
 use commit_head::Head;
 use entry_book::Batch;
 use indexmap::IndexMap;

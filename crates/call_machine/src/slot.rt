@@ -6,7 +6,8 @@ ghost use Rattle.commit_head.specs.Heads.{Fits, Stays};
 ghost use Rattle.call_machine.specs.Kept.{Finishes, IsDecided, IsWhole, RestsOn, domain_of};
 
 use batch_work::{Status, Work};
-use call_events::{CallAnswer, Decision, EventRefusal, KnownCall, Told};
+use call_answers::{CallAnswer, Decision, KnownCall, Told};
+use call_events::EventRefusal;
 use commit_head::{Commit, Head, Prepared};
 use entry_book::{Batch, Outcome, Refusal, Reply, Shared};
 use std::alloc::{AllocError, Global};

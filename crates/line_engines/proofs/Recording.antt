@@ -18,15 +18,15 @@ use Rattle.call_machine.specs.Laws.{HoldReplies, IsOrder, IsStamped}
 use Rattle.call_events.specs.Events.{IsFor}
 use Rattle.call_machine.specs.Machine.{AreFor, Runs}
 use Rattle.call_machine.specs.Schedules.{Answer, At, Different, EndedBefore, GaveOut, HandedIn, Happened, Headline, IsListed, IsReplyOf, OneBatch, RunsFrom, StandsBefore, accepted}
-use Rattle.call_events.specs.declared.call.CallAnswer.{CallAnswer}
-use Rattle.call_events.specs.declared.call.CallAnswer.TheVariants as is
-use Rattle.call_events.specs.declared.call.KnownCall.{KnownCall}
-use Rattle.call_events.specs.declared.event.Done.TheVariants.{Answered}
+use Rattle.call_answers.specs.declared.call.CallAnswer.{CallAnswer}
+use Rattle.call_answers.specs.declared.call.CallAnswer.TheVariants as is
+use Rattle.call_answers.specs.declared.call.KnownCall.{KnownCall}
+use Rattle.call_answers.specs.declared.answer.Done.TheVariants.{Answered}
 use Rattle.call_events.specs.declared.event.Event.{Event}
 use Rattle.call_events.specs.declared.event.Event.TheVariants.{Invoke}
 use Rattle.call_events.specs.declared.event.Event.TheVariants as on
-use Rattle.call_events.specs.declared.event.Told.{Told}
-use Rattle.call_events.specs.declared.event.Told.TheVariants.{Replied}
+use Rattle.call_answers.specs.declared.answer.Told.{Told}
+use Rattle.call_answers.specs.declared.answer.Told.TheVariants.{Replied}
 use Rattle.call_machine.proofs.Events.{first_sound}
 use Rattle.call_machine.proofs.Line.{is_begun}
 use Rattle.call_machine.proofs.Rows.{call_within, same_call}

@@ -9,11 +9,11 @@ use Rattle.entry_book.specs.History.{books_after, first_books, is_committed, rep
 use Rattle.call_machine.specs.Calls.{Call, call_at, told_of}
 use Rattle.call_machine.specs.Laws.{IsOrder}
 use Rattle.call_machine.specs.Schedules.{At, Happened, Headline, accepted}
-use Rattle.call_events.specs.declared.event.Done.{Done}
-use Rattle.call_events.specs.declared.event.Done.TheVariants.{Answered}
+use Rattle.call_answers.specs.declared.answer.Done.{Done}
+use Rattle.call_answers.specs.declared.answer.Done.TheVariants.{Answered}
 use Rattle.call_events.specs.declared.event.Event.TheVariants.{Invoke}
 use Rattle.call_events.specs.declared.event.Event.TheVariants as on
-use Rattle.call_events.specs.declared.event.Told.TheVariants.{Replied}
+use Rattle.call_answers.specs.declared.answer.Told.TheVariants.{Replied}
 use Rattle.reg_lines.specs.Lines.{most_lines}
 use Rattle.reg_lines.specs.RecordLines.{record_json}
 use Rattle.reg_lines.specs.Runs.{IsRun, first_lines}

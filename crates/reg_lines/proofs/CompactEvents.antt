@@ -8,11 +8,11 @@ use Rattle.entry_book.specs.Codes.{limit_code}
 use Rattle.version_book.specs.declared.mark.MarkKind.{MarkKind}
 use Rattle.batch_work.specs.declared.status.Status.{Status}
 use Rattle.call_events.specs.Events.{event_code}
-use Rattle.call_events.specs.declared.event.Decision.{Decision}
-use Rattle.call_events.specs.declared.event.Decision.TheVariants as is
-use Rattle.call_events.specs.declared.event.Done.TheVariants.{Invoked, Begun, Stepped, Decided, Answered}
-use Rattle.call_events.specs.declared.event.Told.{Told}
-use Rattle.call_events.specs.declared.event.Told.TheVariants.{Replied, Conflicted}
+use Rattle.call_answers.specs.declared.answer.Decision.{Decision}
+use Rattle.call_answers.specs.declared.answer.Decision.TheVariants as is
+use Rattle.call_answers.specs.declared.answer.Done.TheVariants.{Invoked, Begun, Stepped, Decided, Answered}
+use Rattle.call_answers.specs.declared.answer.Told.{Told}
+use Rattle.call_answers.specs.declared.answer.Told.TheVariants.{Replied, Conflicted}
 use Rattle.reg_lines.specs.EventAnswers.{begun_json, commit_json, decided_json, event_refusal_json, full_json, invoked_json, mark_json, order_json, status_json, stepped_json, told_json}
 use Rattle.reg_lines.specs.EventValues.{begun_data, commit_data, decided_data, full_data, invoked_data, stepped_data, told_data}
 use Rattle.reg_lines.specs.EventValues.{EventsAreCompact, EventsHaveNoFloat, EventRefusalsAreCompact, EventRefusalsHaveNoFloat, OrdersAreCompact, OrdersHaveNoFloat}

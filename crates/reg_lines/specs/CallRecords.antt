@@ -1,8 +1,8 @@
 -- Which record a call of a machine has.
 use Rattle.std.specs.Prelude.{ℕ, Option, Some, None}
-use Rattle.call_events.specs.declared.call.CallAnswer.{CallAnswer}
-use Rattle.call_events.specs.declared.call.CallAnswer.TheVariants as is
-use Rattle.call_events.specs.declared.call.KnownCall.{KnownCall}
+use Rattle.call_answers.specs.declared.call.CallAnswer.{CallAnswer}
+use Rattle.call_answers.specs.declared.call.CallAnswer.TheVariants as is
+use Rattle.call_answers.specs.declared.call.KnownCall.{KnownCall}
 use Rattle.reg_lines.specs.declared.printing.records.CallRecord.{CallRecord}
 
 -- with the plain book's reply there is one; a conflict, and a call that has no answer yet, have none

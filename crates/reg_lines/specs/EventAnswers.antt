@@ -7,13 +7,13 @@ use Rattle.version_book.specs.declared.mark.MarkKind.TheVariants as mark
 use Rattle.batch_work.specs.declared.status.Status.{Status}
 use Rattle.batch_work.specs.declared.status.Status.TheVariants.{New, Running, Ready, Settled}
 use Rattle.call_events.specs.Events.{event_code}
-use Rattle.call_events.specs.declared.event.Decision.{Decision}
-use Rattle.call_events.specs.declared.event.Decision.TheVariants as is
-use Rattle.call_events.specs.declared.event.Done.{Done}
-use Rattle.call_events.specs.declared.event.Done.TheVariants.{Invoked, Begun, Stepped, Decided, Answered}
+use Rattle.call_answers.specs.declared.answer.Decision.{Decision}
+use Rattle.call_answers.specs.declared.answer.Decision.TheVariants as is
+use Rattle.call_answers.specs.declared.answer.Done.{Done}
+use Rattle.call_answers.specs.declared.answer.Done.TheVariants.{Invoked, Begun, Stepped, Decided, Answered}
 use Rattle.call_events.specs.declared.event.EventRefusal.{EventRefusal}
-use Rattle.call_events.specs.declared.event.Told.{Told}
-use Rattle.call_events.specs.declared.event.Told.TheVariants.{Replied, Conflicted}
+use Rattle.call_answers.specs.declared.answer.Told.{Told}
+use Rattle.call_answers.specs.declared.answer.Told.TheVariants.{Replied, Conflicted}
 use Rattle.reg_lines.specs.Json.{list_json, text_json}
 use Rattle.reg_lines.specs.Replies.{conflict_json, reply_json, uuid_text}
 

@@ -1,6 +1,6 @@
 use Rattle.std.proofs.Common.{◌+◌, sym, ap, subst, ◌∙◌, inl}
 use Rattle.call_machine.specs.Machine.{Commits, is_ready}
-use Rattle.call_events.specs.declared.event.Done.TheVariants.{Decided}
+use Rattle.call_answers.specs.declared.answer.Done.TheVariants.{Decided}
 use Rattle.call_machine.specs.Kept.{Holds, domain_of, state_of}
 use Rattle.call_machine.proofs.Changed.{commits_kept, holds_on, holds_stays, refused_slot, refused_unknown, state_stays, unchanged}
 use Rattle.call_machine.proofs.Slots.{rests_at}

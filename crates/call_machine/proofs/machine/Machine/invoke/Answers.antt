@@ -6,7 +6,7 @@ use Rattle.std.proofs.lemmas.List.{length-map, map-append}
 use Rattle.indexmap.proofs.CallerLemmas.{insert_entry-new}
 use Rattle.entry_book.specs.Batches.{IsMadeFor}
 use Rattle.call_events.specs.declared.event.EventRefusal.TheVariants.{CallTaken, TooManyCalls}
-use Rattle.call_events.specs.declared.event.Done.TheVariants.{Invoked}
+use Rattle.call_answers.specs.declared.answer.Done.TheVariants.{Invoked}
 use Rattle.call_machine.specs.declared.slot.Slot.{Slot}
 use Rattle.call_machine.specs.Calls.{State, call_at}
 use Rattle.call_machine.specs.Machine.{Invokes}

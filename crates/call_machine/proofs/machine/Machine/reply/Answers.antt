@@ -1,7 +1,7 @@
 use Rattle.std.proofs.Common.{◌+◌, refl, sym, ap, subst, ◌∙◌, inl}
 use Rattle.std.specs.Prelude.{option_map, is_none, ◌&&◌}
 use Rattle.call_machine.specs.Machine.{Replies, is_over}
-use Rattle.call_events.specs.declared.event.Done.TheVariants.{Answered}
+use Rattle.call_answers.specs.declared.answer.Done.TheVariants.{Answered}
 use Rattle.call_machine.specs.declared.slot.Slot.{Slot}
 use Rattle.call_machine.specs.Calls.{with_call}
 use Rattle.call_machine.specs.Kept.{Holds, RestsOn, call_kept, calls_kept, domain_of, state_of}

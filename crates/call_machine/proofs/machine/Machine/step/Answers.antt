@@ -1,7 +1,7 @@
 use Rattle.std.proofs.Common.{◌+◌, sym, ap, subst, ◌∙◌, inl}
 use Rattle.std.specs.Prelude.{option_map}
 use Rattle.call_machine.specs.Machine.{Steps, is_running}
-use Rattle.call_events.specs.declared.event.Done.TheVariants.{Stepped}
+use Rattle.call_answers.specs.declared.answer.Done.TheVariants.{Stepped}
 use Rattle.call_machine.specs.Calls.{with_call}
 use Rattle.call_machine.specs.Kept.{Holds, call_kept, calls_kept, domain_of, stage_of_slot, state_of}
 use Rattle.call_machine.proofs.Changed.{calls_set, holds_set, refused_slot, refused_unknown, unchanged}
