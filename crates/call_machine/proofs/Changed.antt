@@ -1,5 +1,5 @@
 -- A call that is found, and moved on, and what that is to a machine.
-use Rattle.std.proofs.Common.{◌≡◌, ℕ, ◌+◌, Bool, false, ◌⊎◌, List, [], ◌∷◌, ◌++◌, Option, Some, None, refl, sym, ap, subst, ◌∙◌, inl, inr, ⊎_elim}
+use Rattle.std.proofs.Common.{◌≡◌, ℕ, ◌+◌, Bool, false, List, [], ◌∷◌, ◌++◌, Option, Some, None, refl, sym, ap, subst, ◌∙◌, inl, inr, ⊎_elim}
 use Rattle.std.specs.Prelude.{nat_eq, option_map, is_some, if◌then◌else◌}
 use Rattle.std.specs.Map.{lookup, set_value}
 use Rattle.entry_book.specs.Batches.{Batch, IsMadeFor}

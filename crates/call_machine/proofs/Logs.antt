@@ -1,5 +1,5 @@
 -- What a machine knows of its calls is what was handed in and given out.
-use Rattle.std.proofs.Common.{◌≡◌, ◌≢◌, ℕ, ◌+◌, ◌≤◌, ◌⊎◌, List, [], ◌∷◌, ◌++◌, length, take, Option, Some, None, refl, sym, ap, subst, ◌∙◌, ⊎_elim, arith, append_assoc, length-append}
+use Rattle.std.proofs.Common.{◌≡◌, ◌≢◌, ℕ, ◌+◌, ◌≤◌, ◌⊎◌, List, [], ◌∷◌, ◌++◌, length, take, Option, Some, None, refl, sym, ap, subst, ◌∙◌, inl, inr, ⊎_elim, arith, append_assoc, length-append}
 use Rattle.std.specs.Prelude.{⊤, slice_get, map}
 use Rattle.std.proofs.lemmas.List.{append-nil, take-append-le}
 use Rattle.entry_book.specs.Order.{Within}
@@ -15,7 +15,7 @@ use Rattle.call_answers.specs.declared.answer.Told.{Told}
 use Rattle.batch_work.specs.declared.status.Status.{Status}
 use Rattle.call_machine.specs.Schedules.{Happened, At, HandedIn, BatchesOf, commit_of, commits_in, IsDueConflict, ConflictsAreDue, Different}
 use Rattle.call_machine.specs.Calls.{Stage, waiting, running, ready, answered, committed, conflict, Call, State, with_call, told_of}
-use Rattle.call_machine.specs.Laws.{number_of}
+use Rattle.call_machine.specs.Laws.{SettledAt, number_of}
 use Rattle.call_machine.proofs.Lists.{get_left, get_last, from_get_snoc, get_within}
 use Rattle.call_machine.proofs.Rows.{from_with_call, within_new, within_other, same_call}
 
@@ -59,7 +59,7 @@ abbrev pub StageTold : List Happened → Stage → Call → Type 0
 StageTold log waiting c = ⊤
 StageTold log (running base made) c = (p : Status) × At log c.turn (Begin c.number) (Begun c.number base p)
 StageTold log (ready base) c = (p : Status) × At log c.turn (Begin c.number) (Begun c.number base p)
-StageTold log (answered r) c = ⊤
+StageTold log (answered r) c = SettledAt log c.turn c.number r
 StageTold log (committed r) c = At log c.turn (Commit c.number) (Decided c.number Committed r.place)
 StageTold log (conflict n) c = At log c.turn (Commit c.number) (Decided c.number Conflict n)
 
@@ -72,11 +72,14 @@ pub record IsTold (log : List Happened) (c : Call) : Type 0 where
   pub stage : StageTold log c.stage c
   pub replied : ReplyTold log c.replied c
 
+pub settled_more : (log : List Happened) (h : Happened) (n c : ℕ) (r : Reply) → SettledAt log n c r → SettledAt (log ++ h ∷ []) n c r
+settled_more log h n c r t = ⊎_elim (λ b. inl (b.0, b.1, at_more log h n _ _ b.2)) (λ f. inr (f.0, f.1, at_more log h n _ _ f.2)) t
+
 stage_more : (log : List Happened) (h : Happened) (g : Stage) (c : Call) → StageTold log g c → StageTold (log ++ h ∷ []) g c
 stage_more log h waiting c t = tt
 stage_more log h (running base made) c t = (t.0, at_more log h c.turn _ _ t.1)
 stage_more log h (ready base) c t = (t.0, at_more log h c.turn _ _ t.1)
-stage_more log h (answered r) c t = tt
+stage_more log h (answered r) c t = settled_more log h c.turn c.number r t
 stage_more log h (committed r) c t = at_more log h c.turn _ _ t
 stage_more log h (conflict n) c t = at_more log h c.turn _ _ t
 

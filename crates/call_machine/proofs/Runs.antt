@@ -1,12 +1,12 @@
 -- One event more.
-use Rattle.std.proofs.Common.{◌≡◌, ◌+◌, ◌≤◌, List, [], ◌∷◌, ◌++◌, Ok, Err, refl, sym, ap, subst, ⊎_elim, arith}
+use Rattle.std.proofs.Common.{◌≡◌, ◌+◌, ◌≤◌, [], ◌∷◌, Ok, Err, refl, sym, ap, subst, ⊎_elim, arith}
 use Rattle.call_events.specs.declared.event.Event.{Event}
 use Rattle.call_events.specs.declared.event.Event.TheVariants.{Invoke, Begin, Step, Commit, Reply as ReplyEvent}
 use Rattle.call_answers.specs.declared.answer.Done.{Done}
 use Rattle.call_machine.specs.Schedules.{Answer}
 use Rattle.call_machine.specs.Calls.{State}
 use Rattle.call_machine.specs.Laws.{EventLeaves, RunsGoOn}
-use Rattle.call_machine.specs.Machine.{Applies, Accepts, Runs}
+use Rattle.call_machine.specs.Machine.{Applies, Accepts}
 
 pub runs_go_on : RunsGoOn
 runs_go_on [] [] s t u e a r p = (u, subst (λ x. Applies x e a u) (sym r) p, refl)

@@ -1,7 +1,8 @@
 -- Each accepted event keeps that what a machine knows of its calls is what was handed in and given out.
-use Rattle.std.proofs.Common.{◌≡◌, ℕ, ◌+◌, true, false, cond, List, [], ◌∷◌, ◌++◌, length, take, Option, Some, None, refl, sym, ap, subst, ◌∙◌, inl, ⊎_elim, length-append}
+use Rattle.std.proofs.Common.{◌≡◌, ℕ, ◌+◌, true, false, cond, List, [], ◌∷◌, ◌++◌, length, take, Option, Some, None, refl, sym, ap, subst, ◌∙◌, inl, inr, ⊎_elim, length-append}
 use Rattle.std.specs.Prelude.{nat_lt}
 use Rattle.std.proofs.lemmas.List.{append-nil}
+use Rattle.entry_book.specs.declared.reply.Reply.{Reply}
 use Rattle.entry_book.specs.Rows.{Bytes}
 use Rattle.entry_book.specs.Order.{Within}
 use Rattle.entry_book.specs.Batches.{Batch}
@@ -24,7 +25,7 @@ use Rattle.call_machine.specs.Machine.{Invokes, Begins, Steps, CommitsNow, IsFul
 use Rattle.call_machine.proofs.Rows.{call_within, within_new}
 use Rattle.call_machine.proofs.Sound.{Sound, Stamped}
 use Rattle.call_machine.proofs.Events.{not_replied}
-use Rattle.call_machine.proofs.Logs.{at_more, at_last, batches_more, batches_snoc, commits-snoc, handed_more, StageTold, ReplyTold, IsTold, told_more, Keeps, Carries, carries_itself, Tied, DueNow, due_more, kept_more, tied_moved}
+use Rattle.call_machine.proofs.Logs.{at_more, at_last, batches_more, batches_snoc, commits-snoc, handed_more, StageTold, ReplyTold, IsTold, settled_more, told_more, Keeps, Carries, carries_itself, Tied, DueNow, due_more, kept_more, tied_moved}
 use Rattle.call_machine.proofs.PlainBook.{commit_place}
 use Rattle.call_machine.proofs.Journal.{sound_journal}
 
@@ -38,7 +39,7 @@ none_told log (Some n) c f = absurd (f n refl)
 told_on : (log : List Happened) (batch : Batch) (books : List Book) (base made : ℕ) (c : Call) (p : Status) → At log c.turn (Begin c.number) (Begun c.number base p) → StageTold log (stage_on batch books base made) c
 told_on log batch books base made c p a = elim (nat_lt made (length (footprint_of batch books))) as (λ b. StageTold log (cond b (running base made) (stage_settled (awaits_commit batch books) base (reply_to batch books))) c) [
   | true ↦ (p, a)
-  | false ↦ elim (awaits_commit batch books) as (λ b. StageTold log (stage_settled b base (reply_to batch books)) c) [ true ↦ (p, a) | false ↦ tt ]
+  | false ↦ elim (awaits_commit batch books) as (λ b. StageTold log (stage_settled b base (reply_to batch books)) c) [ true ↦ (p, a) | false ↦ inl (base, p, a) ]
 ]
 
 -- a call that had no reply to give carries on where it stands next
@@ -151,10 +152,13 @@ is_full : (log : List Happened) (s : State) (n : ℕ) (d : Done) (t : State) (r 
 is_full log s n d t r base g h w e q i =
     let place = length s.journal in
     let a : d ≡ Decided n (Full i.limit) place = i.answer ∙ ap (λ m. Decided m (Full i.limit) place) e in
+    let reply = reply_to r.batch (books_of s.journal) in
+    let f : Happened = record { event = Commit n; done = Decided n (Full i.limit) place } in
+    let p : reply.place ≡ place = ap (λ (x : Reply). x.place) i.full in
     subst (λ d. Tied (log ++ record { event = Commit n; done = d } ∷ []) t) (sym a)
     (decides log s n t r base (answered (reply_to r.batch (books_of s.journal))) (Full i.limit) place [] g h w e q
     (ap (λ (s : State). s.count) i.after) (ap (λ (s : State). s.calls) i.after) (ap (λ (s : State). s.journal) i.after ∙ sym (append-nil s.journal))
-    (λ at. tt) tt
+    (λ at. inr (i.limit, ap (λ (x : Reply). x.outcome) i.full, subst (λ m. At (log ++ f ∷ []) (s.count + 1) (Commit r.number) (Decided r.number (Full i.limit) m)) (sym p) (subst (λ m. At (log ++ f ∷ []) (s.count + 1) (Commit m) (Decided m (Full i.limit) place)) (sym e) at))) tt
     (none_entered log _ (commits_in log) s.journal h.journal)
     (λ c place x y. cc))
 
@@ -215,7 +219,7 @@ replies log s n d t g h i =
     stage_same log f waiting r m t = tt
     stage_same log f (running base made) r m t = (t.0, at_more log f r.turn _ _ t.1)
     stage_same log f (ready base) r m t = (t.0, at_more log f r.turn _ _ t.1)
-    stage_same log f (answered q) r m t = tt
+    stage_same log f (answered q) r m t = settled_more log f r.turn r.number q t
     stage_same log f (committed q) r m t = at_more log f r.turn _ _ t
     stage_same log f (conflict n) r m t = at_more log f r.turn _ _ t
 

@@ -1,17 +1,19 @@
 -- The headline, for every list of events.
-use Rattle.std.proofs.Common.{List, [], ◌∷◌, ◌++◌, Ok, Err, sym, subst, append_assoc, Option, Some, None, ℕ, ◌≡◌}
+use Rattle.std.proofs.Common.{List, [], ◌∷◌, ◌++◌, Ok, Err, refl, sym, ◌∙◌, subst, append_assoc, Option, Some, None, ℕ, ◌≡◌}
 use Rattle.std.proofs.lemmas.List.{append-nil}
 use Rattle.call_events.specs.declared.event.Event.{Event}
-use Rattle.call_events.specs.declared.event.Event.TheVariants.{Reply as ReplyEvent}
-use Rattle.call_answers.specs.declared.answer.Done.TheVariants.{Answered}
+use Rattle.call_events.specs.declared.event.Event.TheVariants.{Commit, Reply as ReplyEvent}
+use Rattle.call_answers.specs.declared.answer.Decision.TheVariants.{Committed}
+use Rattle.call_answers.specs.declared.answer.Done.TheVariants.{Answered, Decided}
 use Rattle.call_answers.specs.declared.answer.Told.{Told}
 use Rattle.call_machine.specs.Schedules.{Answer, At, Happened, accepted}
-use Rattle.call_machine.specs.Calls.{Call, State, first_state, told_of}
+use Rattle.call_machine.specs.Calls.{Stage, waiting, running, ready, answered, committed, conflict, Call, State, first_state, told_of}
+use Rattle.call_machine.specs.Known.{decided_of}
 use Rattle.call_machine.specs.Machine.{Runs}
-use Rattle.call_machine.specs.Laws.{CallsAreStamped, HeadlineHolds, RepliesHeld}
+use Rattle.call_machine.specs.Laws.{CallsAreStamped, DecidedAt, HeadlineHolds, RepliesHeld, SettledAt}
 use Rattle.call_machine.proofs.Sound.{Sound}
 use Rattle.call_machine.proofs.Events.{accepts_sound, first_sound}
-use Rattle.call_machine.proofs.Logs.{ReplyTold, Tied}
+use Rattle.call_machine.proofs.Logs.{ReplyTold, StageTold, Tied}
 use Rattle.call_machine.proofs.Rows.{call_within}
 use Rattle.call_machine.proofs.Ties.{accepts_tied, first_tied}
 use Rattle.call_machine.proofs.Order.{headline, held}
@@ -44,8 +46,16 @@ reply_stamped : (log : List Happened) (call : Call) (n : ℕ) (o : Option ℕ) �
 reply_stamped log call n None e t = cc
 reply_stamped log call n (Some m) e t = let q : m ≡ n = cc in (t.0, t.1, subst (λ k. At log k (ReplyEvent call.number) (Answered call.number t.0)) q t.2)
 
+decided_at : (log : List Happened) (c turn n : ℕ) (g : Stage) (call : Call) → decided_of g turn ≡ Some n → call.turn ≡ turn → call.number ≡ c → StageTold log g call → DecidedAt log n c g
+decided_at log c turn n waiting call e t k s = cc
+decided_at log c turn n (running base made) call e t k s = cc
+decided_at log c turn n (ready base) call e t k s = cc
+decided_at log c turn n (conflict place) call e t k s = cc
+decided_at log c turn n (answered r) call e t k s = let q : turn ≡ n = cc in subst (λ m. SettledAt log m c r) (t ∙ q) (subst (λ d. SettledAt log call.turn d r) k s)
+decided_at log c turn n (committed r) call e t k s = let q : turn ≡ n = cc in subst (λ m. At log m (Commit c) (Decided c Committed r.place)) (t ∙ q) (subst (λ d. At log call.turn (Commit d) (Decided d Committed r.place)) k s)
+
 pub calls_are_stamped : CallsAreStamped
 calls_are_stamped own events answers s c call r f =
     let h = runs_stand events answers [] (first_state own) s (record { sound = first_sound own; tied = first_tied own }) r in
     let t = h.tied.told call (call_within c s.calls call f).0 in
-    record { invoked = t.invoked; replied = λ n e. reply_stamped (accepted events answers) call n call.replied e t.replied }
+    record { invoked = t.invoked; decided = λ n e. decided_at (accepted events answers) call.number call.turn n call.stage call e refl refl t.stage; replied = λ n e. reply_stamped (accepted events answers) call n call.replied e t.replied }

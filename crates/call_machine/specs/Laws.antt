@@ -1,19 +1,26 @@
 -- The order that a machine answers, and the laws of it and of runs. Each law is a clause of a function of the module `laws`.
-use Rattle.std.specs.Prelude.{◌≡◌, ℕ, ◌+◌, ◌<◌, ◌≤◌, Bool, true, false, ⊤, List, [], ◌∷◌, ◌++◌, filter, map, Option, Some, is_some}
+use Rattle.std.specs.Prelude.{◌≡◌, ◌⊎◌, ℕ, ◌+◌, ◌<◌, ◌≤◌, Bool, true, false, ⊤, List, [], ◌∷◌, ◌++◌, filter, map, Option, Some, is_some}
 use Rattle.std.specs.List.{AllByRecursion}
 use Rattle.std.specs.List.Sorted.{IsPermutation, IsNonDecreasingBy}
+use Rattle.entry_book.specs.declared.limit.Limit.{Limit}
+use Rattle.entry_book.specs.declared.reply.Outcome.TheVariants.{Refused}
+use Rattle.entry_book.specs.declared.reply.Refusal.TheVariants.{Full as TooMuch}
+use Rattle.entry_book.specs.declared.reply.Reply.{Reply}
 use Rattle.entry_book.specs.Rows.{Bytes}
 use Rattle.entry_book.specs.Book.{Book}
 use Rattle.entry_book.specs.History.{books_after, first_books, reply_to}
 use Rattle.call_events.specs.declared.event.Event.{Event}
-use Rattle.call_events.specs.declared.event.Event.TheVariants.{Invoke}
+use Rattle.call_events.specs.declared.event.Event.TheVariants.{Invoke, Begin, Commit}
 use Rattle.call_events.specs.declared.event.Event.TheVariants as on
+use Rattle.batch_work.specs.declared.status.Status.{Status}
+use Rattle.call_answers.specs.declared.answer.Decision.TheVariants as is
 use Rattle.call_answers.specs.declared.answer.Done.{Done}
-use Rattle.call_answers.specs.declared.answer.Done.TheVariants.{Answered}
+use Rattle.call_answers.specs.declared.answer.Done.TheVariants.{Begun, Decided, Answered}
 use Rattle.call_answers.specs.declared.answer.Told.{Told}
 use Rattle.call_answers.specs.declared.answer.Told.TheVariants.{Replied}
 use Rattle.call_machine.specs.Schedules.{Answer, At, Happened, Headline, accepted}
 use Rattle.call_machine.specs.Calls.{Stage, waiting, running, ready, answered, committed, conflict, Call, State, call_at, first_state, told_of}
+use Rattle.call_machine.specs.Known.{decided_of}
 use Rattle.call_machine.specs.Machine.{Applies, Runs}
 
 -- committed, or replied otherwise than by a conflict
@@ -58,9 +65,20 @@ HeadlineHolds = (own : Bytes) (events : List Event) (answers : List Answer) (s :
 
 -- ---- the accepted numbers that calls keep
 
--- The call has the number under which its batch was handed in, and that under which it gave its answer out, once it did.
+-- This number is that of the call's begin, behind which it was settled, or of its commit, which passed the limit that its reply tells.
+abbrev pub SettledAt : List Happened → ℕ → ℕ → Reply → Type 0
+SettledAt log n c r = ((base : ℕ) × (status : Status) × At log n (Begin c) (Begun c base status)) ⊎ ((limit : Limit) × (r.outcome ≡ Refused (TooMuch limit)) × At log n (Commit c) (Decided c (is.Full limit) r.place))
+
+-- that of the event that decided the call
+abbrev pub DecidedAt : List Happened → ℕ → ℕ → Stage → Type 0
+DecidedAt log n c (answered r) = SettledAt log n c r
+DecidedAt log n c (committed r) = At log n (Commit c) (Decided c is.Committed r.place)
+DecidedAt log n c stage = ⊥
+
+-- The call has the number under which its batch was handed in, that of the event that decided it, and that under which it gave its answer out, as far as they came.
 pub record IsStamped (log : List Happened) (call : Call) : Type 0 where
   pub invoked : (done : Done) × At log call.invoked (Invoke call.number call.batch) done
+  pub decided : (n : ℕ) → decided_of call.stage call.turn ≡ Some n → DecidedAt log n call.number call.stage
   pub replied : (n : ℕ) → call.replied ≡ Some n → (told : Told) × (told_of call.stage ≡ Some told) × At log n (on.Reply call.number) (Answered call.number told)
 
 abbrev pub CallsAreStamped : Type 0
