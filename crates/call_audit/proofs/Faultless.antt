@@ -16,6 +16,7 @@ use Rattle.call_audit.specs.Audits.{AreFaultless, batches_of, cause_of, is_ended
 use Rattle.call_audit.specs.Follows.{AreHistory, HasEnded, HistoryIsFaultless, IsReplyTo}
 use Rattle.call_audit.specs.Verdicts.{HistoryIsYes, Spell, verdict_by, verdict_on}
 use Rattle.call_audit.proofs.Judging.{cause_none}
+use Rattle.call_audit.proofs.Yes.{append_none}
 
 -- ---- a record behind others
 
@@ -81,10 +82,6 @@ history_is_faultless records h = faultless_from records h [] records refl
 judged-record : (domain : List ℕ) (before : List AuditRecord) (line : List ℕ) (r : AuditRecord) → spelled_record domain line ≡ Ok r → cause_of before r ≡ None → judged domain before line ≡ Ok r
 unfolding judged
 judged-record domain before line r s c = ap (judged_spelled before) s ∙ ap (judged_when before r) c
-
-append_none : (before : List AuditRecord) → before ++ [] ≡ before
-append_none [] = refl
-append_none (x ∷ xs) = ap (λ l. x ∷ l) (append_none xs)
 
 verdict-yes : (domain : List ℕ) (before : List AuditRecord) (lines : List (List ℕ)) (records : List AuditRecord) → Spell domain lines records → AreFaultless before records → verdict_on domain before lines ≡ Yes (length (before ++ records))
 verdict-yes domain before [] [] s f = ap (λ l. Yes (length l)) (sym (append_none before))

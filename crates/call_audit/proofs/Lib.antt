@@ -4,5 +4,6 @@ pub mod Judging
 pub mod Keeping
 pub mod Printed
 pub mod Yes
+pub mod No
 pub mod Faultless
 pub mod Confirmed

@@ -9,9 +9,9 @@ use Rattle.call_audit.specs.Verdicts.{Spell, YesIsHistory, verdict_by, verdict_o
 use Rattle.call_audit.proofs.Histories.{faultless_are_history}
 
 -- a line that has no fault spells its record
-record Clean (domain : List ℕ) (before : List AuditRecord) (line : List ℕ) (r : AuditRecord) : Type 0 where
-  spells : spelled_record domain line ≡ Ok r
-  faultless : cause_of before r ≡ None
+pub record Clean (domain : List ℕ) (before : List AuditRecord) (line : List ℕ) (r : AuditRecord) : Type 0 where
+  pub spells : spelled_record domain line ≡ Ok r
+  pub faultless : cause_of before r ≡ None
 
 when_none : (before : List AuditRecord) (x r : AuditRecord) (cause : Option Cause) → judged_when before x cause ≡ Ok r → (cause ≡ None) × (x ≡ r)
 when_none before x r None e = (refl, (let q : x ≡ r = cc in q))
@@ -23,7 +23,7 @@ clean_by domain before line r (Ok x) is e =
     let w = when_none before x r (cause_of before x) e in
     record { spells = is ∙ ap Ok w.1; faultless = ap (λ y. cause_of before y) (sym w.1) ∙ w.0 }
 
-clean : (domain : List ℕ) (before : List AuditRecord) (line : List ℕ) (r : AuditRecord) → judged domain before line ≡ Ok r → Clean domain before line r
+pub clean : (domain : List ℕ) (before : List AuditRecord) (line : List ℕ) (r : AuditRecord) → judged domain before line ≡ Ok r → Clean domain before line r
 unfolding judged
 clean domain before line r e = clean_by domain before line r (spelled_record domain line) refl e
 
@@ -37,7 +37,7 @@ record Taken (domain : List ℕ) (before : List AuditRecord) (lines : List (List
 count_of : (n calls : ℕ) → Yes n ≡ Yes calls → calls ≡ n
 count_of n calls e = cc
 
-append_none : (before : List AuditRecord) → before ++ [] ≡ before
+pub append_none : (before : List AuditRecord) → before ++ [] ≡ before
 append_none [] = refl
 append_none (x ∷ xs) = ap (λ l. x ∷ l) (append_none xs)
 

@@ -40,6 +40,21 @@ pub record IsYes (domain : List ℕ) (lines : List (List ℕ)) (calls : ℕ) : T
 abbrev pub YesIsHistory : Type 0
 YesIsHistory = (domain : List ℕ) (lines : List (List ℕ)) (calls : ℕ) → verdict_of domain lines ≡ Yes calls → IsYes domain lines calls
 
+-- What a no says: the lines in front of this one spell records that are a history, and behind these it has this fault, the first one that holds.
+pub record IsNo (domain : List ℕ) (lines : List (List ℕ)) (n : ℕ) (cause : Cause) : Type 0 where
+  pub front : List (List ℕ)
+  pub line : List ℕ
+  pub rest : List (List ℕ)
+  pub split : lines ≡ front ++ line ∷ rest
+  pub number : n ≡ length front + 1
+  pub records : List AuditRecord
+  pub spelled : Spell domain front records
+  pub history : AreHistory records
+  pub fault : judged domain records line ≡ Err cause
+
+abbrev pub NoIsFirst : Type 0
+NoIsFirst = (domain : List ℕ) (lines : List (List ℕ)) (n : ℕ) (cause : Cause) → verdict_of domain lines ≡ No n cause → IsNo domain lines n cause
+
 -- Lines that spell the records of a history are audited yes.
 abbrev pub HistoryIsYes : Type 0
 HistoryIsYes = (domain : List ℕ) (lines : List (List ℕ)) (records : List AuditRecord) → Spell domain lines records → AreHistory records → verdict_of domain lines ≡ Yes (length records)

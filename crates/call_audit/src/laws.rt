@@ -5,14 +5,16 @@
 
 ghost use Rattle.call_audit.specs.Confirmed.{ConfirmedAreAudited};
 ghost use Rattle.call_audit.specs.Follows.{FaultlessAreHistory, HistoryIsFaultless};
-ghost use Rattle.call_audit.specs.Verdicts.{HistoryIsYes, YesIsHistory};
+ghost use Rattle.call_audit.specs.Verdicts.{HistoryIsYes, NoIsFirst, YesIsHistory};
 
 use reg_lines::{lines_law, printed_law, read_back_law};
 
-/// Records none of which has a fault behind those before it are a history, and so are those of lines that are audited yes.
+/// Records none of which has a fault behind those before it are a history, and so are those of lines that are audited yes. A no
+/// tells the first line that has a fault behind such a history, and the first fault that it has.
 pub fn audited_law()
     ensures history { FaultlessAreHistory }
     ensures yes { YesIsHistory }
+    ensures no { NoIsFirst }
 {}
 
 /// No history is audited no: its records have no fault, and lines that spell them are audited yes. So are the lines of the

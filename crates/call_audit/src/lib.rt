@@ -9,8 +9,8 @@
 //! - [`Cause`]: what is wrong with a line, the first that holds.
 //! - [`Verdict`]: how an audit ended, which is printed as a line: yes with the count of calls, or no with the first line that has
 //!   a fault, and its cause.
-//! - [`laws`]: records without a fault are a history, in words that know no auditor, no history is audited no, and calls whose
-//!   replies the plain book confirms are audited yes.
+//! - [`laws`]: records without a fault are a history, in words that know no auditor; a no tells the first line with a fault behind
+//!   a history; no history is audited no, and calls whose replies the plain book confirms are audited yes.
 //! - `reply`: whether a record's reply is the one that the book gives.
 #![tactic(auto)]
 
