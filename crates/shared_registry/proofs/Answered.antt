@@ -1,8 +1,14 @@
 -- What a query is answered on what is published.
-use Rattle.std.proofs.Common.{◌≡◌, Bool, true, false, Some, refl, sym, ap, subst, ◌∙◌, cond}
+use Rattle.std.proofs.Common.{◌≡◌, ℕ, Bool, true, false, List, length, Option, None, Some, Ok, Err, refl, sym, ap, subst, ◌∙◌, cond}
+use Rattle.std.specs.Prelude.{is_some, nat_lt}
+use Rattle.entry_book.specs.declared.reply.Refusal.TheVariants.{NotYet}
 use Rattle.entry_book.specs.declared.reply.Reply.{Reply}
-use Rattle.entry_book.specs.Batches.{Batch, IsMadeFor, is_query}
-use Rattle.entry_book.specs.History.{books_of, reply_to}
+use Rattle.entry_book.specs.Rows.{Bytes}
+use Rattle.entry_book.specs.Book.{Book}
+use Rattle.entry_book.specs.Runs.{RunResult, run}
+use Rattle.entry_book.specs.Batches.{Batch, IsMadeFor, is_query, past_place}
+use Rattle.entry_book.specs.History.{book_for, books_of, kept_under, place_of, refuses, reply_to, reply_with, verdict_on, verdict_over, verdict_when}
+use Rattle.entry_book.proofs.Faults.{not_refused}
 use Rattle.batch_work.specs.declared.status.Status.TheVariants.{Running, Settled}
 use Rattle.batch_work.specs.Reads.{awaits_commit}
 use Rattle.batch_work.specs.Working.{Work, IsAnswer, IsReplyOn, awaits_there, base_in, end_status, reply_there, status_from, status_of}
@@ -12,6 +18,9 @@ use Rattle.commit_head.specs.Heads.{IsJournal}
 use Rattle.commit_head.specs.Journals.{batches_of}
 use Rattle.shared_registry.specs.Shown.{Shown, whole_head}
 use Rattle.shared_registry.specs.Works.{IsAtEnd}
+use Rattle.shared_registry.proofs.Overtaken.{led_to}
+
+-- ---- the reply to a query
 
 -- a work that is settled answers as the plain book does on the journal's books
 pub answer_is : (w : Work) (batch : Batch) (page : Shown) (reply : Reply) → IsAtEnd batch page w → IsJournal page.journal (whole_head page.window page.journal) → IsAnswer w reply → reply ≡ reply_to batch (books_of (batches_of page.journal))
@@ -38,3 +47,32 @@ query_settled w batch page query domain made e k =
     let waits : awaits_commit batch books ≡ false = not_true (awaits_commit batch books) (λ t. let n = ((awaits_said batch.domain batch books made).0 t).changes in let q : true ≡ false = sym query ∙ n in cc) in
     let there : awaits_there batch base ≡ false = (window_stands batch page.window books k.shown).wait ∙ waits in
     here ∙ status_end _ _ over there
+
+-- ---- its place is that of the books
+
+no_token : (token : Option Bytes) → (is_some token ≡ true → true ≡ false) → token ≡ None
+no_token None h = refl
+no_token (Some k) h = let q = h refl in cc
+
+run_place : (batch : Batch) (place : ℕ) (b : Book) (query : Bool) (r : RunResult) → query ≡ true → (reply_with place (verdict_when query batch place b r)).place ≡ place
+run_place batch place b true (Err s) q = refl
+run_place batch place b true (Ok t) q = refl
+run_place batch place b false r q = let no : false ≡ true = q in cc
+
+place_there : (batch : Batch) (place : ℕ) (o : Option Book) → is_query batch.ops ≡ true → batch.token ≡ None → (reply_with place (verdict_on batch place o)).place ≡ place
+place_there batch place None q n = refl
+place_there batch place (Some b) q n = subst (λ k. (reply_with place (verdict_over (kept_under k b) batch place b)).place ≡ place) (sym n) (run_place batch place b (is_query batch.ops) (run batch.domain batch.ops b) q)
+
+place_in_time : (early : Bool) (batch : Batch) (place : ℕ) (o : Option Book) → is_query batch.ops ≡ true → batch.token ≡ None → (reply_with place (cond early (refuses NotYet) (verdict_on batch place o))).place ≡ place
+place_in_time true batch place o q n = refl
+place_in_time false batch place o q n = place_there batch place o q n
+
+query_place : (own : Bytes) (batch : Batch) (books : List Book) → IsMadeFor own batch → is_query batch.ops ≡ true → (reply_to batch books).place ≡ place_of books
+query_place own batch books made q =
+    let k = (not_refused batch.domain batch.ops batch.token).0 made.no_fault in
+    place_in_time (nat_lt (place_of books) batch.after) batch (place_of books) (book_for (past_place batch.ops) books) q (no_token batch.token (λ s. sym q ∙ k.2 s))
+
+pub place_is : (own : Bytes) (batch : Batch) (page : Shown) (reply : Reply) → IsMadeFor own batch → is_query batch.ops ≡ true → IsJournal page.journal (whole_head page.window page.journal) → reply ≡ reply_to batch (books_of (batches_of page.journal)) → reply.place ≡ length page.journal
+place_is own batch page reply made q k e =
+    let led = led_to page.window.newest.domain page.journal page.window.newest k.leads in
+    ap (λ (r : Reply). r.place) e ∙ (query_place own batch (books_of (batches_of page.journal)) made q ∙ (led.last.place ∙ led.number))

@@ -1,27 +1,26 @@
 -- What a commit under the lock is to the journal and to its seat.
-use Rattle.std.proofs.Common.{◌≡◌, ◌⊎◌, ℕ, ◌+◌, ◌≤◌, ◌^◌, Bool, true, false, cond, List, [], ◌∷◌, ◌++◌, length, length-append, Some, None, refl, sym, ap, subst, ◌∙◌, ⊎_elim, arith}
+use Rattle.std.proofs.Common.{◌≡◌, ◌⊎◌, ℕ, ◌<◌, ◌≤◌, ◌^◌, Bool, true, false, cond, List, [], ◌∷◌, ◌++◌, length, length-append, Some, None, refl, sym, ap, subst, ◌∙◌, ⊎_elim, arith}
 use Rattle.std.specs.Prelude.{nat_lt}
 use mathlib.Core.List.{IsPrefix}
 use Rattle.entry_book.specs.declared.limit.Limit.{Limit}
 use Rattle.entry_book.specs.declared.reply.Outcome.TheVariants.{Refused}
 use Rattle.entry_book.specs.declared.reply.Refusal.TheVariants.{Full}
 use Rattle.entry_book.specs.Rows.{Bytes}
-use Rattle.entry_book.specs.Book.{Book}
-use Rattle.entry_book.specs.Batches.{Batch, IsMadeFor, past_place}
+use Rattle.entry_book.specs.Batches.{Batch, past_place}
 use Rattle.entry_book.specs.History.{book_for, books_of, last_book, place_of, refuses, reply_to, reply_with, verdict}
-use Rattle.version_book.specs.CommittedRows.{State, book_of}
+use Rattle.version_book.specs.CommittedRows.{book_of}
 use Rattle.version_book.specs.History.{state_with}
 use Rattle.batch_work.specs.declared.status.Status.TheVariants.{Ready, Running}
 use Rattle.batch_work.specs.Reads.{awaits_commit}
 use Rattle.batch_work.specs.Windows.{Window, pushed}
-use Rattle.batch_work.specs.Working.{Base, Work, awaits_there, base_in, end_status, footprint_there, status_from, status_of, status_on}
+use Rattle.batch_work.specs.Working.{Work, awaits_there, base_in, end_status, footprint_there, status_from, status_of}
 use Rattle.batch_work.proofs.Batches.{awaits_said}
 use Rattle.batch_work.proofs.Windows.{window_stands}
 use Rattle.commit_head.specs.declared.commit.Commit.{Commit}
 use Rattle.commit_head.specs.declared.commit.Commit.TheVariants.{Committed, Conflict, Full as DidPass, NoMemory}
 use Rattle.commit_head.specs.declared.item.Item.{Item}
 use Rattle.commit_head.specs.Heads.{Goes, Head, IsAppended, IsJournal, IsRefused, Prepared, Stays, last_items, newest_of, place_of as place_at}
-use Rattle.commit_head.specs.Journals.{EachCallOnce, IsLawfulJournal, Joins, Leads, batches_of, first_state}
+use Rattle.commit_head.specs.Journals.{IsLawfulJournal, Joins, Leads, batches_of, first_state}
 use Rattle.commit_head.proofs.Begun.{journal_kept, journal_stays}
 use Rattle.commit_head.proofs.Journals.{journal_goes_on, journal_is_lawful, journal_last, leads_count, leads_more, leads_to_one, low}
 use Rattle.shared_registry.specs.Desk.{IsTied}
@@ -35,16 +34,18 @@ use Rattle.shared_registry.proofs.Overtaken.{overtaken_there}
 
 -- ---- a checkpoint
 
-pub tidied : (domain : Bytes) (log : List Item) (old new : Head) → IsTied domain log old → new.window ≡ old.window → (new ≡ old) ⊎ (new.kept ≡ last_items old.kept) → IsTied domain log new
-tidied domain log old new t w k = record {
+pub tidied : (domain : Bytes) (log : List Item) (old new : Head) → IsTied domain log old → new.window ≡ old.window → (new ≡ old) ⊎ (new.kept ≡ last_items old.kept) → length new.kept < 4096 → IsTied domain log new
+tidied domain log old new t w k few = record {
   journal_is = ⊎_elim (λ (e : new ≡ old). subst (IsJournal log) (sym e) t.journal_is) (λ (e : new.kept ≡ last_items old.kept). journal_stays log old new t.journal_is w e) k;
   domain_is = ap (λ v. v.newest.domain) w ∙ t.domain_is;
+  few = omega arith;
 }
 
 pub tied_stays : (domain : Bytes) (log : List Item) (old new : Head) → IsTied domain log old → Stays old new → IsTied domain log new
 tied_stays domain log old new t s = record {
   journal_is = journal_kept log old new t.journal_is s;
   domain_is = ap (λ v. v.newest.domain) s.window ∙ t.domain_is;
+  few = let same = ap length s.kept in let few = t.few in omega arith;
 }
 
 -- ---- how long a journal is
@@ -62,10 +63,11 @@ lawful_more domain log item h s c t l j seat call below =
     let leads : Leads (first_state domain) log (newest_of h) = subst (λ d. Leads (first_state d) log (newest_of h)) t.domain_is t.journal_is.leads in
     journal_is_lawful domain (log ++ item ∷ []) (state_with item.batch (newest_of h)) (leads_more log item (first_state domain) (newest_of h) leads j) (once_more log item l.once (others c s log item seat call below))
 
-pub tied_more : (domain : Bytes) (log : List Item) (item : Item) (old new : Head) → IsTied domain log old → Joins item (newest_of old) → IsAppended old item new → IsTied domain (log ++ item ∷ []) new
-tied_more domain log item old new t j a = record {
+pub tied_more : (domain : Bytes) (log : List Item) (item : Item) (old new : Head) → IsTied domain log old → Joins item (newest_of old) → IsAppended old item new → length old.kept < 4096 → IsTied domain (log ++ item ∷ []) new
+tied_more domain log item old new t j a few = record {
   journal_is = journal_goes_on log item old new t.journal_is j a;
   domain_is = ap (λ v. v.newest.domain) a.window ∙ t.domain_is;
+  few = let one = ap length a.kept in let more = length-append old.kept (item ∷ []) in omega arith;
 }
 
 -- what is published has the head's newest version

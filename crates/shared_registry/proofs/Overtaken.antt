@@ -1,5 +1,5 @@
 -- What a work that began inside a journal is to the head whose journal it is, and what a conflict is in the words of the plain book.
-use Rattle.std.proofs.Common.{◌≡◌, ℕ, ◌+◌, true, List, [], ◌∷◌, ◌++◌, length, length-append, take, Some, refl, sym, ap, subst, ◌∙◌, arith}
+use Rattle.std.proofs.Common.{◌≡◌, ◌+◌, List, ◌∷◌, ◌++◌, length, length-append, take, Some, refl, sym, ap, subst, ◌∙◌, arith}
 use Rattle.std.proofs.lemmas.List.{append_assoc, length-map, map-append, take-append-le, take_all}
 use mathlib.Core.List.{IsPrefix}
 use Rattle.entry_book.specs.Order.{Within}
@@ -14,7 +14,7 @@ use Rattle.version_book.proofs.Batches.{books_join, commits_join}
 use Rattle.version_book.proofs.Histories.{books_follow}
 use Rattle.version_book.proofs.Writers.{hits_in_books}
 use Rattle.batch_work.specs.Reads.{footprint_of}
-use Rattle.batch_work.specs.Working.{Base, Work, base_in, footprint_there}
+use Rattle.batch_work.specs.Working.{Work, base_in, footprint_there}
 use Rattle.batch_work.proofs.Windows.{window_stands}
 use Rattle.commit_head.specs.declared.item.Item.{Item}
 use Rattle.commit_head.specs.Heads.{BeganOn, Head, IsDue, IsJournal, newest_of}

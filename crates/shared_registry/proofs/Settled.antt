@@ -1,5 +1,5 @@
 -- What a batch of changes is answered that awaits no commit, in the words of the journal.
-use Rattle.std.proofs.Common.{◌≡◌, ◌⊎◌, ℕ, ◌+◌, Bool, true, false, cond, List, [], ◌∷◌, ◌++◌, length, length-append, Option, Some, None, Ok, Err, refl, sym, ap, subst, ◌∙◌, arith}
+use Rattle.std.proofs.Common.{◌≡◌, ℕ, ◌+◌, Bool, true, false, cond, List, [], ◌∷◌, ◌++◌, length, Option, Some, None, Ok, Err, refl, sym, ap, subst, ◌∙◌, arith}
 use Rattle.std.specs.Prelude.{nat_lt, slice_get, IsSome}
 use Rattle.entry_book.specs.declared.kept.KeptBatch.{KeptBatch}
 use Rattle.entry_book.specs.declared.limit.Limit.{Limit}
@@ -11,11 +11,11 @@ use Rattle.entry_book.specs.declared.reply.Refusal.TheVariants.{NotYet, TokenReu
 use Rattle.entry_book.specs.declared.reply.Reply.{Reply}
 use Rattle.entry_book.specs.Rows.{Bytes}
 use Rattle.entry_book.specs.Order.{Within}
-use Rattle.entry_book.specs.Book.{Book, token_at}
+use Rattle.entry_book.specs.Book.{Book}
 use Rattle.entry_book.specs.SameOps.{ops_eq}
 use Rattle.entry_book.specs.Runs.{RunResult, run}
-use Rattle.entry_book.specs.Batches.{Batch, IsMadeFor, is_query, past_place}
-use Rattle.entry_book.specs.History.{Leads as Led, Verdict, adds, adds_within, answers, book_for, books_after, books_from, books_of, first_books, is_committed, kept_under, last_book, place_of, refuses, repeats, reply_to, reply_with, verdict, verdict_again, verdict_on, verdict_over, verdict_run, verdict_when, replies_from}
+use Rattle.entry_book.specs.Batches.{Batch, is_query, past_place}
+use Rattle.entry_book.specs.History.{Leads as Led, Verdict, adds, adds_within, answers, book_for, books_after, books_from, books_of, first_books, is_committed, kept_under, last_book, place_of, refuses, repeats, reply_to, reply_with, verdict, verdict_again, verdict_on, verdict_over, verdict_when, replies_from}
 use Rattle.entry_book.specs.Tokens.{token_key}
 use Rattle.entry_book.proofs.Keys.{at_row}
 use Rattle.entry_book.proofs.KeptBatches.{kept_committed}
@@ -224,6 +224,7 @@ repeated_is domain t batch w reply rs r l q a o =
     let first : reply_to s.item.batch (books_of (batches_of s.first)) ≡ record { place = length s.first + 1; outcome = Committed s.item.replies } = replied domain t.seen s.first s.later s.item l s.split in
     let second : reply_to s.item.batch (books_of (batches_of s.first)) ≡ record { place = k.kept.place; outcome = Committed k.kept.replies } = (λ i. reply_to (s.batch_is i) (books_of (s.before_is i))) ∙ was.replied in
     record {
+      reply_is = whole;
       before = s.first;
       item = s.item;
       later = s.later;

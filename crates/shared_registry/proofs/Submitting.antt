@@ -1,20 +1,19 @@
 -- What a try comes to that had its commit looked at under the lock.
-use Rattle.std.proofs.Common.{◌≡◌, ℕ, ◌≤◌, List, [], ◌∷◌, ◌++◌, length, Option, Some, None, Ok, refl, sym, ap, subst, ◌∙◌, ⊎_elim, arith}
+use Rattle.std.proofs.Common.{◌≡◌, ℕ, List, [], ◌∷◌, ◌++◌, length, Option, Some, None, Ok, sym, ap, subst, ◌∙◌, ⊎_elim, arith}
 use mathlib.Core.List.{IsPrefix}
 use Rattle.entry_book.specs.declared.limit.Limit.{Limit}
 use Rattle.entry_book.specs.declared.reply.OpReply.{OpReply}
 use Rattle.entry_book.specs.declared.reply.Outcome.TheVariants.{Refused as WasRefused}
 use Rattle.entry_book.specs.declared.reply.Refusal.TheVariants.{Full as TooMuch}
-use Rattle.entry_book.specs.declared.reply.Reply.{Reply}
 use Rattle.entry_book.specs.Batches.{Batch}
 use Rattle.entry_book.specs.History.{books_of, reply_to}
-use Rattle.entry_book.specs.Runs.{RunEffect, RunResult, run}
+use Rattle.entry_book.specs.Runs.{RunEffect, RunResult}
 use Rattle.entry_book.specs.Writes.{RowWrite}
 use Rattle.batch_work.specs.Working.{Base, HasReplies, IsAcceptedOn, Work}
 use Rattle.commit_head.specs.declared.item.Item.{Item}
 use Rattle.commit_head.specs.Journals.{batches_of}
 use Rattle.shared_registry.specs.declared.outcome.Outcome.{Outcome}
-use Rattle.shared_registry.specs.declared.outcome.Outcome.TheVariants.{Committed, Repeated, Refused, Conflict, NoMemory, NoEntry}
+use Rattle.shared_registry.specs.declared.outcome.Outcome.TheVariants.{Refused}
 use Rattle.shared_registry.specs.Outcomes.{HasAdded, HasHeard, HasLooked, IsAdded, IsFull, IsOver, IsOvertaken, IsOvertakenOnce, IsSubmitted}
 use Rattle.shared_registry.specs.Seated.{Goes, Seated}
 use Rattle.shared_registry.proofs.Prefixes.{prefix_length, prefix_trans}

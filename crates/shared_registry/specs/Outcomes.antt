@@ -1,5 +1,5 @@
 -- What a batch of changes is answered, in the words of its seat's lists and of the plain book.
-use Rattle.std.specs.Prelude.{◌≡◌, ◌⊎◌, ⊤, ℕ, ◌+◌, ◌-◌, ◌<◌, ◌≤◌, true, List, [], ◌∷◌, ◌++◌, length, take, slice_get, Option, Some, None, IsSome, Result, Ok, Err}
+use Rattle.std.specs.Prelude.{◌≡◌, ◌⊎◌, ⊤, ℕ, ◌+◌, ◌<◌, ◌≤◌, true, List, [], ◌∷◌, ◌++◌, length, take, Option, Some, None, IsSome, Result, Ok, Err}
 use mathlib.Core.List.{IsPrefix}
 use Rattle.entry_book.specs.declared.limit.Limit.{Limit}
 use Rattle.entry_book.specs.declared.reply.OpReply.{OpReply}
@@ -11,7 +11,6 @@ use Rattle.entry_book.specs.declared.reply.Reply.{Reply}
 use Rattle.entry_book.specs.Batches.{Batch}
 use Rattle.entry_book.specs.History.{books_of, last_book, reply_to}
 use Rattle.entry_book.specs.Order.{Within}
-use Rattle.entry_book.specs.Rows.{Bytes}
 use Rattle.entry_book.specs.Writes.{RowWrite}
 use Rattle.version_book.specs.declared.mark.MarkKind.{MarkKind}
 use Rattle.version_book.specs.History.{writes_of}
@@ -71,8 +70,9 @@ pub record IsAdded (s t : Seated) (batch : Batch) (replies : List OpReply) (n : 
   pub replies_are : item.replies ≡ replies
   pub own : t.own ≡ s.own ++ t.calls ∷ []
 
--- The item of this number, which was seen, has the batch's token and its operations, and these replies.
+-- The plain book repeats these replies, as those of this place, on the books of what was seen; the item of this number has the batch's token and its operations, and these replies.
 pub record WasCommitted (t : Seated) (batch : Batch) (replies : List OpReply) (n : ℕ) : Type 0 where
+  pub reply_is : reply_to batch (books_of (batches_of t.seen)) ≡ record { place = n; outcome = WasRepeated replies }
   pub before : List Item
   pub item : Item
   pub later : List Item
@@ -164,4 +164,4 @@ IsCommitThere log next s t w WantsMemory = HasLooked log next s t
 
 abbrev pub IsDecided : List Item → List Item → Seated → Seated → Work → Result Commit WasNotLetIn → Type 0
 IsDecided log next s t w (Ok commit) = IsCommitThere log next s t w commit
-IsDecided log next s t w (Err e) = (next ≡ log) × (t.own ≡ s.own)
+IsDecided log next s t w (Err e) = (next ≡ log) × (t.seen ≡ s.seen) × (t.own ≡ s.own)

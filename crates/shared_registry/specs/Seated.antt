@@ -4,7 +4,7 @@ use mathlib.Core.List.{IsPrefix}
 use Rattle.entry_book.specs.Rows.{Bytes}
 use Rattle.commit_head.specs.declared.item.Item.{Item}
 use Rattle.commit_head.specs.Journals.{IsLawfulJournal}
-use Rattle.shared_registry.specs.Seats.{calls_of}
+use Rattle.shared_registry.specs.Seats.{AllBelow, calls_of}
 
 -- The seat's number, how many calls it has made, the journal that it has seen, the longest that it was told of, and the numbers of its own committed calls.
 pub record Seated : Type 0 where
@@ -14,10 +14,11 @@ pub record Seated : Type 0 where
   pub told : List Item
   pub own : List ℕ
 
--- What stays or grows at a call that takes a call number: what is seen is a lawful journal that begins with what was seen, and its items under this seat are the seat's own calls.
+-- What stays or grows at a call that takes a call number: the number is above those of the seat's own calls so far; what is seen is a lawful journal that begins with what was seen, and its items under this seat are the seat's own calls.
 pub record Along (domain : Bytes) (s t : Seated) : Type 0 where
   pub number : t.number ≡ s.number
   pub calls : t.calls ≡ s.calls + 1
+  pub fresh : AllBelow t.calls s.own
   pub lawful : IsLawfulJournal domain t.seen
   pub seen : IsPrefix s.seen t.seen
   pub told : t.told ≡ s.told

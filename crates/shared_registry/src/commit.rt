@@ -26,10 +26,11 @@ use std::sync::Wait;
 // A commit that finds so many items kept makes a checkpoint first.
 const MOST_KEPT: u64 = 4096;
 
-/// Makes a checkpoint where many items are kept.
+/// Makes a checkpoint where many items are kept, so that there is room for one more.
 fn tidy(head: &mut Head)
     ensures window { head.new.window ≡ head.old.window }
     ensures kept { (head.new ≡ head.old) ⊎ (head.new.kept ≡ last_items head.old.kept) }
+    ensures few { length head.new.kept < 4096 }
 {
     if head.kept() >= MOST_KEPT {
         head.checkpoint();

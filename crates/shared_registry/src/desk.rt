@@ -10,12 +10,13 @@ ghost use Rattle.shared_registry.specs.Works.{IsRead};
 
 use crate::commit::decide;
 use crate::history::{Front, History, Naming};
-use crate::published::{Published, opening};
+use crate::published::{Board, Published, opening};
 use crate::recent::Recent;
 use crate::rule::{Rule, View};
 use crate::seat::{NoEntry, Receipt, Seat};
 use batch_work::{Status, Work};
 use commit_head::{Commit, Head};
+use entry_book::Shared;
 use left_right::writer::Writer;
 use spiffe_name::TrustDomain;
 use std::alloc::{AllocError, Global};
@@ -54,7 +55,7 @@ impl<J: Naming> Model for Core<J> {
 }
 
 impl<J: Naming> Core<J> {
-    ghost use Rattle.std.specs.Prelude.{◌≡◌, [], IfOk, length};
+    ghost use Rattle.std.specs.Prelude.{◌≡◌, ◌≤◌, [], IfOk, length};
 
     /// An empty book of the trust domain. The error is want of memory.
     pub(crate) fn new(
@@ -122,19 +123,20 @@ impl<J: Naming> Core<J> {
         Ok(seat.receipt())
     }
 
-    /// Sees all items so far, and commits a work that is ready as the seat's call, or tells why not.
+    /// Sees all items so far, and commits a work that is ready as the seat's call, or tells why not. A board that isn't kept any more
+    /// is handed out, to be let go once the lock is given back.
     pub(crate) fn commit<R: Wait>(
         &mut self,
         rt: &R,
         history: &History<J>,
         seat: &mut Seat<J>,
         work: &Work,
-    ) -> Result<Commit, NoEntry>
+    ) -> (Result<Commit, NoEntry>, Option<Shared<Board>>)
         requires call { AllBelow seat.old.calls seat.old.own }
         requires ready { status_of work.now ≡ Status.Ready }
         requires read { IsRead J.domain seat.old.seen work.now.batch work.now }
         ensures goes { Goes seat.old seat.new }
-        ensures decided { IsDecided self.old self.new seat.old seat.new work.now result }
+        ensures decided { IsDecided self.old self.new seat.old seat.new work.now result.0 }
     {
         let Some(writer) = self.writer.take() else {
             unreachable!()
@@ -149,16 +151,18 @@ impl<J: Naming> Core<J> {
             seat,
             work,
         );
-        self.recent.keep(writer.published());
+        let passed = self.recent.keep(writer.published());
         match replace(&mut self.writer, Some(writer)) {
             None => {}
             Some(_other) => unreachable!(),
         }
-        decided
+        (decided, passed)
     }
 
     /// How many items are kept.
-    pub(crate) fn kept(&self) -> u64 {
+    pub(crate) fn kept(&self) -> u64
+        ensures { result ≤ 4096 }
+    {
         self.head.kept()
     }
 

@@ -1,14 +1,14 @@
 //! What do callers' threads share?
 
-ghost use Rattle.std.specs.Prelude.{◌≡◌, ◌<◌, ◌^◌, [], IfOk, MatchResult, true, false};
+ghost use Rattle.std.specs.Prelude.{◌≡◌, ◌<◌, ◌≤◌, ◌^◌, [], length, IfOk, MatchResult, true, false};
 ghost use mathlib.Core.List.{IsPrefix};
 ghost use Rattle.entry_book.specs.Batches.{is_query};
 ghost use Rattle.entry_book.specs.History.{books_of, reply_to};
-ghost use Rattle.commit_head.specs.Journals.{batches_of};
+ghost use Rattle.commit_head.specs.Journals.{IsLawfulJournal, batches_of};
 ghost use Rattle.batch_work.specs.Working.{HasReplies, status_of};
 ghost use Rattle.shared_registry.specs.Outcomes.{HasHeard, IsFull, IsOver, IsRepeated, IsSubmitted, IsTry};
 ghost use Rattle.shared_registry.specs.Seated.{Along, Entered, Goes, Stays};
-ghost use Rattle.shared_registry.specs.Seats.{AllBelow};
+ghost use Rattle.shared_registry.specs.Seats.{AllBelow, calls_of};
 ghost use Rattle.shared_registry.specs.Works.{IsRead};
 
 use crate::desk::{Core, NoSeat};
@@ -91,7 +91,7 @@ pub struct Registry<J: Naming> {
 }
 
 impl<J: Naming> Registry<J> {
-    ghost use Rattle.std.specs.Prelude.{◌≡◌, ◌<◌, ◌^◌, [], IfOk, MatchResult, true, false};
+    ghost use Rattle.std.specs.Prelude.{◌≡◌, ◌<◌, ◌≤◌, ◌^◌, [], length, IfOk, MatchResult, true, false};
 
     /// The registry of a history that was just opened, with the empty book of a trust domain. The error is want of memory.
     pub fn new(
@@ -129,6 +129,7 @@ impl<J: Naming> Registry<J> {
         requires query { is_query batch.ops ≡ true }
         requires domain { batch.domain ≡ J.domain }
         ensures answer { IfOk result (λ reply. reply ≡ reply_to batch (books_of (batches_of seat.new.seen))) }
+        ensures place { IfOk result (λ reply. reply.place ≡ length seat.new.seen) }
         ensures entered { MatchResult result (λ _. Entered J.domain seat.old seat.new) (λ _. Stays J.domain seat.old seat.new) }
         ensures own { seat.new.own ≡ seat.old.own }
     {
@@ -216,8 +217,9 @@ impl<J: Naming> Registry<J> {
         let (number, call) = (seat.number() as u32, seat.calls());
         let mut core = self.core.lock(rt);
         gate.pass(Point::BeforeCommit, number, call);
-        let decided = core.commit(rt, &self.history, seat, &work);
+        let (decided, passed) = core.commit(rt, &self.history, seat, &work);
         MutexGuard::unlock(core);
+        drop(passed);
         gate.pass(Point::AfterCommit, number, call);
         let batch = work.into_batch();
         match decided {
@@ -233,18 +235,22 @@ impl<J: Naming> Registry<J> {
     /// lock, and nothing is promised of when that is had.
     pub fn news<R: Wait>(&self, rt: &R, seat: &mut Seat<J>) -> Result<Receipt<J>, NoEntry>
         ensures goes { Goes seat.old seat.new }
-        ensures own { seat.new.own ≡ seat.old.own }
+        ensures lawful { IsLawfulJournal J.domain seat.new.seen }
+        ensures own { (seat.new.own ≡ seat.old.own) × (calls_of seat.new.number seat.new.seen ≡ seat.new.own) }
         ensures heard { IfOk result (λ _. IsPrefix seat.old.told seat.new.seen) }
         ensures receipt { MatchResult result (λ r. r ≡ seat.new.seen) (λ _. seat.new.seen ≡ seat.old.seen) }
     {
         let mut core = self.core.lock(rt);
         let receipt = core.news(seat);
         MutexGuard::unlock(core);
+        let _place = seat.place();
         receipt
     }
 
-    /// How many items of the journal are kept. It waits for the lock, and nothing is promised of when that is had.
-    pub fn kept<R: Wait>(&self, rt: &R) -> u64 {
+    /// How many items of the journal are kept, 4,096 at most. It waits for the lock, and nothing is promised of when that is had.
+    pub fn kept<R: Wait>(&self, rt: &R) -> u64
+        ensures { result ≤ 4096 }
+    {
         let core = self.core.lock(rt);
         let kept = core.kept();
         MutexGuard::unlock(core);

@@ -91,6 +91,7 @@ impl<J: Naming> Seat<J> {
         ensures place { result ≡ length self.now.seen }
         ensures lawful { IsLawfulJournal J.domain self.now.seen }
         ensures own { calls_of self.now.number self.now.seen ≡ self.now.own }
+        ensures below { AllBelow (self.now.calls + 1) self.now.own }
     {
         let _number = self.number;
         self.seen.len()
@@ -243,6 +244,7 @@ impl<J: Naming> Seat<J> {
         requires query { is_query batch.ops ≡ true }
         requires domain { batch.domain ≡ J.domain }
         ensures answer { IfOk result (λ reply. reply ≡ reply_to batch (books_of (batches_of self.new.seen))) }
+        ensures place { IfOk result (λ reply. reply.place ≡ length self.new.seen) }
         ensures entered { MatchResult result (λ _. Entered J.domain self.old self.new) (λ _. Stays J.domain self.old self.new) }
         ensures own { self.new.own ≡ self.old.own }
     {
@@ -340,7 +342,8 @@ fn find<J: Naming>(
 fn answered(alloc: Global, page: &Published, batch: Batch) -> Result<Shared<Reply>, AllocError>
     requires query { is_query batch.ops ≡ true }
     requires domain { batch.domain ≡ page.now.window.newest.domain }
-    ensures { IfOk result (λ reply. reply ≡ reply_to batch (books_of (batches_of page.now.journal))) }
+    ensures answer { IfOk result (λ reply. reply ≡ reply_to batch (books_of (batches_of page.now.journal))) }
+    ensures place { IfOk result (λ reply. reply.place ≡ length page.now.journal) }
 {
     let _ = batch.ops();
     let mut work = begun(alloc, page, batch)?;

@@ -1,5 +1,6 @@
-use Rattle.std.proofs.Common.{◌≡◌, ◌+◌, ◌++◌, ◌∷◌, [], length, length-append, refl, sym, ap, subst, ◌∙◌, arith}
+use Rattle.std.proofs.Common.{◌≡◌, ◌<◌, ◌++◌, ◌∷◌, [], List, length, length-append, refl, sym, ap, subst, ◌∙◌, arith}
 use mathlib.Core.List.{IsPrefix}
+use Rattle.commit_head.specs.declared.item.Item.{Item}
 use Rattle.commit_head.specs.Heads.{IsJournal}
 use Rattle.commit_head.specs.Journals.{IsLawfulJournal}
 use Rattle.shared_registry.specs.Desk.{IsTied}
@@ -14,12 +15,12 @@ pub prepare-requires-clause-began : goal.prepare-requires-clause-began
 prepare-requires-clause-began g c =
     let log = ap (λ (p : Shown). p.journal) c.published-published.ensures ∙ c.requires.published.journal_is in
     let pre = subst (IsPrefix c.args.seat.now.seen) log (c.fits.ensures.seen c.if-not-fits.false) in
-    let tidy = tidied g.J.Naming.domain c.args.last.now c.args.head.now c.tidy.new.head c.requires.tied c.tidy.ensures.window c.tidy.ensures.kept in
+    let tidy = tidied g.J.Naming.domain c.args.last.now c.args.head.now c.tidy.new.head c.requires.tied c.tidy.ensures.window c.tidy.ensures.kept c.tidy.ensures.few in
     began g.J.Naming.domain c.args.seat.now.seen c.args.last.now c.args.work.now.batch c.args.work.now c.tidy.new.head c.requires.read pre tidy
 
 pub returns-in-Err-clause-tied : goal.returns-in-Err-clause-tied
 returns-in-Err-clause-tied g c =
-    let tidy = tidied g.J.Naming.domain c.args.last.now c.args.head.now c.tidy.new.head c.requires.tied c.tidy.ensures.window c.tidy.ensures.kept in
+    let tidy = tidied g.J.Naming.domain c.args.last.now c.args.head.now c.tidy.new.head c.requires.tied c.tidy.ensures.window c.tidy.ensures.kept c.tidy.ensures.few in
     let tied = tied_stays g.J.Naming.domain c.args.last.now c.tidy.new.head c.prepare.new.self tidy c.prepare.ensures.stays in
     tied
 
@@ -27,7 +28,7 @@ pub returns-in-Err-clause-decided : goal.returns-in-Err-clause-decided
 returns-in-Err-clause-decided g c =
     let log = ap (λ (p : Shown). p.journal) c.published-published.ensures ∙ c.requires.published.journal_is in
     let pre = subst (IsPrefix c.args.seat.now.seen) log (c.fits.ensures.seen c.if-not-fits.false) in
-    let tidy = tidied g.J.Naming.domain c.args.last.now c.args.head.now c.tidy.new.head c.requires.tied c.tidy.ensures.window c.tidy.ensures.kept in
+    let tidy = tidied g.J.Naming.domain c.args.last.now c.args.head.now c.tidy.new.head c.requires.tied c.tidy.ensures.window c.tidy.ensures.kept c.tidy.ensures.few in
     refused_there g.J.Naming.domain c.args.last.now c.args.seat.now c.see.new.self c.args.work.now c.tidy.new.head c.in-Err.refusal c.requires.read c.requires.ready pre tidy
     (record { same = refl; seen = c.see.ensures.seen ∙ c.again.ensures; own = c.see.ensures.own })
     c.in-Err.ensures.refused
@@ -35,7 +36,7 @@ returns-in-Err-clause-decided g c =
 pub board_with-requires-clause-fits : goal.board_with-requires-clause-fits
 board_with-requires-clause-fits g c =
     let log = ap (λ (p : Shown). p.journal) c.published-published.ensures ∙ c.requires.published.journal_is in
-    let tidy = tidied g.J.Naming.domain c.args.last.now c.args.head.now c.tidy.new.head c.requires.tied c.tidy.ensures.window c.tidy.ensures.kept in
+    let tidy = tidied g.J.Naming.domain c.args.last.now c.args.head.now c.tidy.new.head c.requires.tied c.tidy.ensures.window c.tidy.ensures.kept c.tidy.ensures.few in
     let tied = tied_stays g.J.Naming.domain c.args.last.now c.tidy.new.head c.prepare.new.self tidy c.prepare.ensures.stays in
     let domain = ap (λ (p : Shown). p.window.newest.domain) c.published-published.ensures ∙ c.requires.published.of_it.domain_is in
     let journal : IsJournal c.args.last.now (whole_head c.published-published.result.now.window c.args.last.now) = subst (λ l. IsJournal l (whole_head c.published-published.result.now.window l)) log c.window-window.ensures.journal in
@@ -43,13 +44,13 @@ board_with-requires-clause-fits g c =
 
 pub returns-in_default-clause-tied : goal.returns-in_default-clause-tied
 returns-in_default-clause-tied g c =
-    let tidy = tidied g.J.Naming.domain c.args.last.now c.args.head.now c.tidy.new.head c.requires.tied c.tidy.ensures.window c.tidy.ensures.kept in
+    let tidy = tidied g.J.Naming.domain c.args.last.now c.args.head.now c.tidy.new.head c.requires.tied c.tidy.ensures.window c.tidy.ensures.kept c.tidy.ensures.few in
     let tied = tied_stays g.J.Naming.domain c.args.last.now c.tidy.new.head c.prepare.new.self tidy c.prepare.ensures.stays in
     tied
 
 pub add-requires-clause-room : goal.add-requires-clause-room
 add-requires-clause-room g c =
-    let tidy = tidied g.J.Naming.domain c.args.last.now c.args.head.now c.tidy.new.head c.requires.tied c.tidy.ensures.window c.tidy.ensures.kept in
+    let tidy = tidied g.J.Naming.domain c.args.last.now c.args.head.now c.tidy.new.head c.requires.tied c.tidy.ensures.window c.tidy.ensures.kept c.tidy.ensures.few in
     let tied = tied_stays g.J.Naming.domain c.args.last.now c.tidy.new.head c.prepare.new.self tidy c.prepare.ensures.stays in
     let low = journal_low g.J.Naming.domain c.args.last.now c.prepare.new.self tied in
     let same = ap length c.again-front.ensures in
@@ -58,7 +59,7 @@ add-requires-clause-room g c =
 pub add-requires-clause-lawful : goal.add-requires-clause-lawful
 add-requires-clause-lawful g c =
     let log = ap (λ (p : Shown). p.journal) c.published-published.ensures ∙ c.requires.published.journal_is in
-    let tidy = tidied g.J.Naming.domain c.args.last.now c.args.head.now c.tidy.new.head c.requires.tied c.tidy.ensures.window c.tidy.ensures.kept in
+    let tidy = tidied g.J.Naming.domain c.args.last.now c.args.head.now c.tidy.new.head c.requires.tied c.tidy.ensures.window c.tidy.ensures.kept c.tidy.ensures.few in
     let tied = tied_stays g.J.Naming.domain c.args.last.now c.tidy.new.head c.prepare.new.self tidy c.prepare.ensures.stays in
     let of_work = c.in-Ok.ensures.of_work in
     let own = sym (c.fits.ensures.own c.if-not-fits.false) ∙ ap (calls_of c.args.seat.now.number) log in
@@ -69,14 +70,14 @@ add-requires-clause-lawful g c =
 
 pub returns-then-not-add-clause-tied : goal.returns-then-not-add-clause-tied
 returns-then-not-add-clause-tied g c =
-    let tidy = tidied g.J.Naming.domain c.args.last.now c.args.head.now c.tidy.new.head c.requires.tied c.tidy.ensures.window c.tidy.ensures.kept in
+    let tidy = tidied g.J.Naming.domain c.args.last.now c.args.head.now c.tidy.new.head c.requires.tied c.tidy.ensures.window c.tidy.ensures.kept c.tidy.ensures.few in
     let tied = tied_stays g.J.Naming.domain c.args.last.now c.tidy.new.head c.prepare.new.self tidy c.prepare.ensures.stays in
     tied
 
 pub of-requires : goal.of-requires
 of-requires g c =
     let log = ap (λ (p : Shown). p.journal) c.published-published.ensures ∙ c.requires.published.journal_is in
-    let tidy = tidied g.J.Naming.domain c.args.last.now c.args.head.now c.tidy.new.head c.requires.tied c.tidy.ensures.window c.tidy.ensures.kept in
+    let tidy = tidied g.J.Naming.domain c.args.last.now c.args.head.now c.tidy.new.head c.requires.tied c.tidy.ensures.window c.tidy.ensures.kept c.tidy.ensures.few in
     let tied = tied_stays g.J.Naming.domain c.args.last.now c.tidy.new.head c.prepare.new.self tidy c.prepare.ensures.stays in
     let domain = ap (λ (p : Shown). p.window.newest.domain) c.published-published.ensures ∙ c.requires.published.of_it.domain_is in
     let journal : IsJournal c.args.last.now (whole_head c.published-published.result.now.window c.args.last.now) = subst (λ l. IsJournal l (whole_head c.published-published.result.now.window l)) log c.window-window.ensures.journal in
@@ -97,17 +98,18 @@ see-requires-2-clause-seen g c =
 
 pub returns-clause-tied : goal.returns-clause-tied
 returns-clause-tied g c =
-    let tidy = tidied g.J.Naming.domain c.args.last.now c.args.head.now c.tidy.new.head c.requires.tied c.tidy.ensures.window c.tidy.ensures.kept in
+    let few = subst (λ (l : List Item). length l < 4096) (sym c.prepare.ensures.stays.kept) c.tidy.ensures.few in
+    let tidy = tidied g.J.Naming.domain c.args.last.now c.args.head.now c.tidy.new.head c.requires.tied c.tidy.ensures.window c.tidy.ensures.kept c.tidy.ensures.few in
     let tied = tied_stays g.J.Naming.domain c.args.last.now c.tidy.new.head c.prepare.new.self tidy c.prepare.ensures.stays in
     let whole : c.add.new.self ≡ c.args.last.now ++ c.in-Ok.prepared.item ∷ [] = c.if-not-add.ensures ∙ (λ i. c.again-front.ensures i ++ c.item.ensures i ∷ []) in
-    subst (λ l. IsTied g.J.Naming.domain l c.finish-place.new.self) (sym whole) (tied_more g.J.Naming.domain c.args.last.now c.in-Ok.prepared.item c.prepare.new.self c.finish-place.new.self tied c.in-Ok.ensures.fits.goes.joins c.finish-place.ensures.appended)
+    subst (λ l. IsTied g.J.Naming.domain l c.finish-place.new.self) (sym whole) (tied_more g.J.Naming.domain c.args.last.now c.in-Ok.prepared.item c.prepare.new.self c.finish-place.new.self tied c.in-Ok.ensures.fits.goes.joins c.finish-place.ensures.appended few)
 
 pub returns-clause-goes : goal.returns-clause-goes
 returns-clause-goes g c = goes_on c.args.seat.now c.see-2.new.self c.see_own.new.self c.see-2.ensures.goes c.see_own.ensures.goes
 
 pub returns-clause-decided : goal.returns-clause-decided
 returns-clause-decided g c =
-    let tidy = tidied g.J.Naming.domain c.args.last.now c.args.head.now c.tidy.new.head c.requires.tied c.tidy.ensures.window c.tidy.ensures.kept in
+    let tidy = tidied g.J.Naming.domain c.args.last.now c.args.head.now c.tidy.new.head c.requires.tied c.tidy.ensures.window c.tidy.ensures.kept c.tidy.ensures.few in
     let tied = tied_stays g.J.Naming.domain c.args.last.now c.tidy.new.head c.prepare.new.self tidy c.prepare.ensures.stays in
     let whole : c.add.new.self ≡ c.args.last.now ++ c.in-Ok.prepared.item ∷ [] = c.if-not-add.ensures ∙ (λ i. c.again-front.ensures i ++ c.item.ensures i ∷ []) in
     let of_work = c.in-Ok.ensures.of_work in record {

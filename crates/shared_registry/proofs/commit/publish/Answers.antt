@@ -1,5 +1,4 @@
 use Rattle.std.proofs.Common.{◌≡◌, ◌++◌, ◌∷◌, [], fold, ap, subst, sym, ◌∙◌}
-use mathlib.Core.List.{IsPrefix}
 use Rattle.shared_registry.specs.Shown.{IsOf, Shown}
 use Rattle.shared_registry.proofs.Steps.{sees}
 use Rattle.shared_registry.proofs.commit.publish.Goals as goal

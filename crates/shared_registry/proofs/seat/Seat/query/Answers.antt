@@ -1,5 +1,6 @@
-use Rattle.std.proofs.Common.{◌+◌, ◌∙◌, sym, ap, refl, arith}
+use Rattle.std.proofs.Common.{◌+◌, ◌∙◌, sym, ap, refl, subst, arith}
 use mathlib.Core.List.{IsPrefix}
+use Rattle.shared_registry.specs.Seats.{AllBelow}
 use Rattle.shared_registry.proofs.Calls.{calls_same, below_more}
 use Rattle.shared_registry.proofs.Prefixes.{prefix_self}
 use Rattle.shared_registry.proofs.Results.{ok_of}
@@ -30,6 +31,7 @@ returns-in-Err-clause-entered g c =
       along = record {
         number = ap (λ s. s.number) is;
         calls = ap (λ s. s.calls + 1) is;
+        fresh = subst (λ s. AllBelow (c.self.inside.calls + 1) s.own) is c.self.invariant.2;
         lawful = c.len-seen.ensures.lawful;
         seen = rw (← is) (prefix_self c.self.inside.seen);
         told = ap (λ s. s.told) is;
@@ -47,6 +49,7 @@ returns-in-Ok-answered-clause-entered g c =
       along = record {
         number = ap (λ s. s.number) is;
         calls = ap (λ s. s.calls + 1) is;
+        fresh = subst (λ s. AllBelow (c.self.inside.calls + 1) s.own) is c.self.invariant.2;
         lawful = c.len-place.ensures.lawful;
         seen = rw (← is) more;
         told = ap (λ s. s.told) is;

@@ -1,5 +1,4 @@
-use Rattle.std.proofs.Common.{◌≡◌, ◌≤◌, ◌+◌, ◌∷◌, ◌++◌, [], length, sym, ap, ◌∙◌, arith}
-use Rattle.shared_registry.specs.Seats.{calls_of}
+use Rattle.std.proofs.Common.{◌≡◌, ◌∷◌, ◌++◌, [], sym, ap, ◌∙◌, arith}
 use Rattle.shared_registry.proofs.Calls.{below_own, calls_length, count_more, own_more}
 use Rattle.shared_registry.proofs.seat.Seat.see_own.Goals as goal
 
