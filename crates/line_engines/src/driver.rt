@@ -24,6 +24,9 @@ pub trait Answerer {
     // How many lines were answered.
     ghost lines: { Self → ℕ };
 
+    // What stays of how a run began, whatever its lines are answered and however it ends.
+    ghost keeps: { Self → Self → Type 0 };
+
     // The reply that a line may get, and what the run has come to then.
     ghost answers: { Self.Setting → Self.State → List ℕ → Self.State → List ℕ → Type 0 };
 
@@ -41,6 +44,7 @@ pub trait Answerer {
         requires { Self.lines self.old < 2 ^ 63 }
         ensures lines { Self.lines self.new ≡ Self.lines self.old + 1 }
         ensures setting { Self.setting self.new ≡ Self.setting self.old }
+        ensures keeps { (first : Self) → Self.keeps first self.old → Self.keeps first self.new }
         ensures answered { (now : Self.State) → Self.stands self.old now
             → AnswersKept (Self.answers (Self.setting self.old)) Self.ends (Self.stands self.new) now line.now output.old output.new result };
 
@@ -50,6 +54,7 @@ pub trait Answerer {
         ensures closed { (now : Self.State) → Self.stands self.old now
             → OnOk result (Closes (Self.closes (Self.setting self.old)) now output.old output.new) }
         ensures stood { (now : Self.State) → Self.stands self.old now → Self.stands self.new now }
+        ensures keeps { (first : Self) → Self.keeps first self.old → Self.keeps first self.new }
         ensures wanting { OnErr result Self.wants }
         ensures stays { OnErr result (output.new ≡ output.old) };
 
@@ -60,7 +65,7 @@ pub trait Answerer {
 /// Has each line of the input answered, in order, until the answerer ends the run, and then the last text put.
 ///
 /// The replies are out before each read that may wait, and at the end. What the run has come to then is what the answerer
-/// stands for.
+/// stands for; what it keeps of its beginning it keeps also where a device failed.
 pub fn run_lines<A: Answerer, S: Source, K: Sink>(
     alloc: Global,
     answerer: &mut A,
@@ -71,7 +76,8 @@ pub fn run_lines<A: Answerer, S: Source, K: Sink>(
     requires input { input.old.failures ≡ 0 }
     requires output { output.old.failures ≡ 0 }
     requires none_held { output.old.held ≡ [] }
-    ensures { (first : A.State) → A.stands answerer.old first → A.ends first ≡ false
+    ensures keeps { (first : A) → A.keeps first answerer.old → A.keeps first answerer.new }
+    ensures runs { (first : A.State) → A.stands answerer.old first → A.ends first ≡ false
         → RunsOver (Steps A.ends (A.answers (A.setting answerer.old))) (ClosesAs (A.closes (A.setting answerer.old)) (A.stands answerer.new)) A.wants first input.old input.new output.old output.new result }
 {
     let mut line = Line::new(alloc)?;
@@ -102,6 +108,7 @@ fn finish<A: Answerer, K: Sink>(
     ensures closed { (now : A.State) → A.stands answerer.old now
         → Closes (A.closes (A.setting answerer.old)) now output.old output.new ⊎ Puts output.old output.new [] }
     ensures stood { (now : A.State) → A.stands answerer.old now → A.stands answerer.new now }
+    ensures keeps { (first : A) → A.keeps first answerer.old → A.keeps first answerer.new }
     ensures ok { OnOk result ((output.new.failures ≡ 0) × IsOut output.new) }
     ensures ok_closed { (now : A.State) → A.stands answerer.old now
         → OnOk result (Closes (A.closes (A.setting answerer.old)) now output.old output.new) }

@@ -75,7 +75,7 @@ impl PlainRun {
 }
 
 impl Answerer for PlainRun {
-    ghost use Rattle.std.specs.Prelude.{ℕ, List, false, ◌+◌, refl};
+    ghost use Rattle.std.specs.Prelude.{ℕ, List, false, ⊤, ◌+◌, refl};
     ghost use Rattle.line_engines.specs.Answers.{Answers, ClosesWithNothing, Keeping, Running, StandsFor, an_answer};
 
     ghost State = { Running };
@@ -87,6 +87,8 @@ impl Answerer for PlainRun {
     ghost stands = { StandsFor };
 
     ghost lines = { λ r. r.lines };
+
+    ghost keeps = { λ _ _. ⊤ };
 
     ghost answers = { Answers };
 

@@ -66,6 +66,8 @@ impl Answerer for RecordRun {
 
     ghost lines = { λ r. r.lines };
 
+    ghost keeps = { λ _ _. ⊤ };
+
     ghost answers = { TakesEvent };
 
     ghost ends = { λ _. false };

@@ -119,6 +119,8 @@ impl Answerer for ScheduleRun {
 
     ghost lines = { λ r. r.lines };
 
+    ghost keeps = { λ _ _. ⊤ };
+
     ghost answers = { AnswersEvent };
 
     ghost ends = { λ _. false };

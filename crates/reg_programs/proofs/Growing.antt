@@ -6,7 +6,7 @@ use Rattle.shared_registry.specs.Seated.{Along, Seated}
 use Rattle.shared_registry.proofs.Prefixes.{prefix_self, prefix_trans}
 use Rattle.reg_programs.specs.Sessions.{AnswersCall, AnswersRequest, Grew, Session, SessionsGrow, answered, asked, no_reply, not_read, passed, refused, replied, spent, submitted}
 
-grew_same : (domain : Bytes) (s : Seated) → Grew domain s s
+pub grew_same : (domain : Bytes) (s : Seated) → Grew domain s s
 grew_same domain s = record {
   number = refl;
   calls = omega arith;
@@ -15,7 +15,7 @@ grew_same domain s = record {
   told = refl;
 }
 
-grew_on : (domain : Bytes) (s t u : Seated) → Grew domain s t → Grew domain t u → Grew domain s u
+pub grew_on : (domain : Bytes) (s t u : Seated) → Grew domain s t → Grew domain t u → Grew domain s u
 grew_on domain s t u a b = record {
   number = b.number ∙ a.number;
   calls = let x = a.calls in let y = b.calls in omega arith;
@@ -41,7 +41,7 @@ grew_by_call domain s t request line text (submitted outcome q a h i r) = grew_a
 grew_to : (domain : Bytes) (s : Seated) (made next : Session) → next ≡ made → Grew domain s made.seat → Grew domain s next.seat
 grew_to domain s made next e a = subst (λ (x : Session). Grew domain s x.seat) (sym e) a
 
-grew_by_line : (domain : Bytes) (now next : Session) (line reply : List ℕ) → AnswersRequest domain now line next reply → Grew domain now.seat next.seat
+pub grew_by_line : (domain : Bytes) (now next : Session) (line reply : List ℕ) → AnswersRequest domain now line next reply → Grew domain now.seat next.seat
 grew_by_line domain now next line reply (refused fault e n r) = grew_to domain now.seat (passed now) next n (grew_same domain now.seat)
 grew_by_line domain now next line reply (not_read n r) = grew_to domain now.seat (passed now) next n (grew_same domain now.seat)
 grew_by_line domain now next line reply (spent request ids e l n r) = grew_to domain now.seat (asked now now.seat ids) next n (grew_same domain now.seat)

@@ -10,17 +10,17 @@ use std::time::{Clock, Duration};
 use std::{io, thread};
 
 /// Accepts so many connections, in order, and puts connection j, counted from 0, into queue j mod N of N. Where memory is
-/// wanting to put one, it is closed, and the others go on.
+/// wanting to put one, it is closed, and the others go on. The listener is closed in the end.
 pub(crate) fn accept_all<R: Wait + Clock>(
     rt: &R,
-    listener: &TcpListener,
+    listener: TcpListener,
     queues: &[Queue],
     connections: u64,
 ) -> Result<(), ServeFault>
     requires { 0 < length queues.now }
 {
     for number in 0..connections {
-        let stream = next_stream(rt, listener)?;
+        let stream = next_stream(rt, &listener)?;
         let queue = &queues[worker_of(number, queues.len())];
         let _ = queue.put(rt, Connection { number, stream });
     }

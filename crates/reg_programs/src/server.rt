@@ -82,7 +82,7 @@ fn listen<
         seed,
         seats,
         queues.as_slice(),
-        &listener,
+        listener,
         plan.connections as u64,
     )
 }
@@ -113,9 +113,10 @@ fn tell<R: Print>(rt: &R, address: SocketAddr) -> io::Result<()> {
     println!(rt; "{{\"listening\":\"{address}\"}}")
 }
 
-/// Starts a worker with one of the seats for each queue, accepts the connections, and returns when all workers have ended.
-/// Where no thread is to be had for a worker, memory is said to be wanting, and no connection is accepted. It waits for
-/// connections and for what they carry, and nothing is promised of its end.
+/// Starts a worker with one of the seats for each queue, accepts the connections, and returns when all workers have ended. The
+/// listener is closed behind the last connection, so that whoever calls later is refused at once, and not kept waiting. Where no
+/// thread is to be had for a worker, memory is said to be wanting, and no connection is accepted. It waits for connections and for
+/// what they carry, and nothing is promised of its end.
 pub fn serve_connections<J: Naming + Send + Sync, R: Threads + Wait + Clock + Sync>(
     rt: &R,
     alloc: Global,
@@ -124,7 +125,7 @@ pub fn serve_connections<J: Naming + Send + Sync, R: Threads + Wait + Clock + Sy
     seed: [u8; 32],
     mut seats: Vec<Seat<J>>,
     queues: &[Queue],
-    listener: &TcpListener,
+    listener: TcpListener,
     connections: u64,
 ) -> Result<(), ServeFault>
     requires domain { domain.now ≡ J.domain }

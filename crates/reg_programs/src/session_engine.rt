@@ -2,7 +2,7 @@
 
 ghost use Rattle.std.specs.Prelude.{◌≡◌, ◌+◌, ◌<◌, ◌^◌, [], true, false};
 ghost use Rattle.entry_book.specs.Batches.{is_query};
-ghost use Rattle.reg_programs.specs.Sessions.{AnswersCall, RunsSession, Session, SessionsGrow, TakesRequestLine, line_answer_json, no_answer_json, outcome_json};
+ghost use Rattle.reg_programs.specs.Sessions.{AnswersCall, Grew, RunsSession, Session, SessionsGrow, TakesRequestLine, line_answer_json, no_answer_json, outcome_json};
 
 use entry_book::{Outcome as BatchOutcome, Reply, Shared};
 use line_engines::{Answerer, RunFault, run_lines};
@@ -19,8 +19,8 @@ use std::sync::Wait;
 /// Answers each line of the input through the seat, in order, and hands the seat back. Creates that come without an id get the
 /// ids, in order.
 ///
-/// The replies are out before each read that may wait, and at the end. It waits for the input, and for the registry's lock, and
-/// nothing is promised of its end.
+/// The replies are out before each read that may wait, and at the end. What the seat has seen has only grown, also where a device
+/// failed. It waits for the input, and for the registry's lock, and nothing is promised of its end.
 pub fn session<J: Naming, R: Wait, S: Source, K: Sink>(
     rt: &R,
     alloc: Global,
@@ -35,7 +35,8 @@ pub fn session<J: Naming, R: Wait, S: Source, K: Sink>(
     requires input { input.old.failures ≡ 0 }
     requires output { output.old.failures ≡ 0 }
     requires none_held { output.old.held ≡ [] }
-    ensures { RunsSession J.domain seat ids input.old input.new output.old output.new result.0 result.1 }
+    ensures runs { RunsSession J.domain seat ids input.old input.new output.old output.new result.0 result.1 }
+    ensures grew { Grew J.domain seat result.0 }
 {
     let mut run = SessionRun {
         rt,
@@ -84,7 +85,7 @@ impl<'a, J: Naming, R: Wait> SessionRun<'a, J, R> {
 
 impl<'a, J: Naming, R: Wait> Answerer for SessionRun<'a, J, R> {
     ghost use Rattle.std.specs.Prelude.{◌≡◌, ⊤, [], false};
-    ghost use Rattle.reg_programs.specs.Sessions.{AnswersRequest, Session, a_request_answer};
+    ghost use Rattle.reg_programs.specs.Sessions.{AnswersRequest, Grew, Session, a_request_answer};
 
     ghost State = { Session };
 
@@ -95,6 +96,8 @@ impl<'a, J: Naming, R: Wait> Answerer for SessionRun<'a, J, R> {
     ghost stands = { λ r s. s ≡ r };
 
     ghost lines = { λ r. r.lines };
+
+    ghost keeps = { λ first r. Grew J.domain first.seat r.seat };
 
     ghost answers = { λ _. AnswersRequest J.domain };
 

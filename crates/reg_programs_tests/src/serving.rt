@@ -154,7 +154,7 @@ fn served_by<
         domain,
         seats,
         queues.as_slice(),
-        &listener,
+        listener,
         address,
         callers,
     )
@@ -171,7 +171,7 @@ fn both<
     domain: &TrustDomain,
     seats: Vec<Seat<J>>,
     queues: &[Queue],
-    listener: &TcpListener,
+    listener: TcpListener,
     address: SocketAddr,
     callers: Callers,
 ) -> Result<String, Fail>

@@ -23,7 +23,7 @@ returns-in_err-run g c =
 pub returns-in-Ok : goal.returns-in-Ok
 returns-in-Ok g c =
     let P : List ℕ → Type 0 = λ d. RunsOver (Steps is_over (AnswersRecord d)) (ClosesAs ClosesWithVerdict (StandsFor c.run_lines.new.answerer)) ⊤ start c.args.input.now c.run_lines.new.input c.args.output.now c.run_lines.new.output c.run_lines.result in
-    let ran = subst P c.in_ok-run.ensures.domain (c.run_lines.ensures start c.in_ok-run.ensures.stands refl) in
+    let ran = subst P c.in_ok-run.ensures.domain (c.run_lines.ensures.runs start c.in_ok-run.ensures.stands refl) in
     let done = RunsOver-ok {W = Outcome} _ _ _ _ _ _ _ _ c.run_lines.result _ c.outcome.result c.in-Ok.is ran in
     record {
       run = RunsOver-closes _ _ ClosesWithVerdict _ _ _ _ _ _ _ (λ now end k. k.0) done;
@@ -33,7 +33,7 @@ returns-in-Ok g c =
 pub returns : goal.returns
 returns g c =
     let P : List ℕ → Type 0 = λ d. RunsOver (Steps is_over (AnswersRecord d)) (ClosesAs ClosesWithVerdict (StandsFor c.run_lines.new.answerer)) ⊤ start c.args.input.now c.run_lines.new.input c.args.output.now c.run_lines.new.output c.run_lines.result in
-    let ran = subst P c.in_ok-run.ensures.domain (c.run_lines.ensures start c.in_ok-run.ensures.stands refl) in
+    let ran = subst P c.in_ok-run.ensures.domain (c.run_lines.ensures.runs start c.in_ok-run.ensures.stands refl) in
     let done = RunsOver-err {W = Outcome} _ _ _ _ _ _ _ _ c.run_lines.result _ c.in-Err.is ran in
     record {
       run = RunsOver-closes _ _ ClosesWithVerdict _ _ _ _ _ _ _ (λ now end k. k.0) done;

@@ -9,8 +9,8 @@ use Rattle.line_engines.specs.declared.fault.RunFault.TheVariants.{NoMemory}
 use Rattle.line_engines.proofs.Driving.{IsDriven-start, IsDriven-flush, IsDriven-more, IsThrough-ended, IsThrough-end, IsThrough-most, RunsOver-no_memory, RunsOver-output, RunsOver-input, RunsOver-finished, some_step, of_setting, of_bytes, of_verdict, closes_of, closed_of, closes_as, closed_as}
 use Rattle.line_engines.proofs.driver.run_lines.Goals as goal
 
-pub returns-in_err-line : goal.returns-in_err-line
-returns-in_err-line g c =
+pub returns-in_err-line-clause-runs : goal.returns-in_err-line-clause-runs
+returns-in_err-line-clause-runs g c =
     let setting = g.A.Answerer.setting c.args.answerer.now in
     let ends = g.A.Answerer.ends in
     let answers = g.A.Answerer.answers setting in
@@ -25,6 +25,7 @@ returns-in_err-line g c =
 pub loop-count-init : goal.loop-count-init
 loop-count-init g c =
     record {
+      keeps = λ first k. k;
       way = λ first stands begun. IsDriven-start g.A.Answerer.ends (g.A.Answerer.answers (g.A.Answerer.setting c.args.answerer.now)) (g.A.Answerer.stands c.args.answerer.now) first c.args.input.now.left c.args.output.now stands begun;
       setting = refl;
       lines = c.requires.fresh;
@@ -32,8 +33,8 @@ loop-count-init g c =
       count = omega arith;
     }
 
-pub returns-then-has_failed : goal.returns-then-has_failed
-returns-then-has_failed g c =
+pub returns-then-has_failed-clause-runs : goal.returns-then-has_failed-clause-runs
+returns-then-has_failed-clause-runs g c =
     let setting = g.A.Answerer.setting c.args.answerer.now in
     let ends = g.A.Answerer.ends in
     let answers = g.A.Answerer.answers setting in
@@ -45,8 +46,8 @@ returns-then-has_failed g c =
     let failed : 0 < c.flush_before_waiting.new.output.failures = grind (arith, common_steps) in
     RunsOver-output step _ wants some first c.args.input.now c.loop-count.input c.args.output.now c.flush_before_waiting.new.output c.loop-count.count way.state c.requires.output c.requires.none_held failed c.loop-count.invariant.count way.way
 
-pub returns-in-Err : goal.returns-in-Err
-returns-in-Err g c =
+pub returns-in-Err-clause-runs : goal.returns-in-Err-clause-runs
+returns-in-Err-clause-runs g c =
     let setting = g.A.Answerer.setting c.args.answerer.now in
     let ends = g.A.Answerer.ends in
     let answers = g.A.Answerer.answers setting in
@@ -60,8 +61,8 @@ returns-in-Err g c =
     let out : IsOut c.flush_before_waiting.new.output = elim (c.flush_before_waiting.ensures.ready none) [ inl h ↦ absurd (false≢true (c.in-Err.ensures.held h).0) | inr e ↦ e ] in
     RunsOver-input step _ wants some first c.args.input.now c.read_line.new.self c.loop-count.input.left c.args.output.now c.flush_before_waiting.new.output c.loop-count.count way.state c.requires.output c.requires.none_held failed none out c.in-Err.ensures.line c.loop-count.invariant.count way.way
 
-pub returns-then-not-answer : goal.returns-then-not-answer
-returns-then-not-answer g c =
+pub returns-then-not-answer-clause-runs : goal.returns-then-not-answer-clause-runs
+returns-then-not-answer-clause-runs g c =
     let setting = g.A.Answerer.setting c.args.answerer.now in
     let ends = g.A.Answerer.ends in
     let answers = g.A.Answerer.answers setting in
@@ -81,8 +82,8 @@ returns-then-not-answer g c =
     let same = c.answer.ensures.setting ∙ c.loop-count.invariant.setting in
     RunsOver-finished step (ClosesAs (g.A.Answerer.closes setting) (g.A.Answerer.stands c.finish.new.answerer)) wants (g.A.Answerer.stands c.answer.new.self) c.finish.result first c.args.input.now c.read_line.new.self c.args.output.now c.answer.new.output c.finish.new.output c.requires.output c.requires.none_held none through (closes_as (g.A.Answerer.closes setting) (g.A.Answerer.stands c.answer.new.self) (g.A.Answerer.stands c.finish.new.answerer) _ _ c.finish.ensures.stood (closes_of g.A.Answerer.closes (g.A.Answerer.stands c.answer.new.self) _ _ same c.answer.new.output c.finish.new.output c.finish.ensures.closed)) (closed_as (g.A.Answerer.closes setting) (g.A.Answerer.stands c.answer.new.self) (g.A.Answerer.stands c.finish.new.answerer) _ _ c.finish.result c.finish.ensures.stood (closed_of g.A.Answerer.closes (g.A.Answerer.stands c.answer.new.self) _ _ c.finish.result same c.answer.new.output c.finish.new.output c.finish.ensures.ok_closed)) c.finish.ensures.ok c.finish.ensures.err
 
-pub returns-in-Ok-false : goal.returns-in-Ok-false
-returns-in-Ok-false g c =
+pub returns-in-Ok-false-clause-runs : goal.returns-in-Ok-false-clause-runs
+returns-in-Ok-false-clause-runs g c =
     let setting = g.A.Answerer.setting c.args.answerer.now in
     let ends = g.A.Answerer.ends in
     let answers = g.A.Answerer.answers setting in
@@ -96,8 +97,20 @@ returns-in-Ok-false g c =
     let none : c.read_line.new.self.failures ≡ 0 = grind (arith, common_steps) in
     RunsOver-finished step (ClosesAs (g.A.Answerer.closes setting) (g.A.Answerer.stands c.finish-in-Ok-false.new.answerer)) wants (g.A.Answerer.stands c.loop-count.answerer) c.finish-in-Ok-false.result first c.args.input.now c.read_line.new.self c.args.output.now c.flush_before_waiting.new.output c.finish-in-Ok-false.new.output c.requires.output c.requires.none_held none through (closes_as (g.A.Answerer.closes setting) (g.A.Answerer.stands c.loop-count.answerer) (g.A.Answerer.stands c.finish-in-Ok-false.new.answerer) _ _ c.finish-in-Ok-false.ensures.stood (closes_of g.A.Answerer.closes (g.A.Answerer.stands c.loop-count.answerer) _ _ c.loop-count.invariant.setting c.flush_before_waiting.new.output c.finish-in-Ok-false.new.output c.finish-in-Ok-false.ensures.closed)) (closed_as (g.A.Answerer.closes setting) (g.A.Answerer.stands c.loop-count.answerer) (g.A.Answerer.stands c.finish-in-Ok-false.new.answerer) _ _ c.finish-in-Ok-false.result c.finish-in-Ok-false.ensures.stood (closed_of g.A.Answerer.closes (g.A.Answerer.stands c.loop-count.answerer) _ _ c.finish-in-Ok-false.result c.loop-count.invariant.setting c.flush_before_waiting.new.output c.finish-in-Ok-false.new.output c.finish-in-Ok-false.ensures.ok_closed)) c.finish-in-Ok-false.ensures.ok c.finish-in-Ok-false.ensures.err
 
-pub returns : goal.returns
-returns g c =
+pub returns-in_err-line-clause-keeps : goal.returns-in_err-line-clause-keeps
+returns-in_err-line-clause-keeps g c = λ first k. k
+
+pub returns-then-not-answer-clause-keeps : goal.returns-then-not-answer-clause-keeps
+returns-then-not-answer-clause-keeps g c = λ first k. c.finish.ensures.keeps first (c.answer.ensures.keeps first (c.loop-count.invariant.keeps first k))
+
+pub returns-in-Ok-false-clause-keeps : goal.returns-in-Ok-false-clause-keeps
+returns-in-Ok-false-clause-keeps g c = λ first k. c.finish-in-Ok-false.ensures.keeps first (c.loop-count.invariant.keeps first k)
+
+pub returns-clause-keeps : goal.returns-clause-keeps
+returns-clause-keeps g c = λ first k. c.finish-2.ensures.keeps first (c.loop-count.invariant.keeps first k)
+
+pub returns-clause-runs : goal.returns-clause-runs
+returns-clause-runs g c =
     let setting = g.A.Answerer.setting c.args.answerer.now in
     let ends = g.A.Answerer.ends in
     let answers = g.A.Answerer.answers setting in
@@ -112,6 +125,7 @@ returns g c =
 pub loop-count-preserved : goal.loop-count-preserved
 loop-count-preserved g c =
     record {
+      keeps = λ first k. c.answer.ensures.keeps first (c.loop-count.invariant.keeps first k);
       way = (
           let setting = g.A.Answerer.setting c.args.answerer.now in
           let ends = g.A.Answerer.ends in

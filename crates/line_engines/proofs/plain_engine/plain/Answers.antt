@@ -13,4 +13,4 @@ returns-in_err-run g c =
 pub returns : goal.returns
 returns g c =
     let P : List ℕ → Type 0 = λ d. RunsPlain d c.args.seed c.args.input.now c.run_lines.new.input c.args.output.now c.run_lines.new.output c.run_lines.result in
-    subst P c.in_ok-run.ensures.domain (RunsOver-closes _ _ ClosesWithNothing _ _ _ _ _ _ _ (λ now end k. k.0) (c.run_lines.ensures (start c.args.seed) c.in_ok-run.ensures.stands refl))
+    subst P c.in_ok-run.ensures.domain (RunsOver-closes _ _ ClosesWithNothing _ _ _ _ _ _ _ (λ now end k. k.0) (c.run_lines.ensures.runs (start c.args.seed) c.in_ok-run.ensures.stands refl))

@@ -20,5 +20,5 @@ returns-in_err-new g c =
 pub returns : goal.returns
 returns g c =
     let P : List ℕ → Type 0 = λ d. RunsOver (TakesEvent d) (ClosesWithRecords d) ⊤ (start c.args.domain c.args.seed) c.args.input.now c.run_lines.new.input c.args.output.now c.run_lines.new.output c.run_lines.result in
-    let run = subst P c.in_ok-new.ensures.domain (RunsOver-closes _ _ (ClosesWithRecords _) _ _ _ _ _ _ _ (λ now end k. k.0) (c.run_lines.ensures (start c.args.domain c.args.seed) c.in_ok-new.ensures.stands refl)) in
+    let run = subst P c.in_ok-new.ensures.domain (RunsOver-closes _ _ (ClosesWithRecords _) _ _ _ _ _ _ _ (λ now end k. k.0) (c.run_lines.ensures.runs (start c.args.domain c.args.seed) c.in_ok-new.ensures.stands refl)) in
     record { run = run; alone = alone c.args.domain c.args.seed c.run_lines.result c.args.input.now.left (first_lines most_lines) _ _ run.text }

@@ -1,4 +1,4 @@
-use Rattle.std.proofs.Common.{ℕ, true, false, ap, subst, sym, ◌∙◌}
+use Rattle.std.proofs.Common.{ℕ, ap, subst, sym, ◌∙◌}
 use Rattle.reg_programs.specs.Sessions.{no_reply, outcome_json, submitted}
 use Rattle.shared_registry.specs.Outcomes.{IsSubmitted}
 use Rattle.reg_programs.proofs.session_engine.call.Goals as goal

@@ -1,4 +1,4 @@
-use Rattle.std.proofs.Common.{◌≡◌, ◌+◌, Bool, true, false, refl, subst, sym, ◌∙◌}
+use Rattle.std.proofs.Common.{◌≡◌, ◌+◌, Bool, false, refl, subst, sym, ◌∙◌}
 use Rattle.std.specs.Prelude.{is_none, is_some}
 use Rattle.line_engines.specs.Audited.{AnswersRecord, AuditKept, Audited, StandsFor, is_over}
 use Rattle.line_engines.specs.Driver.{AnswersKept}
