@@ -3,6 +3,7 @@
 ghost use Rattle.std.specs.Prelude.{◌≡◌, IfOk};
 ghost use Rattle.version_book.specs.Index.{group_keys, user_keys, expiry_keys};
 
+use crate::both::both;
 use crate::changes::RowChange;
 use crate::committed_row::{CommittedRow, is_same_row, row_alone};
 use crate::index::{entries_between, same_between, with_keys, without_keys};
@@ -222,11 +223,16 @@ impl Clone for Entries {
     ghost is_clone = { λ original copy. copy ≡ original };
 
     fn clone(&self) -> Result<Entries, AllocError> {
+        let indexes = both(
+            both(self.groups.clone(), self.users.clone()),
+            self.expiries.clone(),
+        );
+        let (rows, ((groups, users), expiries)) = both(self.rows.clone(), indexes)?;
         Ok(Entries {
-            rows: self.rows.clone()?,
-            groups: self.groups.clone()?,
-            users: self.users.clone()?,
-            expiries: self.expiries.clone()?,
+            rows,
+            groups,
+            users,
+            expiries,
         })
     }
 }

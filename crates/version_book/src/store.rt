@@ -2,6 +2,7 @@
 
 ghost use Rattle.std.specs.Prelude.{◌≡◌};
 
+use crate::both::both;
 use crate::changes::{RowWrite, TokenWrite};
 use crate::entries::Entries;
 use crate::mark::Mark;
@@ -36,7 +37,7 @@ impl Model for Store {
 }
 
 impl Store {
-    ghost use Rattle.std.specs.Prelude.{◌≡◌, IfOk, IsTrue, map, length};
+    ghost use Rattle.std.specs.Prelude.{◌≡◌, IfOk, IsTrue, Ok, map, length};
     ghost use Rattle.entry_book.specs.Order.{Ascending};
     ghost use Rattle.entry_book.specs.Rows.{entry_key, agent_key, bundle_key};
     ghost use Rattle.entry_book.specs.Tokens.{token_key};
@@ -92,6 +93,30 @@ impl Store {
         self.tokens.len()
     }
 
+    /// The sets of rows together, where memory was there for each of them.
+    fn of(
+        entries: Result<Entries, AllocError>,
+        agents: Result<RowShelf<Shared<SpiffeId>, Agent>, AllocError>,
+        bundles: Result<RowShelf<Shared<TrustDomain>, Bundle>, AllocError>,
+        tokens: Result<RowShelf<Uuid, KeptBatch>, AllocError>,
+    ) -> Result<Store, AllocError>
+        ensures entries { IfOk result (λ store. entries ≡ Ok store.entries) }
+        ensures agents { IfOk result (λ store. agents ≡ Ok store.agents) }
+        ensures bundles { IfOk result (λ store. bundles ≡ Ok store.bundles) }
+        ensures tokens { IfOk result (λ store. tokens ≡ Ok store.tokens) }
+    {
+        let (((entries, agents), bundles), tokens) = both(
+            both(both(entries, agents), bundles),
+            tokens,
+        )?;
+        Ok(Store {
+            entries,
+            agents,
+            bundles,
+            tokens,
+        })
+    }
+
     /// The rows after one write, by this commit, whose number is put where the place was left open. The error is want of
     /// memory.
     fn after_write(&self, alloc: Global, write: &RowWrite, commit: u64) -> Result<Store, AllocError>
@@ -99,14 +124,30 @@ impl Store {
         requires room { RoomFor (placed_write commit (write_of write.now)) (book_of self.now) }
         ensures { IfOk result (λ store. store ≡ rows_after_write commit (placed_write commit (write_of write.now)) self.now) }
     {
-        let mut store = self.clone()?;
+        let (entries, agents, bundles, tokens) = (
+            &self.entries,
+            &self.agents,
+            &self.bundles,
+            &self.tokens,
+        );
         match write {
-            RowWrite::Entry(change) => store.entries = self.entries.after(alloc, change, commit)?,
-            RowWrite::Agent(change) => store.agents = self.agents.after(change, commit)?,
-            RowWrite::Bundle(change) => store.bundles = self.bundles.after(change, commit)?,
-            RowWrite::Token(token) => store.tokens = self.tokens_after(token, commit)?,
+            RowWrite::Entry(change) => {
+                let entries = entries.after(alloc, change, commit);
+                Store::of(entries, agents.again(), bundles.again(), tokens.again())
+            }
+            RowWrite::Agent(change) => {
+                let agents = agents.after(change, commit);
+                Store::of(entries.clone(), agents, bundles.again(), tokens.again())
+            }
+            RowWrite::Bundle(change) => {
+                let bundles = bundles.after(change, commit);
+                Store::of(entries.clone(), agents.again(), bundles, tokens.again())
+            }
+            RowWrite::Token(token) => {
+                let tokens = self.tokens_after(token, commit);
+                Store::of(entries.clone(), agents.again(), bundles.again(), tokens)
+            }
         }
-        Ok(store)
     }
 
     /// What is kept under tokens after a write, by this commit. The error is want of memory.
@@ -169,11 +210,11 @@ impl Clone for Store {
     ghost is_clone = { λ original copy. copy ≡ original };
 
     fn clone(&self) -> Result<Store, AllocError> {
-        Ok(Store {
-            entries: self.entries.clone()?,
-            agents: self.agents.again()?,
-            bundles: self.bundles.again()?,
-            tokens: self.tokens.again()?,
-        })
+        Store::of(
+            self.entries.clone(),
+            self.agents.again(),
+            self.bundles.again(),
+            self.tokens.again(),
+        )
     }
 }
