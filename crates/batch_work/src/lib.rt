@@ -23,6 +23,7 @@
 mod advance;
 mod arrivals;
 mod begin;
+mod both;
 mod domains;
 pub mod laws;
 mod look;

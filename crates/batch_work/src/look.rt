@@ -5,6 +5,7 @@ ghost use Rattle.std.specs.Option.{option_copied};
 ghost use Rattle.entry_book.specs.Batches.{past_place};
 ghost use Rattle.entry_book.specs.Book.{token_at};
 ghost use Rattle.entry_book.specs.History.{kept_under};
+ghost use Rattle.entry_book.specs.Order.{first};
 ghost use Rattle.batch_work.specs.Standing.{AtToken, BeganOn, Going, IsRunning, Looked, StandsAt, StandsRead, base_of};
 ghost use Rattle.batch_work.specs.Windows.{book_in};
 ghost use Rattle.batch_work.specs.Working.{footprint_there, version_read};
@@ -27,15 +28,27 @@ pub(crate) fn version_read<'a>(begun: &'a Begun, batch: &Batch) -> Option<&'a Ve
     }
 }
 
+/// The first of these, where there is one. The error is want of memory.
+fn first_kept(tokens: &[KeptBatch]) -> Result<Option<KeptBatch>, AllocError>
+    ensures { IfOk result (λ kept. kept ≡ first tokens.now) }
+{
+    match tokens {
+        [kept, ..] => Ok(Some(kept.clone()?)),
+        [] => Ok(None),
+    }
+}
+
 /// What a version keeps under a token. The error is want of memory.
 fn kept_under(version: &Version, token: Uuid) -> Result<Option<KeptBatch>, AllocError>
     ensures { IfOk result (λ kept. kept ≡ token_at token (book_in version.now)) }
 {
-    let reading = version.read(&Mark::token(token))?;
-    match reading.tokens() {
-        [kept, ..] => Ok(Some(kept.clone()?)),
-        [] => Ok(None),
-    }
+    let mark = Mark::token(token);
+    let reading = version.read(&mark);
+    drop(mark);
+    let reading = reading?;
+    let kept = first_kept(reading.tokens());
+    drop(reading);
+    kept
 }
 
 /// The next read of an operation, counted from 0, at its phase: the mark, and what comes next. The error is want of memory,
@@ -61,11 +74,15 @@ fn look_op(
         return Err(phase);
     };
     let Ok(reading) = version.read_after(&mark, &course.changes) else {
+        drop(mark);
         return Err(phase);
     };
     match advance(alloc, &begun.server, op, phase, reading) {
         Ok(next) => Ok((mark, next)),
-        Err(phase) => Err(phase),
+        Err(phase) => {
+            drop(mark);
+            Err(phase)
+        }
     }
 }
 

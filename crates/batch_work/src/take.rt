@@ -59,6 +59,15 @@ fn gone(alloc: Global, begun: &Begun) -> Result<Stage, AllocError>
     refused(alloc, begun, 0, &OpRefusal::VersionGone)
 }
 
+/// A copy of these writes is put behind the changes. The error is want of memory, and nothing has changed then.
+fn append_copy(changes: &mut Changes, writes: &Changes) -> Result<(), AllocError>
+    ensures changes { OnOk result (changes.new ≡ changes.old ++ writes.now) }
+    ensures err { OnErr result (changes.new ≡ changes.old) }
+{
+    let writes = writes.clone()?;
+    changes.append(writes)
+}
+
 /// Takes an operation's reply and writes down, which isn't the last one. The error is want of memory, and nothing has changed
 /// then.
 fn end_op(course: &mut Course, reply: &OpReply, writes: &Changes) -> Result<(), AllocError>
@@ -67,10 +76,12 @@ fn end_op(course: &mut Course, reply: &OpReply, writes: &Changes) -> Result<(), 
     ensures err { OnErr result ((course.new.changes ≡ course.old.changes) × (course.new.replies.items ≡ course.old.replies.items)) }
     ensures marks { course.new.marks ≡ course.old.marks }
 {
-    let reply = reply.clone()?;
-    let writes = writes.clone()?;
     course.replies.reserve(1)?;
-    course.changes.append(writes)?;
+    let reply = reply.clone()?;
+    let Ok(()) = append_copy(&mut course.changes, writes) else {
+        drop(reply);
+        return Err(AllocError);
+    };
     let Ok(()) = course.replies.push(reply) else {
         unreachable!()
     };

@@ -7,6 +7,7 @@ ghost use Rattle.entry_book.specs.Rows.{Entry as EntryRow};
 ghost use Rattle.batch_work.specs.Reads.{is_one_of};
 
 use crate::arrivals::{arrivals_of, put_arrivals};
+use crate::both::both;
 use crate::sorted::has_identity;
 use entry_book::{Agent, Entry, Shared};
 use spiffe_name::SpiffeId;
@@ -137,11 +138,15 @@ impl Clone for Walk {
     ghost is_clone = { λ original copy. copy ≡ original };
 
     fn clone(&self) -> Result<Walk, AllocError> {
+        let agent: Result<_, _> = self.place.agent.clone();
+        let found: Result<_, _> = self.place.found.clone();
+        let identities = both(self.place.met.clone(), self.place.waiting.clone());
+        let ((agent, found), (met, waiting)) = both(both(agent, found), identities)?;
         let place = Place {
-            agent: self.place.agent.clone()?,
-            met: self.place.met.clone()?,
-            waiting: self.place.waiting.clone()?,
-            found: self.place.found.clone()?,
+            agent,
+            met,
+            waiting,
+            found,
         };
         Ok(Walk {
             place: Box::new(*Box::allocator(&self.place), place)?,

@@ -248,7 +248,16 @@ impl Work {
     pub fn into_batch(self) -> Batch
         ensures { result ≡ self.batch }
     {
-        let Work { batch, .. } = self;
+        let Work {
+            batch,
+            begun,
+            course,
+            stage,
+            ..
+        } = self;
+        drop(begun);
+        drop(course);
+        let_go(stage);
         batch
     }
 
@@ -257,10 +266,22 @@ impl Work {
         ensures settled { IsSome result ↔ (status_of self ≡ Status.Settled) }
         ensures answer { IfSome result (λ reply. IsAnswer self reply) }
     {
-        let Work { stage, .. } = self;
+        let Work {
+            batch,
+            begun,
+            course,
+            stage,
+            ..
+        } = self;
+        drop(batch);
+        drop(begun);
+        drop(course);
         match stage {
             Stage::Settled(answer) => Some(answer),
-            _ => None,
+            _ => {
+                let_go(stage);
+                None
+            }
         }
     }
 }

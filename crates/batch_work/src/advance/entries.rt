@@ -1,12 +1,13 @@
 //! What comes after the read of an entry, of its group, and of its domains' bundles, and after that of several entries?
 
-ghost use Rattle.std.specs.Prelude.{◌≡◌, ◌≤◌, ◌^◌, [], IfOk, is_some, map};
+ghost use Rattle.std.specs.Prelude.{◌≡◌, ◌≤◌, ◌^◌, ◌∷◌, [], IfOk, is_some, map};
 ghost use Rattle.entry_book.specs.Order.{Within, first};
-ghost use Rattle.entry_book.specs.Ops.{removed};
+ghost use Rattle.entry_book.specs.Ops.{put, removed};
 ghost use Rattle.entry_book.specs.Pages.{listed, next_of};
 ghost use Rattle.entry_book.specs.Rows.{Entry as EntryRow, entry_key};
 ghost use Rattle.batch_work.specs.Steps.{beside_next, bundle_next, bundles_next, create_next, delete_next, similar_in, update_next};
 
+use crate::both::both;
 use crate::phase::{Next, Phase};
 use crate::rows::similar_in;
 use entry_book::{Bundle, Entry, NewEntry, OpRefusal, OpReply, PageQuery, Sequence, Shared};
@@ -80,7 +81,7 @@ pub(crate) fn beside_next(
 {
     match similar_in(group, entry) {
         Some(other) => Ok(Next::Refused(OpRefusal::Similar(*other.id()))),
-        None => bundles_next(alloc, old.clone()?, entry.clone()?, 0),
+        None => bundles_next(alloc, old, entry, 0),
     }
 }
 
@@ -98,7 +99,7 @@ pub(crate) fn bundle_next(
 {
     match bundles {
         [] => Ok(Next::Refused(OpRefusal::NoBundle(domain.clone()?))),
-        [_, ..] => bundles_next(alloc, old.clone()?, entry.clone()?, index),
+        [_, ..] => bundles_next(alloc, old, entry, index),
     }
 }
 
@@ -106,24 +107,35 @@ pub(crate) fn bundle_next(
 /// memory.
 fn bundles_next(
     alloc: Global,
-    old: Option<Entry>,
-    entry: Entry,
+    old: &Option<Entry>,
+    entry: &Entry,
     index: usize,
 ) -> Result<Next, AllocError>
-    ensures { IfOk result (λ next. next ≡ bundles_next old entry index) }
+    ensures { IfOk result (λ next. next ≡ bundles_next old.now entry.now index) }
 {
     match entry.domains().as_slice().get(index) {
         Some(domain) => {
-            let domain = domain.clone()?;
+            let rows = both(old.clone(), entry.clone());
+            let ((old, entry), domain) = both(rows, domain.clone())?;
             Ok(Next::Goes(Phase::Bundle(old, entry, domain, index + 1)))
         }
         None => {
-            let reply = OpReply::Entry(entry.clone()?);
-            let mut changes = Changes::new(alloc);
-            changes.put_entry(*entry.id(), old, Some(entry))?;
-            Ok(Next::Ends(reply, changes))
+            let changes = entry_put(alloc, old, entry);
+            let (changes, entry) = both(changes, entry.clone())?;
+            Ok(Next::Ends(OpReply::Entry(entry), changes))
         }
     }
+}
+
+/// The entry is put in the place of the old one. The error is want of memory.
+fn entry_put(alloc: Global, old: &Option<Entry>, entry: &Entry) -> Result<Changes, AllocError>
+    ensures { IfOk result (λ changes. changes ≡ put old.now entry.now ∷ []) }
+{
+    let (old, new) = both(old.clone(), entry.clone())?;
+    let mut changes = Changes::new(alloc);
+    let put = changes.put_entry(*entry.id(), old, Some(new));
+    let ((), changes) = both(put, Ok(changes))?;
+    Ok(changes)
 }
 
 /// The page of the entries that were read. The error is want of memory.
