@@ -113,7 +113,10 @@ fn or_back(next: Result<Next, AllocError>, phase: Phase) -> Result<Next, Phase>
     ensures back { IfErr result (λ back. back ≡ phase) }
 {
     match next {
-        Ok(next) => Ok(next),
+        Ok(next) => {
+            drop(phase);
+            Ok(next)
+        }
         Err(AllocError) => Err(phase),
     }
 }

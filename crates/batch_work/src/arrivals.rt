@@ -8,6 +8,7 @@ ghost use Rattle.entry_book.specs.declared.agent.Agent.{Agent as AgentRow};
 ghost use Rattle.batch_work.specs.Reads.{is_one_of};
 ghost use Rattle.batch_work.specs.WalkStates.{met_when, walked};
 
+use crate::both::both;
 use crate::sorted::{put_entry, put_identity};
 use entry_book::{Entry, Shared};
 use spiffe_name::SpiffeId;
@@ -41,8 +42,9 @@ impl Arrival {
     fn of(entry: Entry) -> Result<Arrival, AllocError>
         ensures { IfOk result (λ arrival. arrival ≡ entry) }
     {
-        let met = entry.identity().clone()?;
-        let waiting = entry.identity().clone()?;
+        let met: Result<_, _> = entry.identity().clone();
+        let waiting: Result<_, _> = entry.identity().clone();
+        let (entry, (met, waiting)) = both(Ok(entry), both(met, waiting))?;
         Ok(Arrival {
             entry,
             met,

@@ -205,17 +205,27 @@ pub(crate) fn take_down(
     match found {
         Found::Op(index, Next::Goes(phase)) => Ok(Stage::At(index, phase)),
         Found::Op(index, Next::Refused(reason)) => match refused(alloc, begun, index, &reason) {
-            Ok(stage) => Ok(stage),
+            Ok(stage) => {
+                drop(reason);
+                Ok(stage)
+            }
             Err(_) => Err(Found::Op(index, Next::Refused(reason))),
         },
         Found::Op(index, Next::Ends(reply, writes)) => {
             match ended(alloc, begun, batch, course, mark, index, &reply, &writes) {
-                Ok(stage) => Ok(stage),
+                Ok(stage) => {
+                    drop(reply);
+                    drop(writes);
+                    Ok(stage)
+                }
                 Err(_) => Err(Found::Op(index, Next::Ends(reply, writes))),
             }
         }
         Found::Kept(Some(kept)) => match again(alloc, begun, batch, &kept) {
-            Ok(stage) => Ok(stage),
+            Ok(stage) => {
+                drop(kept);
+                Ok(stage)
+            }
             Err(_) => Err(Found::Kept(Some(kept))),
         },
         Found::Kept(None) => Ok(Stage::At(0, Phase::First)),

@@ -1,6 +1,6 @@
 //! How far has the walk to an agent's authorised entries come?
 
-ghost use Rattle.std.specs.Prelude.{◌≡◌};
+ghost use Rattle.std.specs.Prelude.{◌≡◌, ◌∷◌, [], IfOk};
 ghost use Rattle.std.specs.List.{list_all};
 ghost use Rattle.entry_book.specs.Order.{Ascending};
 ghost use Rattle.entry_book.specs.Rows.{Entry as EntryRow};
@@ -61,8 +61,8 @@ impl Walk {
     pub(crate) fn new(alloc: Global, agent: Agent) -> Result<Walk, AllocError>
         ensures { IfOk result (λ walk. walk ≡ first_walk agent) }
     {
-        let mut met = Vec::new(alloc);
-        met.push(agent.id.clone()?)?;
+        let met = only(alloc, &agent.id);
+        let (agent, met) = both(Ok(agent), met)?;
         let place = Place {
             agent,
             met,
@@ -138,20 +138,25 @@ impl Clone for Walk {
     ghost is_clone = { λ original copy. copy ≡ original };
 
     fn clone(&self) -> Result<Walk, AllocError> {
-        let agent: Result<_, _> = self.place.agent.clone();
-        let found: Result<_, _> = self.place.found.clone();
-        let identities = both(self.place.met.clone(), self.place.waiting.clone());
-        let ((agent, found), (met, waiting)) = both(both(agent, found), identities)?;
         let place = Place {
-            agent,
-            met,
-            waiting,
-            found,
+            agent: self.place.agent.clone()?,
+            met: self.place.met.clone()?,
+            waiting: self.place.waiting.clone()?,
+            found: self.place.found.clone()?,
         };
         Ok(Walk {
             place: Box::new(*Box::allocator(&self.place), place)?,
         })
     }
+}
+
+/// This identity alone. The error is want of memory.
+fn only(alloc: Global, id: &Shared<SpiffeId>) -> Result<Vec<Shared<SpiffeId>>, AllocError>
+    ensures { IfOk result (λ ids. ids.items ≡ id.now ∷ []) }
+{
+    let mut ids = Vec::new(alloc);
+    ids.push(id.clone()?)?;
+    Ok(ids)
 }
 
 /// Were the identities of all entries met?

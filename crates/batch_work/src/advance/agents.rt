@@ -5,6 +5,7 @@ ghost use Rattle.entry_book.specs.Order.{first};
 ghost use Rattle.entry_book.specs.Writes.{wrote_agent};
 ghost use Rattle.batch_work.specs.Steps.{agent_gone, for_agent_next};
 
+use crate::both::both;
 use crate::phase::{Asked, Next, Phase};
 use crate::rows::first_of;
 use entry_book::{Agent, OpRefusal, OpReply};
@@ -21,6 +22,22 @@ pub(crate) fn asked_next(asked: Asked, agents: &[Agent]) -> Result<Next, AllocEr
     }
 }
 
+/// The agent of this ID is put in the place of the old one. The error is want of memory.
+fn agent_put(
+    alloc: Global,
+    agent: &Agent,
+    old: Option<Agent>,
+    new: Option<Agent>,
+) -> Result<Changes, AllocError>
+    ensures { IfOk result (λ changes. changes ≡ wrote_agent (record { key = agent.now.id; old = old; new = new }) ∷ []) }
+{
+    let (id, (old, new)) = both(agent.id.clone(), Ok((old, new)))?;
+    let mut changes = Changes::new(alloc);
+    let put = changes.put_agent(id, old, new);
+    let ((), changes) = both(put, Ok(changes))?;
+    Ok(changes)
+}
+
 /// The agent is put in the place of the one that was read. The error is want of memory.
 pub(crate) fn set_agent_next(
     alloc: Global,
@@ -30,9 +47,11 @@ pub(crate) fn set_agent_next(
     ensures { IfOk result (λ next. next ≡ Next.Ends (OpReply.Agent agent.now)
         (wrote_agent (record { key = agent.now.id; old = first agents.items; new = Some agent.now }) ∷ [])) }
 {
-    let mut changes = Changes::new(alloc);
-    changes.put_agent(agent.id.clone()?, first_of(agents), Some(agent.clone()?))?;
-    Ok(Next::Ends(OpReply::Agent(agent.clone()?), changes))
+    let copies = both(agent.clone(), agent.clone());
+    let (old, (new, reply)) = both(Ok(first_of(agents)), copies)?;
+    let changes = agent_put(alloc, agent, old, Some(new));
+    let (changes, reply) = both(changes, Ok(reply))?;
+    Ok(Next::Ends(OpReply::Agent(reply), changes))
 }
 
 /// The agent is removed. The error is want of memory.
@@ -43,9 +62,9 @@ pub(crate) fn drop_agent_next(alloc: Global, agents: &[Agent]) -> Result<Next, A
     match agents {
         [] => Ok(Next::Refused(OpRefusal::NoAgent)),
         [agent, ..] => {
-            let mut changes = Changes::new(alloc);
-            changes.put_agent(agent.id.clone()?, Some(agent.clone()?), None)?;
-            Ok(Next::Ends(OpReply::Agent(agent.clone()?), changes))
+            let changes = agent_put(alloc, agent, Some(agent.clone()?), None);
+            let (changes, agent) = both(changes, agent.clone())?;
+            Ok(Next::Ends(OpReply::Agent(agent), changes))
         }
     }
 }

@@ -8,6 +8,7 @@ ghost use Rattle.entry_book.specs.declared.bundle.Bundle.{Bundle as BundleRow};
 ghost use Rattle.batch_work.specs.Steps.{bundle_put_next, drop_next, users_next};
 
 use crate::advance::entries::{ids_of, removed};
+use crate::both::both;
 use crate::phase::{Next, Phase};
 use crate::rows::first_of;
 use entry_book::{Bundle, DropMode, Entry, OpRefusal, OpReply, Sequence, Shared, Text};
@@ -78,8 +79,10 @@ fn freed(alloc: Global, entries: &[Entry], domain: &TrustDomain) -> Result<Chang
 fn and_bundle(changes: Changes, bundle: &Bundle) -> Result<Changes, AllocError>
     ensures { IfOk result (λ all. all ≡ changes ++ bundle_removed bundle.now ∷ []) }
 {
-    let mut changes = changes;
-    changes.put_bundle(bundle.domain.clone()?, Some(bundle.clone()?), None)?;
+    let rows = both(bundle.domain.clone(), bundle.clone());
+    let (mut changes, (domain, bundle)) = both(Ok(changes), rows)?;
+    let put = changes.put_bundle(domain, Some(bundle), None);
+    let ((), changes) = both(put, Ok(changes))?;
     Ok(changes)
 }
 
