@@ -155,6 +155,15 @@ impl Slot {
         }
     }
 
+    /// Lets the work go for what the call came to, and a new work of this batch.
+    fn finish_with(&mut self, alloc: Global, batch: Batch, end: End)
+        ensures { self.new ≡ record self.old { work = new_work batch; end = Some end } }
+    {
+        let work = replace(&mut self.work, Work::new(alloc, batch));
+        drop(work.into_batch());
+        drop(self.end.replace(end));
+    }
+
     /// Begins on the head's window, under this accepted number.
     pub(crate) fn begin(
         &mut self,
@@ -228,8 +237,7 @@ impl Slot {
         let Some((end, decision, place)) = decide(alloc, head, number, &self.work) else {
             return Err(EventRefusal::NoMemory);
         };
-        self.work = Work::new(alloc, batch);
-        self.end = Some(end);
+        self.finish_with(alloc, batch, end);
         self.turn = turn;
         Ok((decision, place))
     }

@@ -1,6 +1,7 @@
-use Rattle.std.proofs.Common.{refl, ◌∙◌, ap}
+use Rattle.std.proofs.Common.{◌∙◌, ap, subst, sym}
 use Rattle.batch_work.specs.declared.status.Status.TheVariants.{Ready}
-use Rattle.call_machine.specs.Kept.{new_work, stage_kept}
+use Rattle.call_machine.specs.declared.slot.Slot.{Slot}
+use Rattle.call_machine.specs.Kept.{Decides, journal_of, new_work, stage_kept, stage_of_slot}
 use Rattle.call_machine.proofs.Slots.{open_is}
 use Rattle.call_machine.proofs.slot.Slot.commit.Goals as goal
 
@@ -12,13 +13,14 @@ returns-clause-ok c =
     let old = c.args.self.now in
     let open_work = open_is old.end old.work Ready c.in-Ready.ensures (λ q. cc) in
     let d = c.in-Some.ensures.some in
+    let later = c.finish_with.ensures in
     record {
       base = d.base;
       in_turn = ap (λ e. stage_kept e old.work) open_work.0 ∙ d.in_turn;
-      decided = d.decided;
+      decided = subst (λ s. Decides (journal_of c.args.head.now) old.work.batch d.base c.in-Some.decision c.in-Some.place s (journal_of c.decide.new.head)) (sym (ap stage_of_slot later)) d.decided;
       goes_on = d.goes_on;
-      let_go = c.new.ensures ∙ ap new_work (c.in-Ok.ensures.cases ∙ c.batch.ensures);
-      invoked = refl;
-      turn_is = refl;
-      replied = refl;
+      let_go = ap (λ (s : Slot). s.work) later ∙ ap new_work (c.in-Ok.ensures.cases ∙ c.batch.ensures);
+      invoked = ap (λ (s : Slot). s.invoked) later;
+      turn_is = cc;
+      replied = ap (λ (s : Slot). s.replied) later;
     }
