@@ -149,7 +149,7 @@ impl Machine {
         }
         let invoked = self.count + 1;
         let slot = Slot::new(self.alloc, batch, invoked);
-        self.calls.insert(number, slot).unwrap();
+        drop(self.calls.insert(number, slot).unwrap());
         self.count = invoked;
         Ok(Done::Invoked(number))
     }
