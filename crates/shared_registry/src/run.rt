@@ -1,6 +1,6 @@
 //! What does a batch come to on what is published?
 
-ghost use Rattle.std.specs.Prelude.{◌≡◌, IfOk, OnOk, Some};
+ghost use Rattle.std.specs.Prelude.{◌≡◌, IfOk, Ok, OnOk, Some};
 ghost use Rattle.batch_work.specs.Working.{base_in, status_of};
 ghost use Rattle.shared_registry.specs.Works.{BeganAt, IsAtEnd};
 
@@ -12,14 +12,22 @@ use std::alloc::{AllocError, Global};
 // No batch makes so many reads.
 const READS: u64 = (1 << 21) + 1;
 
+/// The value, where there was memory for what was done to it; else it is let go.
+fn kept_if<T: Drop>(done: Result<(), AllocError>, value: T) -> Result<T, AllocError>
+    ensures { IfOk result (λ kept. (kept ≡ value) × (done ≡ Ok tt)) }
+{
+    done?;
+    Ok(value)
+}
+
 /// A work of the batch, which begins on what is published. The error is want of memory.
 pub(crate) fn begun(alloc: Global, page: &Published, batch: Batch) -> Result<Work, AllocError>
     requires domain { batch.domain ≡ page.now.window.newest.domain }
     ensures { IfOk result (λ work. BeganAt batch page.now work) }
 {
     let mut work = Work::new(alloc, batch);
-    work.begin(page.window())?;
-    Ok(work)
+    let done = work.begin(page.window());
+    kept_if(done, work)
 }
 
 /// Makes all reads of a work that has begun on what is published. The error is want of memory.
@@ -37,6 +45,16 @@ pub(crate) fn run_to_end(page: &Published, work: &mut Work) -> Result<(), AllocE
         work.step()?;
     }
     unreachable!()
+}
+
+/// A work that has begun on what is published, after all its reads. The error is want of memory.
+pub(crate) fn ran(page: &Published, mut work: Work) -> Result<Work, AllocError>
+    requires domain { work.batch.domain ≡ page.now.window.newest.domain }
+    requires began { BeganAt work.batch page.now work }
+    ensures { IfOk result (IsAtEnd work.batch page.now) }
+{
+    let done = run_to_end(page, &mut work);
+    kept_if(done, work)
 }
 
 /// Lets a work go that is over.

@@ -14,13 +14,14 @@ use crate::gate::{Gate, Point};
 use crate::history::{Front, Naming};
 use crate::published::Published;
 use crate::rule::{Rule, Sees, View};
-use crate::run::{begun, let_go, run_to_end};
+use crate::run::{begun, ran};
 use batch_work::Work;
 use commit_head::Item;
 use entry_book::{Batch, Reply, Shared};
 use left_right::reader::Reader;
 use std::alloc::{AllocError, Global};
 use std::marker::Model;
+use std::mem::replace;
 
 /// A reader of what is published.
 pub(crate) type SeatReader<J> = Reader<Published, View, Rule<J>>;
@@ -213,28 +214,32 @@ impl<J: Naming> Seat<J> {
         ensures heard { IfOk result (λ _. IsPrefix self.old.told self.new.seen) }
         ensures read { IfOk result (IsRead J.domain self.new.seen batch) }
     {
-        let front = find(
+        let found = find(
             &mut self.reader,
             &mut self.page,
             &self.seen,
             &self.told,
             self.number,
             self.count,
-        )?;
+        );
+        let front = match found {
+            Ok(front) => front,
+            Err(why) => {
+                drop(batch);
+                return Err(why);
+            }
+        };
         let _made = batch.ops();
         let _place = front.len();
         let _window = self.page.window();
-        let Ok(mut work) = begun(self.alloc, &self.page, batch) else {
+        let Ok(work) = begun(self.alloc, &self.page, batch) else {
             return Err(NoAnswer::NoMemory);
         };
         self.seen = front;
         gate.pass(Point::AfterBegin, self.number as u32, self.calls);
-        match run_to_end(&self.page, &mut work) {
-            Ok(()) => Ok(work),
-            Err(AllocError) => {
-                let_go(work);
-                Err(NoAnswer::NoMemory)
-            }
+        match ran(&self.page, work) {
+            Ok(work) => Ok(work),
+            Err(AllocError) => Err(NoAnswer::NoMemory),
         }
     }
 
@@ -260,7 +265,10 @@ impl<J: Naming> Seat<J> {
         );
         let front = match found {
             Ok(front) => front,
-            Err(why) => return Err(why),
+            Err(why) => {
+                drop(batch);
+                return Err(why);
+            }
         };
         let _place = front.len();
         match answered(self.alloc, &self.page, batch) {
@@ -281,6 +289,25 @@ impl<J: Naming> Seat<J> {
     }
 }
 
+/// Keeps what a look has found, where it found another one.
+fn turn<J: Naming>(
+    page: &mut Published,
+    newer: Result<Option<Published>, AllocError>,
+) -> Result<(), NoAnswer>
+    requires page { IsOf J.history J.domain page.old }
+    requires newer { IfOk newer (λ o. IfSome o (IsOf J.history J.domain)) }
+    ensures { IsOf J.history J.domain page.new }
+{
+    match newer {
+        Ok(None) => Ok(()),
+        Ok(Some(newer)) => {
+            drop(replace(page, newer));
+            Ok(())
+        }
+        Err(AllocError) => Err(NoAnswer::NoMemory),
+    }
+}
+
 /// Looks once at what is published, and keeps it where it is another one.
 fn look<J: Naming>(
     reader: SeatReader<J>,
@@ -289,19 +316,13 @@ fn look<J: Naming>(
     requires { IsOf J.history J.domain page.old }
     ensures { IsOf J.history J.domain page.new }
 {
-    let reading = match reader.enter_as::<Sees<J>>() {
-        Ok(reading) => reading,
-        Err(reader) => return (reader, Err(NoAnswer::NoEntry)),
-    };
-    let newer = reading.get().newer(page);
-    let reader = reading.leave();
-    match newer {
-        Ok(None) => (reader, Ok(())),
-        Ok(Some(newer)) => {
-            *page = newer;
-            (reader, Ok(()))
+    match reader.enter_as::<Sees<J>>() {
+        Ok(reading) => {
+            let newer = reading.get().newer(page);
+            let reader = reading.leave();
+            (reader, turn::<J>(page, newer))
         }
-        Err(AllocError) => (reader, Err(NoAnswer::NoMemory)),
+        Err(reader) => (reader, Err(NoAnswer::NoEntry)),
     }
 }
 
@@ -346,8 +367,7 @@ fn answered(alloc: Global, page: &Published, batch: Batch) -> Result<Shared<Repl
     ensures place { IfOk result (λ reply. reply.place ≡ length page.now.journal) }
 {
     let _ = batch.ops();
-    let mut work = begun(alloc, page, batch)?;
-    run_to_end(page, &mut work)?;
+    let work = ran(page, begun(alloc, page, batch)?)?;
     let _ = page.window();
     let Some(reply) = work.into_reply() else {
         unreachable!()
