@@ -4,6 +4,7 @@ ghost use Rattle.std.specs.Prelude.{◌≡◌};
 
 mod counts;
 
+use crate::beside::beside;
 use crate::expired::{expired_ids, unexpired};
 use crate::find::{agent_of, bundle_of, children_of, entry_of, kept_of, similar_to};
 use crate::row::{with_row, without_row};
@@ -211,36 +212,84 @@ impl Book {
         requires ascending { Ascending entry_key entries.items }
         ensures { IfOk result (λ book. book ≡ record self.now { entries = entries.items }) }
     {
-        let mut book = self.clone()?;
-        book.entries = Shared::of(alloc, Sequence::of(entries))?;
-        Ok(book)
+        let entries = Shared::of(alloc, Sequence::of(entries))?;
+        let (entries, found) = beside(entries, self.clone())?;
+        let Book {
+            entries: before,
+            agents,
+            bundles,
+            tokens,
+        } = found;
+        drop(before);
+        Ok(Book {
+            entries,
+            agents,
+            bundles,
+            tokens,
+        })
     }
 
     fn with_agents(&self, alloc: Global, agents: Vec<Agent>) -> Result<Book, AllocError>
         requires ascending { Ascending agent_key agents.items }
         ensures { IfOk result (λ book. book ≡ record self.now { agents = agents.items }) }
     {
-        let mut book = self.clone()?;
-        book.agents = Shared::of(alloc, Sequence::of(agents))?;
-        Ok(book)
+        let agents = Shared::of(alloc, Sequence::of(agents))?;
+        let (agents, found) = beside(agents, self.clone())?;
+        let Book {
+            entries,
+            agents: before,
+            bundles,
+            tokens,
+        } = found;
+        drop(before);
+        Ok(Book {
+            entries,
+            agents,
+            bundles,
+            tokens,
+        })
     }
 
     fn with_bundles(&self, alloc: Global, bundles: Vec<Bundle>) -> Result<Book, AllocError>
         requires ascending { Ascending bundle_key bundles.items }
         ensures { IfOk result (λ book. book ≡ record self.now { bundles = bundles.items }) }
     {
-        let mut book = self.clone()?;
-        book.bundles = Shared::of(alloc, Sequence::of(bundles))?;
-        Ok(book)
+        let bundles = Shared::of(alloc, Sequence::of(bundles))?;
+        let (bundles, found) = beside(bundles, self.clone())?;
+        let Book {
+            entries,
+            agents,
+            bundles: before,
+            tokens,
+        } = found;
+        drop(before);
+        Ok(Book {
+            entries,
+            agents,
+            bundles,
+            tokens,
+        })
     }
 
     fn with_tokens(&self, alloc: Global, tokens: Vec<Shared<KeptBatch>>) -> Result<Book, AllocError>
         requires ascending { Ascending token_key tokens.items }
         ensures { IfOk result (λ book. book ≡ record self.now { tokens = tokens.items }) }
     {
-        let mut book = self.clone()?;
-        book.tokens = Shared::of(alloc, Sequence::of(tokens))?;
-        Ok(book)
+        let tokens = Shared::of(alloc, Sequence::of(tokens))?;
+        let (tokens, found) = beside(tokens, self.clone())?;
+        let Book {
+            entries,
+            agents,
+            bundles,
+            tokens: before,
+        } = found;
+        drop(before);
+        Ok(Book {
+            entries,
+            agents,
+            bundles,
+            tokens,
+        })
     }
 
     /// The book with this entry in the place of the one of its id.

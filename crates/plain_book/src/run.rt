@@ -1,10 +1,11 @@
 //! What do the operations of a batch do to a book?
 
-ghost use Rattle.std.specs.Prelude.{◌≡◌, ◌^◌, IfOk};
+ghost use Rattle.std.specs.Prelude.{◌≡◌, ◌++◌, ◌∷◌, ◌^◌, [], IfOk};
 ghost use Rattle.entry_book.specs.Lawful.{Lawful};
 ghost use Rattle.entry_book.specs.Runs.{run};
 ghost use Rattle.plain_book.specs.Performed.{ran};
 
+use crate::beside::beside;
 use crate::book::Book;
 use crate::ops::perform;
 use entry_book::{Batch, OpRefusal, OpReply, Sequence};
@@ -26,16 +27,31 @@ pub(crate) fn run_ops(alloc: Global, batch: &Batch, book: &Book) -> Result<Batch
     ensures { IfOk result
         (λ outcome. outcome ≡ ran book.now (run batch.now.domain batch.now.ops book.now)) }
 {
-    let mut replies = Sequence::empty(alloc);
     let mut current = book.clone()?;
+    let mut replies = Sequence::empty(alloc);
     for (index, op) in batch.ops().iter().enumerate() {
-        match perform(alloc, batch.domain(), op, &current)? {
-            Err(refusal) => return Ok(BatchRun::RefusedAt(index, refusal)),
+        let answer = perform(alloc, batch.domain(), op, &current);
+        drop(current);
+        let (told, answer) = beside(replies, answer)?;
+        match answer {
+            Err(refusal) => {
+                drop(told);
+                return Ok(BatchRun::RefusedAt(index, refusal));
+            }
             Ok((reply, after)) => {
-                replies.push(reply)?;
-                current = after;
+                let (next, more) = beside(after, with_item(told, reply))?;
+                current = next;
+                replies = more;
             }
         }
     }
     Ok(BatchRun::Accepted(replies, current))
+}
+
+/// The items with one more behind them.
+fn with_item<T: Drop>(mut items: Sequence<T>, item: T) -> Result<Sequence<T>, AllocError>
+    ensures { IfOk result (λ more. more ≡ items ++ item ∷ []) }
+{
+    items.push(item)?;
+    Ok(items)
 }

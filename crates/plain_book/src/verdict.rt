@@ -10,6 +10,7 @@ ghost use Rattle.entry_book.specs.SameOps.{ops_eq};
 ghost use Rattle.entry_book.specs.Writes.{after};
 ghost use Rattle.plain_book.specs.Performed.{told, verdict_accepted};
 
+use crate::beside::beside;
 use crate::book::Book;
 use crate::run::{BatchRun, run_ops};
 use entry_book::{Batch, KeptBatch, OpReply, Refusal, Sequence, Shared};
@@ -132,8 +133,7 @@ fn kept_batch(
       replies = replies.now;
     }) }
 {
-    let ops = batch.shared_ops().clone()?;
-    let replies = replies.clone()?;
+    let (ops, replies) = beside(batch.shared_ops().clone()?, replies.clone())?;
     Ok(KeptBatch {
         token,
         ops,

@@ -7,6 +7,7 @@ ghost use Rattle.entry_book.specs.Authorised.{authorised};
 ghost use Rattle.entry_book.specs.Ops.{done, for_agent};
 ghost use Rattle.plain_book.specs.Performed.{performed};
 
+use crate::beside::beside;
 use crate::book::Book;
 use entry_book::{OpRefusal, OpReply};
 use spiffe_name::{SpiffeId, TrustDomain};
@@ -27,5 +28,5 @@ pub(crate) fn authorised(
         return Ok(Err(OpRefusal::NoAgent));
     };
     let entries = book.authorised(alloc, own, found)?;
-    Ok(Ok((OpReply::Entries(entries), book.clone()?)))
+    Ok(Ok(beside(OpReply::Entries(entries), book.clone())?))
 }

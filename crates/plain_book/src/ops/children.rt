@@ -5,6 +5,7 @@ ghost use Rattle.entry_book.specs.Book.{children_of};
 ghost use Rattle.entry_book.specs.Ops.{done};
 ghost use Rattle.plain_book.specs.Performed.{performed};
 
+use crate::beside::beside;
 use crate::book::Book;
 use entry_book::{OpRefusal, OpReply};
 use spiffe_name::SpiffeId;
@@ -20,5 +21,5 @@ pub(crate) fn children(
         (done (OpReply.Entries (children_of parent.now book.now)) []) book.now) }
 {
     let entries = book.children(alloc, parent)?;
-    Ok(Ok((OpReply::Entries(entries), book.clone()?)))
+    Ok(Ok(beside(OpReply::Entries(entries), book.clone())?))
 }

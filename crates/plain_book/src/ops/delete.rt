@@ -5,6 +5,7 @@ ghost use Rattle.entry_book.specs.Book.{entry_at};
 ghost use Rattle.entry_book.specs.Ops.{delete_over};
 ghost use Rattle.plain_book.specs.Performed.{performed};
 
+use crate::beside::beside;
 use crate::book::Book;
 use entry_book::{OpRefusal, OpReply};
 use std::alloc::{AllocError, Global};
@@ -26,6 +27,6 @@ pub(crate) fn delete(
     if entry.is_stale(expected) {
         return Ok(Err(OpRefusal::StaleRevision));
     }
-    let after = book.without_entry(alloc, entry)?;
-    Ok(Ok((OpReply::Entry(entry.clone()?), after)))
+    let reply = OpReply::Entry(entry.clone()?);
+    Ok(Ok(beside(reply, book.without_entry(alloc, entry))?))
 }

@@ -5,6 +5,7 @@ ghost use Rattle.entry_book.specs.Book.{agent_at};
 ghost use Rattle.entry_book.specs.Ops.{agent_dropped, for_agent};
 ghost use Rattle.plain_book.specs.Performed.{performed};
 
+use crate::beside::beside;
 use crate::book::Book;
 use entry_book::{OpRefusal, OpReply};
 use spiffe_name::SpiffeId;
@@ -21,6 +22,6 @@ pub(crate) fn drop_agent(
     let Some(agent) = book.agent(id) else {
         return Ok(Err(OpRefusal::NoAgent));
     };
-    let after = book.without_agent(alloc, agent)?;
-    Ok(Ok((OpReply::Agent(agent.clone()?), after)))
+    let reply = OpReply::Agent(agent.clone()?);
+    Ok(Ok(beside(reply, book.without_agent(alloc, agent))?))
 }

@@ -5,6 +5,7 @@ ghost use Rattle.entry_book.specs.Ops.{done};
 ghost use Rattle.entry_book.specs.Pages.{listed, next_of};
 ghost use Rattle.plain_book.specs.Performed.{performed};
 
+use crate::beside::beside;
 use crate::book::Book;
 use entry_book::{OpRefusal, OpReply, PageQuery};
 use std::alloc::{AllocError, Global};
@@ -19,5 +20,5 @@ pub(crate) fn page(
         (done (OpReply.Page (listed query.now book.now) (next_of query.now book.now)) []) book.now) }
 {
     let (entries, next) = book.page(alloc, query)?;
-    Ok(Ok((OpReply::Page(entries, next), book.clone()?)))
+    Ok(Ok(beside(OpReply::Page(entries, next), book.clone())?))
 }

@@ -6,6 +6,7 @@ ghost use Rattle.entry_book.specs.Book.{entry_at};
 ghost use Rattle.entry_book.specs.Ops.{put_beside, similar};
 ghost use Rattle.plain_book.specs.Performed.{performed};
 
+use crate::beside::beside;
 use crate::book::Book;
 use entry_book::{Entry, NewEntry, OpRefusal, OpReply, Shared};
 use std::alloc::{AllocError, Global};
@@ -30,6 +31,6 @@ pub(crate) fn put_beside(
         return Ok(Err(OpRefusal::NoBundle(domain.clone()?)));
     }
     let entry = Entry::at_revision(new, revision)?;
-    let after = book.with_entry(alloc, entry.clone()?)?;
-    Ok(Ok((OpReply::Entry(entry), after)))
+    let reply = OpReply::Entry(entry.clone()?);
+    Ok(Ok(beside(reply, book.with_entry(alloc, entry))?))
 }

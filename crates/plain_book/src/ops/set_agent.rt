@@ -4,6 +4,7 @@ ghost use Rattle.std.specs.Prelude.{◌≡◌, IfOk};
 ghost use Rattle.entry_book.specs.Ops.{agent_set};
 ghost use Rattle.plain_book.specs.Performed.{performed};
 
+use crate::beside::beside;
 use crate::book::Book;
 use entry_book::{Agent, OpRefusal, OpReply};
 use std::alloc::{AllocError, Global};
@@ -16,6 +17,6 @@ pub(crate) fn set_agent(
 ) -> Result<Result<(OpReply, Book), OpRefusal>, AllocError>
     ensures { IfOk result (λ answer. answer ≡ performed (agent_set agent.now book.now) book.now) }
 {
-    let after = book.with_agent(alloc, agent.clone()?)?;
-    Ok(Ok((OpReply::Agent(agent.clone()?), after)))
+    let (kept, told) = beside(agent.clone()?, agent.clone())?;
+    Ok(Ok(beside(OpReply::Agent(told), book.with_agent(alloc, kept))?))
 }

@@ -6,6 +6,7 @@ ghost use Rattle.entry_book.specs.Lawful.{CanGrow};
 ghost use Rattle.entry_book.specs.Ops.{bundle_set};
 ghost use Rattle.plain_book.specs.Performed.{performed};
 
+use crate::beside::beside;
 use crate::book::Book;
 use entry_book::{Bundle, OpRefusal, OpReply, Shared, Text};
 use spiffe_name::TrustDomain;
@@ -26,11 +27,12 @@ pub(crate) fn set_bundle(
         None => 0,
         Some(old) => old.sequence + 1,
     };
+    let (domain, text) = beside(domain.clone()?, text.clone())?;
     let bundle = Bundle {
-        domain: domain.clone()?,
-        text: text.clone()?,
+        domain,
+        text,
         sequence,
     };
-    let after = book.with_bundle(alloc, bundle.clone()?)?;
-    Ok(Ok((OpReply::Bundle(bundle), after)))
+    let reply = OpReply::Bundle(bundle.clone()?);
+    Ok(Ok(beside(reply, book.with_bundle(alloc, bundle))?))
 }

@@ -5,6 +5,7 @@ ghost use Rattle.entry_book.specs.Book.{entry_at};
 ghost use Rattle.entry_book.specs.Ops.{done};
 ghost use Rattle.plain_book.specs.Performed.{performed};
 
+use crate::beside::beside;
 use crate::book::Book;
 use entry_book::{OpRefusal, OpReply};
 use std::alloc::AllocError;
@@ -19,5 +20,5 @@ pub(crate) fn show(id: &Uuid, book: &Book) -> Result<Result<(OpReply, Book), OpR
         Some(row) => Some(row.clone()?),
         None => None,
     };
-    Ok(Ok((OpReply::EntryShown(shown), book.clone()?)))
+    Ok(Ok(beside(OpReply::EntryShown(shown), book.clone())?))
 }

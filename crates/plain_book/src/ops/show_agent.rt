@@ -5,6 +5,7 @@ ghost use Rattle.entry_book.specs.Book.{agent_at};
 ghost use Rattle.entry_book.specs.Ops.{done};
 ghost use Rattle.plain_book.specs.Performed.{performed};
 
+use crate::beside::beside;
 use crate::book::Book;
 use entry_book::{OpRefusal, OpReply};
 use spiffe_name::SpiffeId;
@@ -22,5 +23,5 @@ pub(crate) fn show_agent(
         Some(row) => Some(row.clone()?),
         None => None,
     };
-    Ok(Ok((OpReply::AgentShown(shown), book.clone()?)))
+    Ok(Ok(beside(OpReply::AgentShown(shown), book.clone())?))
 }

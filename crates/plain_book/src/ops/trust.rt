@@ -7,6 +7,7 @@ ghost use Rattle.entry_book.specs.Authorised.{authorised};
 ghost use Rattle.entry_book.specs.Ops.{bundles_of, done, for_agent};
 ghost use Rattle.plain_book.specs.Performed.{performed};
 
+use crate::beside::beside;
 use crate::book::Book;
 use entry_book::{OpRefusal, OpReply};
 use spiffe_name::{SpiffeId, TrustDomain};
@@ -28,6 +29,8 @@ pub(crate) fn trust(
         return Ok(Err(OpRefusal::NoAgent));
     };
     let entries = book.authorised(alloc, own, found)?;
-    let bundles = book.bundles_of(alloc, entries.as_slice())?;
-    Ok(Ok((OpReply::Bundles(bundles), book.clone()?)))
+    let bundles = book.bundles_of(alloc, entries.as_slice());
+    drop(entries);
+    let bundles = bundles?;
+    Ok(Ok(beside(OpReply::Bundles(bundles), book.clone())?))
 }
