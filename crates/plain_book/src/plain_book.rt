@@ -9,6 +9,7 @@ use entry_book::{Batch, OpRefusal, Outcome, Refusal, Reply};
 use spiffe_name::TrustDomain;
 use std::alloc::{AllocError, Global};
 use std::marker::Model;
+use std::mem::replace;
 
 /// A registration book for one thread. It stands for the list of all its books so far, the first one empty: a batch
 /// that is committed adds the next one, and every other batch leaves the list. It keeps the last book, whose number is
@@ -166,7 +167,7 @@ impl PlainBook {
     {
         let found = self.newest.clone()?;
         push_older(&mut self.older, found)?;
-        self.newest = book;
+        drop(replace(&mut self.newest, book));
         self.place += 1;
         Ok(())
     }

@@ -115,17 +115,20 @@ fn with_batch(
     let Some(token) = batch.token() else {
         return Ok(book);
     };
-    let kept = kept_batch(batch, token, place, replies)?;
-    book.with_token(alloc, Shared::of(alloc, kept)?)
+    let (book, kept) = beside(book, kept_batch(alloc, batch, token, place, replies))?;
+    let after = book.with_token(alloc, kept);
+    drop(book);
+    after
 }
 
 /// What is kept of a batch under its token.
 fn kept_batch(
+    alloc: Global,
     batch: &Batch,
     token: Uuid,
     place: u64,
     replies: &Shared<Sequence<OpReply>>,
-) -> Result<KeptBatch, AllocError>
+) -> Result<Shared<KeptBatch>, AllocError>
     ensures { IfOk result (λ kept. kept ≡ record {
       token = token;
       ops = batch.now.ops;
@@ -134,12 +137,13 @@ fn kept_batch(
     }) }
 {
     let (ops, replies) = beside(batch.shared_ops().clone()?, replies.clone())?;
-    Ok(KeptBatch {
+    let kept = KeptBatch {
         token,
         ops,
         place,
         replies,
-    })
+    };
+    Shared::of(alloc, kept)
 }
 
 /// A batch of changes adds its book, unless this passes a limit.
