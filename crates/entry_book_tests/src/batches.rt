@@ -1,6 +1,7 @@
 //! Which lists of operations are a batch, at each boundary.
 
-use crate::told_ops::{op, ops};
+use crate::told_ops::{add, op, ops};
+use crate::values::{copy, where_done};
 use crate::wanted::{holds, is_number, is_text};
 use entry_book::{Batch, BatchRefusal, Op, Sequence};
 use spiffe_name::{Failure, TrustDomain};
@@ -8,35 +9,41 @@ use std::alloc::Global;
 use std::process::Abort;
 use std::test::Fail;
 
+/// The count of the operations of the batch's copy.
+fn count_in_copy(batch: Batch) -> Result<usize, Fail> {
+    let copied = copy(batch)?;
+    Ok(copied.ops().len())
+}
+
 /// The code of a batch's refusal and the index at fault, or `ok` and the count of a copy's operations.
-fn fault(alloc: Global, ops: Sequence<Op>) -> Result<(&'static str, usize), Fail> {
-    let domain = TrustDomain::parse(alloc, "ex.org")?;
-    match Batch::new(alloc, &domain, ops, 0, None) {
-        Ok(batch) => Ok(("ok", batch.clone()?.ops().len())),
+fn fault(
+    alloc: Global,
+    domain: &TrustDomain,
+    ops: Sequence<Op>,
+) -> Result<(&'static str, usize), Fail> {
+    match Batch::new(alloc, domain, ops, 0, None) {
+        Ok(batch) => Ok(("ok", count_in_copy(batch)?)),
         Err(Failure::Refused(refusal)) => Ok((refusal.code(), refusal.op().unwrap_or(99))),
         Err(Failure::NoMemory) => Err(Fail::from("no memory")),
     }
 }
 
+/// The fault of the batch that a text tells, as `fault` has it.
+fn fault_told(alloc: Global, told: &str) -> Result<(&'static str, usize), Fail> {
+    let domain = TrustDomain::parse(alloc, "ex.org")?;
+    fault(alloc, &domain, ops(alloc, told)?)
+}
+
 /// Are these the code and the number of the batch?
-fn has_fault(
-    rt: &impl Abort,
-    alloc: Global,
-    ops: Sequence<Op>,
-    (code, number): (&str, u64),
-) -> Result<(), Fail> {
-    let (got, at) = fault(alloc, ops)?;
+fn is_fault(rt: &impl Abort, (got, at): (&str, usize), (code, number): (&str, u64)) {
     is_text(rt, got, code, "code");
     is_number(rt, at as u64, number, code);
-    Ok(())
 }
 
 /// Is the code at the start of the line that of the batch of the one operation behind it?
 fn check_line(rt: &impl Abort, alloc: Global, line: &str) -> Result<(), Fail> {
     let (code, told) = line.split_once(' ').unwrap_or((line, ""));
-    let mut ops = Sequence::empty(alloc);
-    ops.push(op(alloc, told)?)?;
-    let (got, _) = fault(alloc, ops)?;
+    let (got, _) = fault_told(alloc, told)?;
     is_text(rt, got, code, line);
     Ok(())
 }
@@ -49,13 +56,26 @@ pub fn check(rt: &impl Abort, alloc: Global, table: &str) -> Result<(), Fail> {
     Ok(())
 }
 
+const QUESTION: &str = "authorised /spire/agent/n1";
+
+fn add_questions(alloc: Global, ops: &mut Sequence<Op>, count: u64) -> Result<(), Fail> {
+    for _ in 0..count {
+        add(alloc, ops, QUESTION)?;
+    }
+    Ok(())
+}
+
 /// So many equal questions.
 fn questions(alloc: Global, count: u64) -> Result<Sequence<Op>, Fail> {
     let mut ops = Sequence::empty(alloc);
-    for _ in 0..count {
-        ops.push(op(alloc, "authorised /spire/agent/n1")?)?;
-    }
-    Ok(ops)
+    let added = add_questions(alloc, &mut ops, count);
+    where_done(added, ops)
+}
+
+/// The fault of a batch of so many questions, as `fault` has it.
+fn fault_of_questions(alloc: Global, count: u64) -> Result<(&'static str, usize), Fail> {
+    let domain = TrustDomain::parse(alloc, "ex.org")?;
+    fault(alloc, &domain, questions(alloc, count)?)
 }
 
 /// Are these the code and the number of a batch of so many questions?
@@ -65,7 +85,8 @@ fn counts(
     count: u64,
     fault_of_count: (&str, u64),
 ) -> Result<(), Fail> {
-    has_fault(rt, alloc, questions(alloc, count)?, fault_of_count)
+    is_fault(rt, fault_of_questions(alloc, count)?, fault_of_count);
+    Ok(())
 }
 
 #[test]
@@ -87,25 +108,39 @@ authorised spiffe://b.org/spire/agent/n1";
 
 #[test]
 fn the_first_operations_least_fault_is_told(rt: HostRuntime) -> Result<(), Fail> {
-    let faulty = ops(rt.alloc(), SECOND_IS_FAULTY)?;
-    has_fault(&rt, rt.alloc(), faulty, ("B5", 1))
+    is_fault(&rt, fault_told(rt.alloc(), SECOND_IS_FAULTY)?, ("B5", 1));
+    Ok(())
 }
 
-/// A question, and this operation behind it.
-fn behind_a_question(alloc: Global, behind: Op) -> Result<Sequence<Op>, Fail> {
+fn add_behind_a_question(alloc: Global, ops: &mut Sequence<Op>, told: &str) -> Result<(), Fail> {
+    add(alloc, ops, QUESTION)?;
+    add(alloc, ops, told)
+}
+
+/// A question, and the operation that a text tells behind it.
+fn behind_a_question(alloc: Global, told: &str) -> Result<Sequence<Op>, Fail> {
     let mut ops = Sequence::empty(alloc);
-    ops.push(op(alloc, "authorised /spire/agent/n1")?)?;
-    ops.push(behind)?;
-    Ok(ops)
+    let added = add_behind_a_question(alloc, &mut ops, told);
+    where_done(added, ops)
+}
+
+/// A copy of the batch of a question and the operation that a text tells.
+fn batch_behind_a_question(alloc: Global, told: &str) -> Result<Batch, Fail> {
+    let own = TrustDomain::parse(alloc, "ex.org")?;
+    let ops = behind_a_question(alloc, told)?;
+    copy(Batch::new(alloc, &own, ops, 0, None)?)
+}
+
+fn op_is_question(alloc: Global, told: &str) -> Result<bool, Fail> {
+    let op = op(alloc, told)?;
+    Ok(op.is_question())
 }
 
 /// Is a batch of a question and this operation a query, or not, as the operation is a question, or not?
 fn asks(rt: &impl Abort, alloc: Global, told: &str, is_question: bool) -> Result<(), Fail> {
-    let op = op(alloc, told)?;
-    holds(rt, op.is_question() == is_question, told);
-    let ops = behind_a_question(alloc, op)?;
-    let own = TrustDomain::parse(alloc, "ex.org")?;
-    let batch = Batch::new(alloc, &own, ops, 0, None)?.clone()?;
+    let is_told_question = op_is_question(alloc, told)?;
+    holds(rt, is_told_question == is_question, told);
+    let batch = batch_behind_a_question(alloc, told)?;
     holds(rt, batch.is_query() == is_question, told);
     is_text(rt, batch.domain().as_str(), "ex.org", told);
     Ok(())

@@ -1,7 +1,8 @@
 //! What does a batch carry beside its operations, and when are two batches' operations the same?
 
 use crate::making::uuid;
-use crate::told_ops::{op, ops};
+use crate::told_ops::ops;
+use crate::values::{copy, one};
 use crate::wanted::{holds, is_number, is_text};
 use entry_book::{Batch, KeptBatch, Op, Sequence, Shared};
 use spiffe_name::{Failure, TrustDomain};
@@ -10,19 +11,10 @@ use std::process::Abort;
 use std::test::Fail;
 use uuid::Uuid;
 
-fn one(alloc: Global, op: Op) -> Result<Sequence<Op>, Fail> {
-    let mut ops = Sequence::empty(alloc);
-    ops.push(op)?;
-    Ok(ops)
-}
-
-/// The code of the refusal of a batch and the index at fault, or `ok` and the place that it asks for; 99 for none.
-fn told(
-    alloc: Global,
-    ops: Sequence<Op>,
-    token: Option<Uuid>,
-) -> Result<(&'static str, u64), Fail> {
+/// The code of the refusal of the batch that a text tells and the index at fault, or `ok` and the place that it asks for; 99 for none.
+fn told(alloc: Global, batch: &str, token: Option<Uuid>) -> Result<(&'static str, u64), Fail> {
     let domain = TrustDomain::parse(alloc, "ex.org")?;
+    let ops = ops(alloc, batch)?;
     match Batch::new(alloc, &domain, ops, 0, token) {
         Ok(batch) => Ok(("ok", batch.past_place().unwrap_or(99))),
         Err(Failure::Refused(refusal)) => {
@@ -37,7 +29,7 @@ fn is_told(rt: &impl Abort, alloc: Global, line: &str, token: Option<Uuid>) -> R
     let (want, batch) = line.split_once(": ").unwrap_or((line, ""));
     let (code, number) = want.split_once(' ').unwrap_or((want, ""));
     let number = number.parse::<u64>()?;
-    let (got, at) = told(alloc, ops(alloc, batch)?, token)?;
+    let (got, at) = told(alloc, batch, token)?;
     is_text(rt, got, code, line);
     is_number(rt, at, number, line);
     Ok(())
@@ -78,7 +70,7 @@ fn a_batch_carries_what_it_was_given(rt: HostRuntime) -> Result<(), Fail> {
     let alloc = rt.alloc();
     let domain = TrustDomain::parse(alloc, "ex.org")?;
     let ops = one(alloc, Op::Prune(5))?;
-    let batch = Batch::new(alloc, &domain, ops, 6, Some(uuid()))?.clone()?;
+    let batch = copy(Batch::new(alloc, &domain, ops, 6, Some(uuid()))?)?;
     is_number(&rt, batch.after(), 6, "after");
     holds(&rt, batch.token() == Some(uuid()), "token");
     let count = batch.shared_ops().get().as_slice().len();
@@ -100,21 +92,29 @@ fn kept(alloc: Global, ops: Sequence<Op>) -> Result<KeptBatch, Fail> {
     })
 }
 
-/// Is a batch that is kept of one operation that of another?
-fn is_same(alloc: Global, op: &Op, other: &Op) -> Result<bool, Fail> {
-    let kept = kept(alloc, one(alloc, op.clone()?)?)?;
-    let others = one(alloc, other.clone()?)?;
-    Ok(kept.has_ops(others.as_slice()))
+/// Copies of the operations that a text tells.
+fn copies(alloc: Global, told: &str) -> Result<Sequence<Op>, Fail> {
+    copy(ops(alloc, told)?)
+}
+
+/// Is the batch that is kept of the operations that a text tells?
+fn has_ops(alloc: Global, kept: &KeptBatch, told: &str) -> Result<bool, Fail> {
+    let ops = copies(alloc, told)?;
+    Ok(kept.has_ops(ops.as_slice()))
+}
+
+/// Is a batch that is kept, of the operations that a text tells, that of those of another text?
+fn is_same(alloc: Global, told: &str, other: &str) -> Result<bool, Fail> {
+    let kept = kept(alloc, copies(alloc, told)?)?;
+    has_ops(alloc, &kept, other)
 }
 
 /// Is an operation the same as itself, and another one, behind the bar, not?
 fn compare(rt: &impl Abort, alloc: Global, line: &str) -> Result<(), Fail> {
     let (told, other) = line.split_once(" | ").unwrap_or((line, line));
-    let op_told = op(alloc, told)?;
-    let other = op(alloc, other)?;
-    holds(rt, is_same(alloc, &op_told, &op_told)?, told);
-    holds(rt, !is_same(alloc, &op_told, &other)?, line);
-    holds(rt, !is_same(alloc, &other, &op_told)?, line);
+    holds(rt, is_same(alloc, told, told)?, told);
+    holds(rt, !is_same(alloc, told, other)?, line);
+    holds(rt, !is_same(alloc, other, told)?, line);
     Ok(())
 }
 
@@ -233,10 +233,10 @@ fn questions_to_selectors_are_compared(rt: HostRuntime) -> Result<(), Fail> {
 #[test]
 fn order_and_count_are_compared(rt: HostRuntime) -> Result<(), Fail> {
     let alloc = rt.alloc();
-    let kept = kept(alloc, ops(alloc, "prune 1; prune 2")?)?;
-    let turned = ops(alloc, "prune 2; prune 1")?;
-    holds(&rt, !kept.has_ops(turned.as_slice()), "turned");
-    let first = one(alloc, Op::Prune(1))?;
-    holds(&rt, !kept.has_ops(first.as_slice()), "the first alone");
+    let told = "prune 1; prune 2";
+    let is_turned = is_same(alloc, told, "prune 2; prune 1")?;
+    holds(&rt, !is_turned, "turned");
+    let is_first = is_same(alloc, told, "prune 1")?;
+    holds(&rt, !is_first, "the first alone");
     Ok(())
 }

@@ -4,8 +4,8 @@
 //!
 //! - `batches`: batches and their refusals; `pages`: those of pages; `kept`: what a batch carries beside its operations, and
 //!   when operations are the same; `rows`: what rows are made of; `limits`: when a limit comes; `laws`: each law is called.
-//! - `making`: entries, and the parts of operations; `told_ops`: operations of the words of a text; `wanted`: what a test
-//!   wants to see.
+//! - `making`: entries, and the parts of operations; `told_ops`: operations of the words of a text; `values`: values of any
+//!   type; `wanted`: what a test wants to see.
 #![tactic(auto)]
 
 #[cfg(test)]
@@ -24,5 +24,7 @@ mod pages;
 mod rows;
 #[cfg(test)]
 mod told_ops;
+#[cfg(test)]
+mod values;
 #[cfg(test)]
 mod wanted;

@@ -1,19 +1,18 @@
 //! What rows are made of, and what they say of themselves.
 
-use crate::making::{N1, SERVER, WEB, domain, domains, id, new_entry, text};
+use crate::making::{N1, SERVER, WEB, domain, id};
+use crate::told_ops::created;
+use crate::values::copy;
 use crate::wanted::{holds, is_number, is_text};
-use entry_book::{DomainSet, Entry, Sequence, Shared, Text, is_server};
+use entry_book::{DomainSet, Entry, Sequence, Text, is_server};
 use spiffe_name::TrustDomain;
 use std::alloc::Global;
 use std::process::Abort;
 use std::test::Fail;
 
-/// An entry at revision 3, with a hint of so many bytes and so many domains.
-fn entry(alloc: Global, hint: usize, count: u32) -> Result<Entry, Fail> {
-    let mut given = new_entry(alloc, N1, WEB)?;
-    given.hint = text(alloc, hint)?;
-    given.domains = domains(alloc, count)?;
-    let given = Shared::of(alloc, given)?;
+/// The entry that the operation that a text tells creates, at revision 3.
+fn entry(alloc: Global, told: &str) -> Result<Entry, Fail> {
+    let given = created(alloc, told)?;
     Ok(Entry::at_revision(&given, 3)?)
 }
 
@@ -32,7 +31,8 @@ fn has_two_domains(rt: &impl Abort, domains: &DomainSet) {
 
 #[test]
 fn the_parts_of_an_entry_are_those_that_were_given(rt: HostRuntime) -> Result<(), Fail> {
-    let entry = entry(rt.alloc(), 2, 2)?.clone()?;
+    let told = "create /spire/agent/n1 /web hint=2 domains=2";
+    let entry = copy(entry(rt.alloc(), told)?)?;
     let last = entry.id().as_bytes()[15];
     is_number(&rt, u64::from(last), 7, "id");
     is_text(&rt, entry.parent().get().as_str(), N1, "parent");
@@ -68,7 +68,8 @@ fn is_dissociated(
 
 #[test]
 fn an_entry_says_what_it_is_asked(rt: HostRuntime) -> Result<(), Fail> {
-    let entry = entry(rt.alloc(), 0, 1)?;
+    let told = "create /spire/agent/n1 /web domains=1";
+    let entry = entry(rt.alloc(), told)?;
     holds(&rt, !entry.is_stale(None), "no revision");
     holds(&rt, !entry.is_stale(Some(3)), "revision 3");
     holds(&rt, entry.is_stale(Some(2)), "revision 2");

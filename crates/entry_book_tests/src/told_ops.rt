@@ -2,6 +2,7 @@
 //! `ex.org` is told by its path, and any other one by itself. `update1` expects revision 1.
 
 use crate::making::{agent, domain, domains, id, new_entry, selectors, text, uuid};
+use crate::values::where_done;
 use entry_book::{
     DropMode, Filter, MatchMode, NewEntry, Op, PageQuery, SelectorMatch, Sequence, Shared,
 };
@@ -50,16 +51,33 @@ fn set_part(alloc: Global, new: &mut NewEntry, name: &str, value: &str) -> Resul
     Ok(())
 }
 
-/// An entry, of its parent, its identity and other parts than `new_entry` has.
-fn entry(alloc: Global, words: &[&str]) -> Result<Shared<NewEntry>, Fail> {
-    let parent = id_text(alloc, word(words, 1))?;
-    let identity = id_text(alloc, word(words, 2))?;
-    let mut new = new_entry(alloc, parent.as_str(), identity.as_str())?;
+/// Gives an entry the parts that are told behind its identity.
+fn set_parts(alloc: Global, new: &mut NewEntry, words: &[&str]) -> Result<(), Fail> {
     for part in words.iter().skip(3) {
         let (name, value) = part.split_once('=').unwrap_or((part, ""));
-        set_part(alloc, &mut new, name, value)?;
+        set_part(alloc, new, name, value)?;
     }
-    Ok(Shared::of(alloc, new)?)
+    Ok(())
+}
+
+/// An entry of its parent and its identity, and else as `new_entry` has it.
+fn plain_entry(alloc: Global, words: &[&str]) -> Result<NewEntry, Fail> {
+    let parent = id_text(alloc, word(words, 1))?;
+    let identity = id_text(alloc, word(words, 2))?;
+    new_entry(alloc, parent.as_str(), identity.as_str())
+}
+
+/// An entry, of its parent, its identity and other parts than `new_entry` has.
+fn entry(alloc: Global, words: &[&str]) -> Result<Shared<NewEntry>, Fail> {
+    let mut new = plain_entry(alloc, words)?;
+    let set = set_parts(alloc, &mut new, words);
+    Ok(Shared::of(alloc, where_done(set, new)?)?)
+}
+
+/// The entry that is created by the operation that a text tells.
+pub fn created(alloc: Global, told: &str) -> Result<Shared<NewEntry>, Fail> {
+    let words = words(alloc, told)?;
+    entry(alloc, words.as_slice())
 }
 
 fn question(alloc: Global, count: &str, mode: MatchMode) -> Result<Option<SelectorMatch>, Fail> {
@@ -81,6 +99,15 @@ fn ask_for(alloc: Global, query: &mut PageQuery, name: &str, value: &str) -> Res
     Ok(())
 }
 
+/// Gives a page the parts that are told behind its size.
+fn ask_for_parts(alloc: Global, query: &mut PageQuery, words: &[&str]) -> Result<(), Fail> {
+    for part in words.iter().skip(2) {
+        let (name, value) = part.split_once('=').unwrap_or((part, ""));
+        ask_for(alloc, query, name, value)?;
+    }
+    Ok(())
+}
+
 /// A page, of its size and the parts that it asks for: without any, it is of everything, of the last book.
 fn page(alloc: Global, words: &[&str]) -> Result<Op, Fail> {
     let mut query = PageQuery {
@@ -94,11 +121,8 @@ fn page(alloc: Global, words: &[&str]) -> Result<Op, Fail> {
             selectors: None,
         },
     };
-    for part in words.iter().skip(2) {
-        let (name, value) = part.split_once('=').unwrap_or((part, ""));
-        ask_for(alloc, &mut query, name, value)?;
-    }
-    Ok(Op::Page(Shared::of(alloc, query)?))
+    let asked = ask_for_parts(alloc, &mut query, words);
+    Ok(Op::Page(Shared::of(alloc, where_done(asked, query)?)?))
 }
 
 /// The revision that an operation expects: none where no word tells it.
@@ -156,12 +180,23 @@ pub fn op(alloc: Global, told: &str) -> Result<Op, Fail> {
     op_of_words(alloc, words.as_slice())
 }
 
+/// Adds the operation that a text tells.
+pub fn add(alloc: Global, ops: &mut Sequence<Op>, told: &str) -> Result<(), Fail> {
+    ops.push(op(alloc, told)?)?;
+    Ok(())
+}
+
+fn add_all(alloc: Global, ops: &mut Sequence<Op>, told: &str) -> Result<(), Fail> {
+    let lines = told.replace(alloc, "; ", "\n")?;
+    for line in lines.lines() {
+        add(alloc, ops, line)?;
+    }
+    Ok(())
+}
+
 /// The operations that a text tells, with `; ` between them.
 pub fn ops(alloc: Global, told: &str) -> Result<Sequence<Op>, Fail> {
-    let lines = told.replace(alloc, "; ", "\n")?;
     let mut ops = Sequence::empty(alloc);
-    for line in lines.lines() {
-        ops.push(op(alloc, line)?)?;
-    }
-    Ok(ops)
+    let added = add_all(alloc, &mut ops, told);
+    where_done(added, ops)
 }
