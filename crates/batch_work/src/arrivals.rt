@@ -8,9 +8,8 @@ ghost use Rattle.entry_book.specs.declared.agent.Agent.{Agent as AgentRow};
 ghost use Rattle.batch_work.specs.Reads.{is_one_of};
 ghost use Rattle.batch_work.specs.WalkStates.{met_when, walked};
 
-use crate::both::both;
 use crate::sorted::{put_entry, put_identity};
-use entry_book::{Entry, Shared};
+use entry_book::{Entry, Shared, both};
 use spiffe_name::SpiffeId;
 use std::alloc::{AllocError, Global};
 use std::marker::Model;

@@ -23,7 +23,6 @@
 mod advance;
 mod arrivals;
 mod begin;
-mod both;
 mod domains;
 pub mod laws;
 mod look;

@@ -7,9 +7,8 @@ ghost use Rattle.entry_book.specs.Rows.{Entry as EntryRow};
 ghost use Rattle.batch_work.specs.Reads.{is_one_of};
 
 use crate::arrivals::{arrivals_of, put_arrivals};
-use crate::both::both;
 use crate::sorted::has_identity;
-use entry_book::{Agent, Entry, Shared};
+use entry_book::{Agent, Entry, Shared, both};
 use spiffe_name::SpiffeId;
 use std::alloc::{AllocError, Global};
 use std::marker::Model;

@@ -15,6 +15,7 @@
 //! - [`Entry`], [`Agent`], [`Bundle`], [`KeptBatch`]: the rows. A copy of a row copies no text.
 //! - [`Shared`], [`Sequence`], [`Text`], [`DomainSet`]: what rows are made of, seen by contracts as a value, a list,
 //!   bytes and a set.
+//! - [`both`], [`beside`]: two values that may lack memory, had together.
 //! - [`is_server`]: whether an ID is that of a trust domain's server; [`limit_passed`]: whether a book has room.
 //! - [`laws`]: what holds of every book, such as that each book that can be reached is lawful.
 //!
@@ -35,6 +36,7 @@ mod listing;
 mod mode;
 mod op;
 mod page;
+mod pair;
 mod reply;
 mod same;
 mod sequence;
@@ -53,6 +55,7 @@ pub use limit::{Limit, limit_passed};
 pub use mode::DropMode;
 pub use op::Op;
 pub use page::{Filter, MatchMode, PageQuery, SelectorMatch};
+pub use pair::{beside, both};
 pub use reply::{OpRefusal, OpReply, Outcome, Refusal, Reply};
 pub use sequence::Sequence;
 pub use shared::Shared;

@@ -4,14 +4,13 @@ ghost use Rattle.std.specs.Prelude.{◌≡◌};
 
 mod counts;
 
-use crate::beside::beside;
 use crate::expired::{expired_ids, unexpired};
 use crate::find::{agent_of, bundle_of, children_of, entry_of, kept_of, similar_to};
 use crate::row::{with_row, without_row};
 use crate::users::{freed, named_bundles, non_users, user_ids, user_of};
 use crate::worklist::authorised_of;
 use entry_book::{
-    Agent, Bundle, DomainSet, Entry, KeptBatch, NewEntry, PageQuery, Sequence, Shared,
+    Agent, Bundle, DomainSet, Entry, KeptBatch, NewEntry, PageQuery, Sequence, Shared, beside,
 };
 use spiffe_name::{SpiffeId, TrustDomain};
 use std::alloc::{AllocError, Global};

@@ -12,12 +12,11 @@
 //! - `verdict`: what a batch comes to on the book that it reads.
 //! - `run`: the operations of a batch, one after another; `ops`: a file for each operation.
 //! - `book`: the four lists of rows, what operations ask of them, and the books that they make; `row`: how a row is put
-//!   into a list or taken out; `beside`: two values of which the second may lack memory.
+//!   into a list or taken out.
 //! - `find`, `users`, `expired`: the rows that an operation looks at; `worklist`: the entries that an agent may hand out.
 //! - [`laws`]: that what is kept tells what the list of all books does.
 #![tactic(auto)]
 
-mod beside;
 mod book;
 mod expired;
 mod find;

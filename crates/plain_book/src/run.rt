@@ -5,10 +5,9 @@ ghost use Rattle.entry_book.specs.Lawful.{Lawful};
 ghost use Rattle.entry_book.specs.Runs.{run};
 ghost use Rattle.plain_book.specs.Performed.{ran};
 
-use crate::beside::beside;
 use crate::book::Book;
 use crate::ops::perform;
-use entry_book::{Batch, OpRefusal, OpReply, Sequence};
+use entry_book::{Batch, OpRefusal, OpReply, Sequence, beside};
 use std::alloc::{AllocError, Global};
 
 /// What became of the operations of a batch.

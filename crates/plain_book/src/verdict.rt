@@ -10,10 +10,9 @@ ghost use Rattle.entry_book.specs.SameOps.{ops_eq};
 ghost use Rattle.entry_book.specs.Writes.{after};
 ghost use Rattle.plain_book.specs.Performed.{told, verdict_accepted};
 
-use crate::beside::beside;
 use crate::book::Book;
 use crate::run::{BatchRun, run_ops};
-use entry_book::{Batch, KeptBatch, OpReply, Refusal, Sequence, Shared};
+use entry_book::{Batch, KeptBatch, OpReply, Refusal, Sequence, Shared, beside};
 use std::alloc::{AllocError, Global};
 use uuid::Uuid;
 

@@ -3,13 +3,12 @@
 ghost use Rattle.std.specs.Prelude.{◌≡◌, IfOk};
 ghost use Rattle.version_book.specs.Index.{group_keys, user_keys, expiry_keys};
 
-use crate::both::both;
 use crate::changes::RowChange;
 use crate::committed_row::{CommittedRow, is_same_row, row_alone};
 use crate::index::{entries_between, same_between, with_keys, without_keys};
 use crate::key::{ExpiryKey, GroupKey, KeyPart, UserKey};
 use crate::mark::{IndexRange, Mark, MarkKind};
-use entry_book::Entry;
+use entry_book::{Entry, both};
 use std::alloc::{AllocError, Global};
 use std::marker::Model;
 use uuid::Uuid;

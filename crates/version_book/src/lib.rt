@@ -38,7 +38,6 @@
 //! - `row`: what marks and writes ask of a row; `hits`: which writes hit a mark; `overlay`: what a mark reads after writes.
 #![tactic(auto)]
 
-mod both;
 mod changes;
 mod committed_row;
 mod entries;

@@ -2,13 +2,12 @@
 
 ghost use Rattle.std.specs.Prelude.{◌≡◌};
 
-use crate::both::both;
 use crate::changes::{RowWrite, TokenWrite};
 use crate::entries::Entries;
 use crate::mark::Mark;
 use crate::row_shelf::RowShelf;
 use crate::rows_read::RowsRead;
-use entry_book::{Agent, Bundle, KeptBatch, Shared};
+use entry_book::{Agent, Bundle, KeptBatch, Shared, both};
 use spiffe_name::{SpiffeId, TrustDomain};
 use std::alloc::{AllocError, Global};
 use std::marker::Model;

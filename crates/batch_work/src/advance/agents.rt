@@ -5,10 +5,9 @@ ghost use Rattle.entry_book.specs.Order.{first};
 ghost use Rattle.entry_book.specs.Writes.{wrote_agent};
 ghost use Rattle.batch_work.specs.Steps.{agent_gone, for_agent_next};
 
-use crate::both::both;
 use crate::phase::{Asked, Next, Phase};
 use crate::rows::first_of;
-use entry_book::{Agent, OpRefusal, OpReply};
+use entry_book::{Agent, OpRefusal, OpReply, both};
 use std::alloc::{AllocError, Global};
 use version_book::Changes;
 

@@ -8,10 +8,9 @@ ghost use Rattle.entry_book.specs.declared.bundle.Bundle.{Bundle as BundleRow};
 ghost use Rattle.batch_work.specs.Steps.{bundle_put_next, drop_next, users_next};
 
 use crate::advance::entries::{ids_of, removed};
-use crate::both::both;
 use crate::phase::{Next, Phase};
 use crate::rows::first_of;
-use entry_book::{Bundle, DropMode, Entry, OpRefusal, OpReply, Sequence, Shared, Text};
+use entry_book::{Bundle, DropMode, Entry, OpRefusal, OpReply, Sequence, Shared, Text, both};
 use spiffe_name::TrustDomain;
 use std::alloc::{AllocError, Global};
 use version_book::Changes;

@@ -7,10 +7,9 @@ ghost use Rattle.entry_book.specs.Pages.{listed, next_of};
 ghost use Rattle.entry_book.specs.Rows.{Entry as EntryRow, entry_key};
 ghost use Rattle.batch_work.specs.Steps.{beside_next, bundle_next, bundles_next, create_next, delete_next, similar_in, update_next};
 
-use crate::both::both;
 use crate::phase::{Next, Phase};
 use crate::rows::similar_in;
-use entry_book::{Bundle, Entry, NewEntry, OpRefusal, OpReply, PageQuery, Sequence, Shared};
+use entry_book::{Bundle, Entry, NewEntry, OpRefusal, OpReply, PageQuery, Sequence, Shared, both};
 use spiffe_name::TrustDomain;
 use std::alloc::{AllocError, Global};
 use uuid::Uuid;

@@ -7,9 +7,8 @@ ghost use Rattle.entry_book.specs.Authorised.{authorised};
 ghost use Rattle.entry_book.specs.Ops.{done, for_agent};
 ghost use Rattle.plain_book.specs.Performed.{performed};
 
-use crate::beside::beside;
 use crate::book::Book;
-use entry_book::{OpRefusal, OpReply};
+use entry_book::{OpRefusal, OpReply, beside};
 use spiffe_name::{SpiffeId, TrustDomain};
 use std::alloc::{AllocError, Global};
 

@@ -5,9 +5,8 @@ ghost use Rattle.entry_book.specs.Book.{entry_at};
 ghost use Rattle.entry_book.specs.Ops.{delete_over};
 ghost use Rattle.plain_book.specs.Performed.{performed};
 
-use crate::beside::beside;
 use crate::book::Book;
-use entry_book::{OpRefusal, OpReply};
+use entry_book::{OpRefusal, OpReply, beside};
 use std::alloc::{AllocError, Global};
 use uuid::Uuid;
 

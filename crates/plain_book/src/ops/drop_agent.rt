@@ -5,9 +5,8 @@ ghost use Rattle.entry_book.specs.Book.{agent_at};
 ghost use Rattle.entry_book.specs.Ops.{agent_dropped, for_agent};
 ghost use Rattle.plain_book.specs.Performed.{performed};
 
-use crate::beside::beside;
 use crate::book::Book;
-use entry_book::{OpRefusal, OpReply};
+use entry_book::{OpRefusal, OpReply, beside};
 use spiffe_name::SpiffeId;
 use std::alloc::{AllocError, Global};
 

@@ -5,9 +5,8 @@ ghost use Rattle.entry_book.specs.Ops.{done};
 ghost use Rattle.entry_book.specs.Pages.{listed, next_of};
 ghost use Rattle.plain_book.specs.Performed.{performed};
 
-use crate::beside::beside;
 use crate::book::Book;
-use entry_book::{OpRefusal, OpReply, PageQuery};
+use entry_book::{OpRefusal, OpReply, PageQuery, beside};
 use std::alloc::{AllocError, Global};
 
 /// Never refused.

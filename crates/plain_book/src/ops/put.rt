@@ -6,9 +6,8 @@ ghost use Rattle.entry_book.specs.Book.{entry_at};
 ghost use Rattle.entry_book.specs.Ops.{put_beside, similar};
 ghost use Rattle.plain_book.specs.Performed.{performed};
 
-use crate::beside::beside;
 use crate::book::Book;
-use entry_book::{Entry, NewEntry, OpRefusal, OpReply, Shared};
+use entry_book::{Entry, NewEntry, OpRefusal, OpReply, Shared, beside};
 use std::alloc::{AllocError, Global};
 
 /// Puts the entry, at this revision, in the place of the one of its id. Refused, in this order, where another entry is

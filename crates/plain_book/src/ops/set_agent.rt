@@ -4,9 +4,8 @@ ghost use Rattle.std.specs.Prelude.{◌≡◌, IfOk};
 ghost use Rattle.entry_book.specs.Ops.{agent_set};
 ghost use Rattle.plain_book.specs.Performed.{performed};
 
-use crate::beside::beside;
 use crate::book::Book;
-use entry_book::{Agent, OpRefusal, OpReply};
+use entry_book::{Agent, OpRefusal, OpReply, beside};
 use std::alloc::{AllocError, Global};
 
 /// Never refused.

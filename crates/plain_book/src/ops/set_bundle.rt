@@ -6,9 +6,8 @@ ghost use Rattle.entry_book.specs.Lawful.{CanGrow};
 ghost use Rattle.entry_book.specs.Ops.{bundle_set};
 ghost use Rattle.plain_book.specs.Performed.{performed};
 
-use crate::beside::beside;
 use crate::book::Book;
-use entry_book::{Bundle, OpRefusal, OpReply, Shared, Text};
+use entry_book::{Bundle, OpRefusal, OpReply, Shared, Text, beside};
 use spiffe_name::TrustDomain;
 use std::alloc::{AllocError, Global};
 
