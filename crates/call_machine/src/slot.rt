@@ -155,7 +155,8 @@ impl Slot {
         }
     }
 
-    /// Lets the work go for what the call came to, and a new work of this batch.
+    /// Keeps what the call came to, and a new work of this batch in the place of its work. The old one gives its batch and lets
+    /// all else go: of what else it has no proof here has to speak.
     fn finish_with(&mut self, alloc: Global, batch: Batch, end: End)
         ensures { self.new ≡ record self.old { work = new_work batch; end = Some end } }
     {

@@ -15,7 +15,7 @@
 //! - [`Entry`], [`Agent`], [`Bundle`], [`KeptBatch`]: the rows. A copy of a row copies no text.
 //! - [`Shared`], [`Sequence`], [`Text`], [`DomainSet`]: what rows are made of, seen by contracts as a value, a list,
 //!   bytes and a set.
-//! - [`both`], [`beside`]: two values that may lack memory, had together.
+//! - [`both`], [`beside`]: two values had together, of which each, or the second, may be refused for want of memory.
 //! - [`is_server`]: whether an ID is that of a trust domain's server; [`limit_passed`]: whether a book has room.
 //! - [`laws`]: what holds of every book, such as that each book that can be reached is lawful.
 //!

@@ -11,7 +11,8 @@ use std::process::Abort;
 use std::test::Fail;
 use uuid::Uuid;
 
-/// The code of the refusal of the batch that a text tells and the index at fault, or `ok` and the place that it asks for; 99 for none.
+/// The code of the refusal of the batch that a text tells and the index at fault, or `ok` and the place that it asks for; 99 for
+/// none.
 fn told(alloc: Global, batch: &str, token: Option<Uuid>) -> Result<(&'static str, u64), Fail> {
     let domain = TrustDomain::parse(alloc, "ex.org")?;
     let ops = ops(alloc, batch)?;
@@ -97,19 +98,19 @@ fn copies(alloc: Global, told: &str) -> Result<Sequence<Op>, Fail> {
     copy(ops(alloc, told)?)
 }
 
-/// Is the batch that is kept of the operations that a text tells?
+/// Has a batch that is kept the operations that a text tells?
 fn has_ops(alloc: Global, kept: &KeptBatch, told: &str) -> Result<bool, Fail> {
     let ops = copies(alloc, told)?;
     Ok(kept.has_ops(ops.as_slice()))
 }
 
-/// Is a batch that is kept, of the operations that a text tells, that of those of another text?
+/// Has a batch that is kept of the operations of one text those of another text?
 fn is_same(alloc: Global, told: &str, other: &str) -> Result<bool, Fail> {
     let kept = kept(alloc, copies(alloc, told)?)?;
     has_ops(alloc, &kept, other)
 }
 
-/// Is an operation the same as itself, and another one, behind the bar, not?
+/// Is an operation the same as one of the same text, and another one, behind the bar, not?
 fn compare(rt: &impl Abort, alloc: Global, line: &str) -> Result<(), Fail> {
     let (told, other) = line.split_once(" | ").unwrap_or((line, line));
     holds(rt, is_same(alloc, told, told)?, told);

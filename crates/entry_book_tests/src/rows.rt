@@ -10,7 +10,7 @@ use std::alloc::Global;
 use std::process::Abort;
 use std::test::Fail;
 
-/// The entry that the operation that a text tells creates, at revision 3.
+/// An entry at revision 3, as the operation of this text creates it.
 fn entry(alloc: Global, told: &str) -> Result<Entry, Fail> {
     let given = created(alloc, told)?;
     Ok(Entry::at_revision(&given, 3)?)

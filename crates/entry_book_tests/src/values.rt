@@ -11,7 +11,7 @@ pub fn where_done<T: Drop>(done: Result<(), Fail>, worked_on: T) -> Result<T, Fa
     Ok(worked_on)
 }
 
-/// A copy, in the place of what it is of.
+/// A copy of a value, which is let go.
 pub fn copy<T: Clone + Drop>(original: T) -> Result<T, Fail> {
     Ok(original.clone()?)
 }

@@ -289,7 +289,7 @@ impl<J: Naming> Seat<J> {
     }
 }
 
-/// Keeps what a look has found, where it found another one.
+/// Keeps the page that a look has found, where it is another one; the one before is let go.
 fn turn<J: Naming>(
     page: &mut Published,
     newer: Result<Option<Published>, AllocError>,

@@ -21,7 +21,7 @@ pub(crate) fn asked_next(asked: Asked, agents: &[Agent]) -> Result<Next, AllocEr
     }
 }
 
-/// The agent of this ID is put in the place of the old one. The error is want of memory.
+/// The one write of this agent's row, from the old one to the new one, where there are such. The error is want of memory.
 fn agent_put(
     alloc: Global,
     agent: &Agent,
