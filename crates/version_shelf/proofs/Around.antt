@@ -9,8 +9,8 @@ use Rattle.std.specs.List.Sorted.{IsStrictlySortedBy}
 use Rattle.std.specs.Map.{keys_of}
 use Rattle.std.proofs.lemmas.List.Elements.{filter-append}
 use Rattle.std.proofs.lemmas.Map.Keys.{sorted_head, sorted_tail}
-use Rattle.version_shelf.specs.Shelf.{IsInOrder, get, rows_below, rows_above}
-use Rattle.version_shelf.specs.Pages.{AreFull, ArePages, Cuts, CutsAt, flatten, ends, least_leaves, least_rows, rows_from}
+use Rattle.version_shelf.specs.Shelf.{IsInOrder, get, rows_below, rows_above, rows_from}
+use Rattle.version_shelf.specs.Pages.{AreFull, ArePages, Cuts, CutsAt, flatten, ends, least_leaves, least_rows}
 use Rattle.version_shelf.proofs.Above.{by_order, AllAbove, below_of_above, above_of_above, get_of_above, all_above_equal, all_above_greater}
 use Rattle.version_shelf.proofs.First.{from_of_above}
 use Rattle.version_shelf.proofs.Flat.{flatten-append, full_front, full_back, full_from_pages, pages_front, pages_back, full_least}

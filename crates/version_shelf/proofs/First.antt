@@ -5,8 +5,7 @@ use Rattle.std.specs.Ordering.{is_eq}
 use Rattle.std.specs.Cmp.{IsTotalOrder}
 use Rattle.std.specs.Map.{keys_of}
 use Rattle.std.proofs.lemmas.Map.Keys.{sorted_tail}
-use Rattle.version_shelf.specs.Shelf.{IsInOrder, get, rows_above}
-use Rattle.version_shelf.specs.Pages.{rows_from}
+use Rattle.version_shelf.specs.Shelf.{IsInOrder, get, rows_above, rows_from}
 use Rattle.version_shelf.proofs.Above.{by_order, greater_from_less, AllAbove, above_of_above, get_of_above, all_above_equal, all_above_greater}
 
 empty_from : {X : Type 0} (xs : List X) → length xs ≡ 0 → xs ≡ []

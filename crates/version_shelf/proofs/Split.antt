@@ -12,8 +12,8 @@ use Rattle.std.proofs.lemmas.List.Filters.{length-filter_both}
 use Rattle.std.proofs.lemmas.List.{get_or-map}
 use Rattle.std.proofs.lemmas.Map.Entries.{length-keys_of}
 use Rattle.std.proofs.lemmas.Map.Keys.{Less-from_sorted}
-use Rattle.version_shelf.specs.Shelf.{IsInOrder, rows_below, rows_between}
-use Rattle.version_shelf.specs.Pages.{IsPlace, ends, rows_from}
+use Rattle.version_shelf.specs.Shelf.{IsInOrder, rows_below, rows_between, rows_from}
+use Rattle.version_shelf.specs.Pages.{IsPlace, ends}
 use Rattle.version_shelf.proofs.Ends.{ends_take, starts_drop}
 
 -- ---- a list whose first i elements pass, and no other

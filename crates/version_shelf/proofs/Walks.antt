@@ -1,5 +1,5 @@
 -- The rows between two bounds, by the pages where the bounds belong.
-use Rattle.std.proofs.Common.{◌≡◌, ℕ, ◌<◌, ◌≤◌, ◌&&◌, List, [], ◌∷◌, ◌++◌, length, filter, drop, refl, sym, ap, ◌∙◌, append-nil, append_assoc, length-append, inl, inr, arith}
+use Rattle.std.proofs.Common.{◌≡◌, ℕ, ◌<◌, ◌≤◌, ◌&&◌, List, [], ◌∷◌, ◌++◌, length, filter, drop, refl, sym, ap, subst, ◌∙◌, append-nil, append_assoc, length-append, inl, inr, arith}
 use Rattle.std.specs.declared.cmp.Ordering.{Ordering}
 use Rattle.std.specs.declared.cmp.Ordering.TheVariants.{Less}
 use Rattle.std.specs.Ordering.{is_lt, is_ge}
@@ -7,12 +7,12 @@ use Rattle.std.specs.Cmp.{IsTotalOrder}
 use Rattle.std.specs.List.{AllByRecursion}
 use Rattle.std.specs.Map.{keys_of}
 use Rattle.std.proofs.lemmas.List.Elements.{filter-append}
-use Rattle.version_shelf.specs.Shelf.{IsInOrder, rows_below, rows_between}
-use Rattle.version_shelf.specs.Pages.{AreFull, ArePages, AreWalkPages, Cuts, CutsAt, flatten, ends, least_leaves, least_rows, rows_from, walk_rows}
+use Rattle.version_shelf.specs.Shelf.{IsInOrder, rows_below, rows_between, rows_from}
+use Rattle.version_shelf.specs.Pages.{AreFull, ArePages, AreWalkPages, Cuts, CutsAt, flatten, ends, least_leaves, least_rows, walk_rows}
 use Rattle.version_shelf.proofs.Above.{AllAbove, all_filter, below_of_above}
 use Rattle.version_shelf.proofs.Split.{between_is}
 use Rattle.version_shelf.proofs.Around.{AllBelow, IsAround, below_of_below, from_of_below, below_around, from_around, in_order_back, leaves_around, middles_around}
-use Rattle.version_shelf.proofs.Flat.{flatten-append, flatten_around, full_front, full_back, pages_back}
+use Rattle.version_shelf.proofs.Flat.{flatten-append, flatten_around, full_front, full_back, full_from_pages, pages_back}
 use Rattle.version_shelf.proofs.Paths.{others_full}
 use Rattle.std.proofs.lemmas.List.{drop_at}
 
@@ -191,11 +191,43 @@ module _ {K V : Type 0} {cmp : K → K → Ordering} (o : IsTotalOrder cmp) (key
   pub ends_there : (found : List (K × V)) → found ≡ rows_below cmp rows key → rows_below cmp (flatten leaves) key ≡ flatten below ++ found
   ends_there found are = ap (λ l. rows_below cmp l key) cuts.joined ∙ below_around o key (flatten below) rows (flatten above) (leaves_around o key leaves below rows above cuts at sorted) ∙ ap (λ l. flatten below ++ l) (sym are)
 
--- ---- a step of a walk to the next page
+-- ---- the middles, cut at a bound
 
-empty : {X : Type 0} (xs : List X) → length xs ≡ 0 → xs ≡ []
+module _ {K V : Type 0} {cmp : K → K → Ordering} (o : IsTotalOrder cmp) (key : K) (middles below : List (List (List (K × V)))) (leaves : List (List (K × V))) (above : List (List (List (K × V)))) (cuts : Cuts least_leaves middles below leaves above) (at : CutsAt (ends (λ row. is_lt (cmp row.0 key))) below leaves above) (sorted : IsInOrder cmp (flatten (flatten middles))) (pages : ArePages least_rows (flatten middles)) where
+  pub middles_start_at : (a : List (K × V)) (b : List (List (K × V))) → rows_from cmp (flatten leaves) key ≡ a ++ flatten b → a ++ (flatten b ++ (flatten (flatten above) ++ [])) ≡ rows_from cmp (flatten (flatten middles)) key
+  middles_start_at a b starts_are = sym (
+      ap (λ l. rows_from cmp l key) (ap flatten cuts.joined ∙ flatten-append (flatten below) (leaves ++ flatten above) ∙ ap (λ l. flatten (flatten below) ++ l) (flatten-append leaves (flatten above)))
+      ∙ from_around o key (flatten (flatten below)) (flatten leaves) (flatten (flatten above)) (middles_around o key middles below leaves above cuts at sorted pages)
+      ∙ ap (λ l. l ++ flatten (flatten above)) starts_are
+      ∙ append_assoc a (flatten b) (flatten (flatten above))
+      ∙ ap (λ l. a ++ (flatten b ++ l)) (sym (append-nil (flatten (flatten above)))))
+
+  pub above_full : AreFull least_rows (flatten above)
+  above_full = full above refl
+    where
+      full : (x : List (List (List (K × V)))) → x ≡ above → AreFull least_rows (flatten x)
+      full [] e = tt
+      full (p ∷ ps) e =
+          let more : 0 < length above = omega (arith, ap length e) in
+          subst (λ x. AreFull least_rows (flatten x)) (sym e) (full_back least_rows leaves (flatten above) (full_back least_rows (flatten below) (leaves ++ flatten above) (others_full middles below leaves above cuts pages (omega arith))))
+
+-- ---- all pages
+
+-- a page before others is as full as they are
+pub later_full : {X : Type 0} (least : ℕ) (page : List X) (pages : List (List X)) → ArePages least (page ∷ pages) → AreFull least pages
+later_full least page [] are = tt
+later_full least page (p ∷ ps) are = are.1
+
+-- full middles have full leaves
+pub full_leaves : {X : Type 0} (middles : List (List (List X))) → AreFull least_leaves middles → ArePages least_rows (flatten middles) → AreFull least_rows (flatten middles)
+full_leaves [] all are = tt
+full_leaves (m ∷ ms) all are = full_from_pages least_rows (m ++ flatten ms) are (omega (arith, all.0, length-append m (flatten ms)))
+
+pub empty : {X : Type 0} (xs : List X) → length xs ≡ 0 → xs ≡ []
 empty [] none = refl
 empty (x ∷ xs) none = absurd (omega arith)
+
+-- ---- a step of a walk to the next page
 
 module _ {X : Type 0} (leaves : List (List X)) (middles : List (List (List X))) (middle taken : List (List X)) (rest : List (List (List X))) where
   pub full_middle : (last_leaves : List (List X)) → middles ≡ middle ∷ rest → taken ≡ middle → AreWalkPages leaves middles last_leaves → AreWalkPages taken rest last_leaves

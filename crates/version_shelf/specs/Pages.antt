@@ -1,8 +1,7 @@
 -- How the rows of a shelf stand in pages.
-use Rattle.std.specs.Prelude.{◌≡◌, ◌⊎◌, ℕ, ◌+◌, ◌-◌, ◌/◌, ◌<◌, ◌≤◌, Bool, true, false, if◌then◌else◌, nat_lt, List, [], ◌∷◌, ◌++◌, length, filter, take, drop, Option, Some, None}
+use Rattle.std.specs.Prelude.{◌≡◌, ◌⊎◌, ℕ, ◌+◌, ◌-◌, ◌/◌, ◌<◌, ◌≤◌, Bool, true, false, if◌then◌else◌, nat_lt, List, [], ◌∷◌, ◌++◌, length, take, drop, Option, Some, None}
 use Rattle.std.specs.declared.cmp.Ordering.{Ordering}
 use Rattle.std.specs.List.{AllByRecursion}
-use Rattle.std.specs.Ordering.{is_ge}
 use Rattle.version_shelf.specs.Shelf.{IsInOrder, most_rows}
 
 -- what the pages hold, one page after another
@@ -93,10 +92,6 @@ pub record Leads {X : Type 0} (middles middles_below : List (List (List X))) (le
   pub cut_leaves : Cuts least_rows leaves below rows above
   pub are_leaves : ArePages least_rows (flatten middles)
   pub size : length middles ≤ most_middles
-
--- the rows whose keys are the key or above it
-abbrev pub rows_from : {K V : Type 0} → (K → K → Ordering) → List (K × V) → K → List (K × V)
-rows_from cmp rows key = filter (λ row. is_ge (cmp row.0 key)) rows
 
 -- ---- walks
 

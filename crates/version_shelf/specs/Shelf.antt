@@ -35,6 +35,10 @@ module _ {K V : Type 0} (cmp : K → K → Ordering) where
   abbrev pub rows_between : List (K × V) → K → K → List (K × V)
   rows_between rows lo hi = filter (λ row. is_ge (cmp row.0 lo) && is_lt (cmp row.0 hi)) rows
 
+  -- the rows whose keys are the key or above it
+  abbrev pub rows_from : List (K × V) → K → List (K × V)
+  rows_from rows key = filter (λ row. is_ge (cmp row.0 key)) rows
+
   -- the rows whose keys are below the key
   abbrev pub rows_below : List (K × V) → K → List (K × V)
   rows_below rows key = filter (λ row. is_lt (cmp row.0 key)) rows

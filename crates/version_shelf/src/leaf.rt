@@ -2,8 +2,7 @@
 
 ghost use Rattle.std.specs.Prelude.{◌≡◌, ◌++◌, ◌∷◌, ◌+◌, ◌<◌, ◌≤◌, ◌^◌, IfOk, length};
 ghost use Rattle.std.specs.Option.{option_copied};
-ghost use Rattle.version_shelf.specs.Shelf.{IsInOrder, get, rows_below, rows_above, rows_between};
-ghost use Rattle.version_shelf.specs.Pages.{rows_from};
+ghost use Rattle.version_shelf.specs.Shelf.{IsInOrder, get, rows_below, rows_above, rows_between, rows_from};
 
 use crate::count::{Count, compared};
 use crate::page::{append, put};

@@ -20,6 +20,8 @@
 //! | `new`, `len`, `has_room` | none | none | none |
 //! | `get`, `find` | 28, and log2 n + 2 at up to 32 rows | none | none |
 //! | `range` | 57, and 2 log2 n + 3 at up to 32 rows; none for a row that comes | none | none |
+//! | `range_from` | as `get`; none for a row that comes | none | none |
+//! | `rows` | none | none | none |
 //! | `clone` | none | none | none, but that one more owner of the root is counted |
 //! | `with`, `with_counted` | as `get` | none | for the row, and for 1,024 rows and pages put into new pages; each that stays counts one more owner |
 //! | `without`, `without_counted` | as `get` | none | for 1,024 rows and pages put into new pages; none where no row has the key |

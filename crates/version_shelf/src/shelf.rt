@@ -2,7 +2,7 @@
 
 ghost use Rattle.std.specs.Prelude.{◌≡◌, ◌↔◌, ◌+◌, ◌<◌, ◌≤◌, ◌^◌, [], length, IsTrue, IfOk, Some, None, if◌then◌else◌, is_some};
 ghost use Rattle.std.specs.Option.{option_copied};
-ghost use Rattle.version_shelf.specs.Shelf.{ClonesEqual, HasRoom, most_rows, IsInOrder, get, count_of, rows_between, with_key, without_key, ChangesAt};
+ghost use Rattle.version_shelf.specs.Shelf.{ClonesEqual, HasRoom, most_rows, IsInOrder, get, count_of, rows_between, rows_from, with_key, without_key, ChangesAt};
 ghost use Rattle.version_shelf.specs.Pages.{ArePages, flatten, least_leaves, least_rows, most_middles};
 
 use crate::count::Count;
@@ -11,7 +11,7 @@ use crate::page::{Middle, Page};
 use crate::path::{middles_with, path_to};
 use crate::range::Range;
 use crate::shared_row::SharedRow;
-use crate::walk::walk_between;
+use crate::walk::{walk_all, walk_between, walk_from};
 use std::alloc::{AllocError, Global};
 use std::marker::Model;
 
@@ -94,6 +94,22 @@ impl<K: Ord + Clone, V: Clone> Shelf<K, V> {
         ensures most { length result ≤ most_rows }
     {
         Range::of(walk_between(self.middles(), lo, hi, &mut Count::new()))
+    }
+
+    /// The rows with `lo <= key`, in ascending order of keys. The bound need not be a key of the shelf. Takes no memory.
+    pub fn range_from(&self, lo: &K) -> Range<'_, K, V>
+        ensures rows { result ≡ rows_from K.cmp self.now lo.now }
+        ensures order { IsInOrder K.cmp self.now }
+    {
+        Range::of(walk_from(self.middles(), lo, &mut Count::new()))
+    }
+
+    /// All rows, in ascending order of keys. Takes no memory.
+    pub fn rows(&self) -> Range<'_, K, V>
+        ensures rows { result ≡ self.now }
+        ensures order { IsInOrder K.cmp self.now }
+    {
+        Range::of(walk_all(self.middles()))
     }
 
     /// The shelf with this row, in the place of the row that has the key, if there is one. The caller sees to it that

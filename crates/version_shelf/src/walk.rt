@@ -1,8 +1,8 @@
 //! How does a walk step from page to page?
 
-ghost use Rattle.std.specs.Prelude.{◌≡◌, ◌++◌, ◌+◌, ◌<◌, ◌≤◌, ◌^◌, [], length};
-ghost use Rattle.version_shelf.specs.Shelf.{IsInOrder, rows_between};
-ghost use Rattle.version_shelf.specs.Pages.{ArePages, AreWalkPages, flatten, least_leaves, least_rows, most_middles, walk_rows};
+ghost use Rattle.std.specs.Prelude.{◌≡◌, ◌++◌, ◌∷◌, ◌+◌, ◌<◌, ◌≤◌, ◌^◌, [], length};
+ghost use Rattle.version_shelf.specs.Shelf.{IsInOrder, rows_between, rows_from};
+ghost use Rattle.version_shelf.specs.Pages.{AreFull, ArePages, AreWalkPages, flatten, least_leaves, least_rows, most_middles, walk_rows};
 
 use crate::count::Count;
 use crate::leaf::{between, split};
@@ -98,6 +98,70 @@ pub(crate) fn walk_between<'a, K: Ord, V>(
                 last: split(end.at, hi, count).0,
             }
         }
+    }
+}
+
+/// The walk over the rows of a shelf with `lo <= key`.
+pub(crate) fn walk_from<'a, K: Ord, V>(
+    middles: &'a [Middle<K, V>],
+    lo: &K,
+    count: &mut Count,
+) -> Walk<'a, K, V>
+    requires order { IsInOrder K.cmp (flatten (flatten middles.now)) }
+    requires middles { ArePages least_leaves middles.now }
+    requires leaves { ArePages least_rows (flatten middles.now) }
+    requires size { length middles.now ≤ most_middles }
+    requires room { count.old + 28 < 2 ^ 64 }
+    ensures pages { AreWalkPages result.leaves.now result.middles.now result.last_leaves.now }
+    ensures rows { walk_rows result.rest.now result.leaves.now result.middles.now result.last_leaves.now result.last.now ≡ rows_from K.cmp (flatten (flatten middles.now)) lo.now }
+    ensures counted { (count.old ≤ count.new) × (count.new ≤ count.old + 28) }
+{
+    let middle = cut_at(middles, lo, count);
+    let leaf = cut_at(middle.at, lo, count);
+    Walk {
+        rest: split(leaf.at, lo, count).1,
+        leaves: leaf.above,
+        middles: middle.above,
+        last_leaves: &[],
+        last: &[],
+    }
+}
+
+/// The walk over all rows of a shelf.
+pub(crate) fn walk_all<K, V>(middles: &[Middle<K, V>]) -> Walk<'_, K, V>
+    requires middles { ArePages least_leaves middles.now }
+    requires leaves { ArePages least_rows (flatten middles.now) }
+    ensures pages { AreWalkPages result.leaves.now result.middles.now result.last_leaves.now }
+    ensures rows { walk_rows result.rest.now result.leaves.now result.middles.now result.last_leaves.now result.last.now ≡ flatten (flatten middles.now) }
+{
+    match middles.split_first() {
+        Some((middle, middles)) => walk_after(middle.parts(), middles),
+        None => walk_after(&[], &[]),
+    }
+}
+
+/// The walk over the rows of these leaves, and then over those of these middles.
+fn walk_after<'a, K, V>(leaves: &'a [Leaf<K, V>], middles: &'a [Middle<K, V>]) -> Walk<'a, K, V>
+    requires leaves { ArePages least_rows (flatten (leaves.now ∷ middles.now)) }
+    requires middles { AreFull least_leaves middles.now }
+    ensures pages { AreWalkPages result.leaves.now result.middles.now result.last_leaves.now }
+    ensures rows { walk_rows result.rest.now result.leaves.now result.middles.now result.last_leaves.now result.last.now ≡ flatten leaves.now ++ flatten (flatten middles.now) }
+{
+    match leaves.split_first() {
+        Some((leaf, leaves)) => Walk {
+            rest: leaf.parts(),
+            leaves,
+            middles,
+            last_leaves: &[],
+            last: &[],
+        },
+        None => Walk {
+            rest: &[],
+            leaves: &[],
+            middles,
+            last_leaves: &[],
+            last: &[],
+        },
     }
 }
 
