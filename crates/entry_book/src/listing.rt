@@ -1,7 +1,7 @@
 //! Which entries does a page list?
 
-ghost use Rattle.std.specs.Prelude.{◌≡◌, ◌&&◌, ◌++◌, ◌∷◌, [], IfOk, OnOk};
-ghost use Rattle.entry_book.specs.Pages.{comes_after, last_id, passes};
+ghost use Rattle.std.specs.Prelude.{◌≡◌, ◌++◌, ◌∷◌, [], IfOk, OnOk};
+ghost use Rattle.entry_book.specs.Pages.{comes_after, last_id};
 
 use crate::entry::Entry;
 use crate::page::PageQuery;
@@ -19,13 +19,6 @@ fn comes_after(entry: &Entry, from: Option<Uuid>) -> bool
     }
 }
 
-/// Would the page list the entry, had it room for all?
-fn is_to_list(entry: &Entry, query: &PageQuery) -> bool
-    ensures { result ≡ (passes query.now.filter entry.now && comes_after query.now.from entry.now) }
-{
-    query.filter.passes(entry) && comes_after(entry, query.from)
-}
-
 /// Adds an entry, and answers its id, which is the last one then. The error is want of memory.
 #[tactic(auto, using(crate::proofs::Pages::last_of))]
 fn push_last(listed: &mut Vec<Entry>, entry: &Entry) -> Result<Option<Uuid>, AllocError>
@@ -39,6 +32,13 @@ fn push_last(listed: &mut Vec<Entry>, entry: &Entry) -> Result<Option<Uuid>, All
 impl PageQuery {
     ghost use Rattle.std.specs.Prelude.{◌≡◌, ◌&&◌, IfOk, filter, length, nat_lt, take, if◌then◌else◌, None};
     ghost use Rattle.entry_book.specs.Pages.{comes_after, last_id, passes};
+
+    /// Would the page list the entry, had it room for all?
+    pub fn lists(&self, entry: &Entry) -> bool
+        ensures { result ≡ (passes self.now.filter entry.now && comes_after self.now.from entry.now) }
+    {
+        self.filter.passes(entry) && comes_after(entry, self.from)
+    }
 
     /// The first of these entries that the page lists, as many as it has room for, and the id after which the next page
     /// begins, where there is one. The error is want of memory.
@@ -57,7 +57,7 @@ impl PageQuery {
         let mut listed = Vec::new(alloc);
         let mut last = None;
         for entry in entries {
-            if is_to_list(entry, self) {
+            if self.lists(entry) {
                 if listed.len() as u64 == self.size {
                     return Ok((listed, last));
                 }
