@@ -7,6 +7,7 @@ pub mod IndexRooms
 pub mod Indexes
 pub mod Kept
 pub mod KeyOrders
+pub mod Listed
 pub mod Mapped
 pub mod Marked
 pub mod NamedRows

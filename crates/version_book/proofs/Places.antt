@@ -1,14 +1,13 @@
 -- The place of what a batch keeps under its token is put into its writes alone, and no mark looks at it.
 use Rattle.std.proofs.Common.{◌≡◌, ℕ, List, [], ◌∷◌, ◌++◌, Option, Some, None, Ok, Err, refl, sym, ap, ◌∙◌, IfOk}
 use Rattle.std.specs.Prelude.{◌||◌, filter, map, option_map}
-use Rattle.std.specs.List.{list_any}
 use Rattle.entry_book.specs.declared.kept.KeptBatch.{KeptBatch}
 use Rattle.entry_book.specs.declared.op.Op.{Op}
 use Rattle.entry_book.specs.declared.op.Op.TheVariants.{Prune, DropBundle}
 use Rattle.entry_book.specs.declared.reply.OpReply.{OpReply}
 use Rattle.entry_book.specs.Rows.{Bytes, Entry}
 use Rattle.entry_book.specs.Book.{Book, users_of, expired_before}
-use Rattle.entry_book.specs.Writes.{RowWrite, wrote_entry, wrote_agent, wrote_bundle, wrote_token, after}
+use Rattle.entry_book.specs.Writes.{RowWrite, wrote_token, after}
 use Rattle.entry_book.specs.NamedRows.{bundle_of, token_of, row_written, entry_name, rows_named}
 use Rattle.entry_book.specs.Ops.{OpEffect, OpResult, bundle_removed, op_of}
 use Rattle.entry_book.specs.Runs.{RunResult, onto, then_run, run}

@@ -11,12 +11,21 @@ use Rattle.std.specs.Map.{keys_of, values_of}
 use Rattle.std.proofs.lemmas.List.{map-append, length-map}
 use Rattle.version_shelf.specs.Shelf.{IsInOrder, get, rows_below, rows_above, without_key, most_rows}
 use Rattle.entry_book.specs.Rows.{Bytes}
-use Rattle.entry_book.specs.Order.{Ascending, with_row}
+use Rattle.entry_book.specs.Order.{Ascending, first, with_row}
 use Rattle.entry_book.proofs.Sets.{text_is}
 use Rattle.version_book.specs.declared.committed_row.CommittedRow.{CommittedRow}
 use Rattle.version_book.specs.CommittedRows.{numbered, of_row, row_of}
 use Rattle.version_book.specs.Stores.{IsKeyed, by_bytes, shelf_after}
+use Rattle.version_book.proofs.NamedRows.{filter-map}
 use Rattle.version_book.proofs.Shelves.{in_order_ascending, keyed-after, room_for, row_at, values-after}
+
+first_alone : {X : Type 0} (row : Option (CommittedRow X)) → first (map row_of (option_to_list row)) ≡ option_map row_of row
+first_alone None = refl
+first_alone (Some r) = refl
+
+-- where one row of those with numbers passes, or none, it is the first of those without that does
+pub first_of : {X : Type 0} (p : X → Bool) (rows : List (CommittedRow X)) (row : Option (CommittedRow X)) → filter (of_row p) rows ≡ option_to_list row → option_map row_of row ≡ first (filter p (map row_of rows))
+first_of p rows row e = sym (ap first (filter-map row_of p rows) ∙ (ap (λ l. first (map row_of l)) e ∙ first_alone row))
 
 abbrev bytes_cmp : Bytes → Bytes → Ordering
 bytes_cmp = slice_cmp nat_cmp
@@ -92,6 +101,10 @@ module _ {K : Type 0} (cmp : K → K → Ordering) (bytes : K → Bytes) (same :
           ap (λ q. filter (of_row q) rows) (λ i x. names x i)
           ∙ (ap (filter (λ r. bytes_eq (key r.row) (bytes k))) (sym (values_same s ∙ view))
           ∙ (row_at key (bytes k) (by_bytes bytes s) (in_order s o) h ∙ ap option_to_list (sym (is ∙ get_same k s))))
+
+      -- it is the first of the rows that have it
+      pub first_row : (s : Shelf) → IsInOrder cmp s → AreKeyed s → (rows : List (CommittedRow X)) → values_of s ≡ rows → (row : Option (CommittedRow X)) → row ≡ get cmp s k → option_map row_of row ≡ first (filter p (map row_of rows))
+      first_row s o h rows view row is = first_of p rows row (named_row s o h rows view row is)
 
       pub one_key : (r s : CommittedRow X) → p r.row ≡ true → p s.row ≡ true → key r.row ≡ key s.row
       one_key r s e f = text_is (key r.row) (bytes k) (sym (names r.row) ∙ e) ∙ sym (text_is (key s.row) (bytes k) (sym (names s.row) ∙ f))

@@ -91,7 +91,7 @@ reverse_lt Less = refl
 reverse_lt Equal = refl
 reverse_lt Greater = refl
 
-gt_is_before : (x k : Bytes) → is_gt (slice_cmp nat_cmp x k) ≡ is_before k x
+pub gt_is_before : (x k : Bytes) → is_gt (slice_cmp nat_cmp x k) ≡ is_before k x
 unfolding is_before
 gt_is_before x k = sym (ap is_lt (nat_list_cmp_total.antisymm k x) ∙ reverse_lt (slice_cmp nat_cmp x k))
 

@@ -26,6 +26,16 @@ impl<T: Clone> Clone for CommittedRow<T> {
     }
 }
 
+/// The row without its number, lent, where there is one.
+pub(crate) fn lent<T>(row: Option<&CommittedRow<T>>) -> Option<&T>
+    ensures { option_copied result ≡ option_map row_of (option_copied row.entry) }
+{
+    match row {
+        Some(row) => Some(&row.row),
+        None => None,
+    }
+}
+
 /// The row, where there is one, alone. The error is want of memory.
 pub(crate) fn row_alone<T: Clone + Drop>(
     alloc: Global,

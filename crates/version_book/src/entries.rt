@@ -1,14 +1,17 @@
 //! How are the entries of a version kept?
 
 ghost use Rattle.std.specs.Prelude.{◌≡◌, IfOk};
+ghost use Rattle.version_book.specs.declared.key.KeyPart.TheVariants.{Start, At, End};
 ghost use Rattle.version_book.specs.Index.{group_keys, user_keys, expiry_keys};
 
 use crate::changes::RowChange;
-use crate::committed_row::{CommittedRow, is_same_row, row_alone};
+use crate::committed_row::{CommittedRow, is_same_row, lent, row_alone};
 use crate::index::{entries_between, same_between, with_keys, without_keys};
 use crate::key::{ExpiryKey, GroupKey, KeyPart, UserKey};
 use crate::mark::{IndexRange, Mark, MarkKind};
-use entry_book::{Entry, both};
+use crate::page::page_of;
+use entry_book::{Entry, PageQuery, Shared, both};
+use spiffe_name::SpiffeId;
 use std::alloc::{AllocError, Global};
 use std::marker::Model;
 use uuid::Uuid;
@@ -78,10 +81,24 @@ fn expiry_keys(alloc: Global, entry: &Entry) -> Result<Vec<ExpiryKey>, AllocErro
     Ok(keys)
 }
 
+/// The bounds of the keys of a parent's entries. The error is that no more owners can be counted.
+fn children_between(parent: &Shared<SpiffeId>) -> Result<(GroupKey, GroupKey), AllocError>
+    ensures low { IfOk result (λ bounds. bounds.0 ≡ (At parent.now, Start, Start)) }
+    ensures high { IfOk result (λ bounds. bounds.1 ≡ (At parent.now, End, End)) }
+{
+    let (low, high) = both(parent.clone(), parent.clone())?;
+    Ok((
+        (KeyPart::At(low), KeyPart::Start, KeyPart::Start),
+        (KeyPart::At(high), KeyPart::End, KeyPart::End),
+    ))
+}
+
 impl Entries {
-    ghost use Rattle.std.specs.Prelude.{◌≡◌, ◌+◌, ◌≤◌, [], IfOk, IfSome, IsTrue, Some, None, filter, length, map, option_map};
-    ghost use Rattle.entry_book.specs.Order.{Ascending, Within, with_row};
-    ghost use Rattle.entry_book.specs.Rows.{entry_key};
+    ghost use Rattle.std.specs.Prelude.{◌≡◌, ◌&&◌, ◌+◌, ◌≤◌, [], IfOk, IfSome, IsTrue, Some, None, bytes_eq, filter, length, map, nat_lt, option_map, take, if◌then◌else◌};
+    ghost use Rattle.std.specs.Option.{option_copied};
+    ghost use Rattle.entry_book.specs.Order.{Ascending, Within, first, with_row};
+    ghost use Rattle.entry_book.specs.Pages.{comes_after, last_id, passes};
+    ghost use Rattle.entry_book.specs.Rows.{Entry as EntryRow, entry_key};
     ghost use Rattle.version_book.specs.Marks.{names_entry};
     ghost use Rattle.version_book.specs.CommittedRows.{numbered, of_row, row_of};
     ghost use Rattle.version_shelf.specs.Shelf.{most_rows};
@@ -177,6 +194,48 @@ impl Entries {
                 rest.with(alloc, CommittedRow { row, commit })
             }
             None => Ok(rest),
+        }
+    }
+
+    /// The entry of an id, where there is one. Takes no memory.
+    pub(crate) fn get(&self, id: &Uuid) -> Option<&Entry>
+        ensures { option_copied result ≡ first (filter (λ (entry : EntryRow). bytes_eq entry.id id.now) (map row_of self.now)) }
+    {
+        lent(self.rows.get(id))
+    }
+
+    /// The entries of a parent, in the order of their ids. The error is want of memory.
+    pub(crate) fn children(
+        &self,
+        alloc: Global,
+        parent: &Shared<SpiffeId>,
+    ) -> Result<Vec<Entry>, AllocError>
+        ensures { IfOk result (λ found. found.items ≡ filter (λ (entry : EntryRow). bytes_eq entry.parent parent.now) (map row_of self.now)) }
+    {
+        let (low, high) = children_between(parent)?;
+        let found = entries_between(alloc, &self.groups, &low, &high);
+        drop(low);
+        drop(high);
+        found
+    }
+
+    /// The entries that a page lists, and the id after which the next page begins, where there is one. The error is want of
+    /// memory.
+    pub(crate) fn page(
+        &self,
+        alloc: Global,
+        query: &PageQuery,
+    ) -> Result<(Vec<Entry>, Option<Uuid>), AllocError>
+        ensures listed { IfOk result (λ page. page.0.items ≡ take query.now.size
+            (filter (λ (entry : EntryRow). passes query.now.filter entry && comes_after query.now.from entry) (map row_of self.now))) }
+        ensures next { IfOk result (λ page. page.1 ≡ (
+            if nat_lt query.now.size (length (filter (λ (entry : EntryRow). passes query.now.filter entry && comes_after query.now.from entry) (map row_of self.now)))
+            then last_id page.0.items
+            else None)) }
+    {
+        match &query.from {
+            Some(from) => page_of(alloc, query, self.rows.range_from(from)),
+            None => page_of(alloc, query, self.rows.rows()),
         }
     }
 

@@ -12,7 +12,10 @@
 //! | Call | Rows that it looks at | Owners that it counts | Memory |
 //! |---|---|---|---|
 //! | `clone` | none | one, of all that the version holds | none |
-//! | `number`, `domain`, `count`, `Changes::hits` | none | none | none |
+//! | `number`, `domain`, `server`, `count`, `Changes::hits` | none | none | none |
+//! | `entry`, `agent`, `bundle` | the one that is asked for | none | none |
+//! | `children` | those of the parent, once a search has found them | those of these rows | for a list of them, and for sorting it |
+//! | `page` | from the id from which it goes on, to the one that shows that more come | those of the rows that it lists | for a list of them |
 //! | `unchanged` | those that the mark names, up to the first difference, once a search has found them | none | none |
 //! | `read` | those that the mark names, once a search has found them | those of these rows | for a list of them, and for sorting it |
 //! | `read_after` | the same, and these again for each change | those of these rows, again for each change | for a list of them, again for each change |
@@ -35,7 +38,8 @@
 //!
 //! - `store`: the sets of rows of a version; `entries` and `row_shelf`: the shelves of a set; `index` and `key`: how an index is
 //!   kept and ordered; `committed_row`: their rows.
-//! - `row`: what marks and writes ask of a row; `hits`: which writes hit a mark; `overlay`: what a mark reads after writes.
+//! - `row`: what marks and writes ask of a row; `hits`: which writes hit a mark; `overlay`: what a mark reads after writes; `page`:
+//!   which rows a page lists.
 #![tactic(auto)]
 
 mod changes;
@@ -47,6 +51,7 @@ mod key;
 pub mod laws;
 mod mark;
 mod overlay;
+mod page;
 mod row;
 mod row_shelf;
 mod rows_read;

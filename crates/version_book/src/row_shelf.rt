@@ -6,7 +6,7 @@ ghost use Rattle.version_book.specs.CommittedRows.{numbered};
 ghost use Rattle.version_book.specs.Stores.{shelf_after};
 
 use crate::changes::RowChange;
-use crate::committed_row::{CommittedRow, is_same_row, row_alone};
+use crate::committed_row::{CommittedRow, is_same_row, lent, row_alone};
 use crate::mark::Mark;
 use crate::row::KeyedRow;
 use std::alloc::{AllocError, Global};
@@ -33,8 +33,9 @@ impl<K: Ord, T: KeyedRow<K>> Model for RowShelf<K, T> {
 }
 
 impl<K: Ord + Clone + Drop, T: KeyedRow<K> + Clone> RowShelf<K, T> {
-    ghost use Rattle.std.specs.Prelude.{◌≡◌, ◌≤◌, [], IfOk, IfSome, IsTrue, filter, length, map, option_map};
-    ghost use Rattle.entry_book.specs.Order.{Ascending, with_row};
+    ghost use Rattle.std.specs.Prelude.{◌≡◌, ◌≤◌, [], IfOk, IfSome, IsTrue, bytes_eq, filter, length, map, option_map};
+    ghost use Rattle.std.specs.Option.{option_copied};
+    ghost use Rattle.entry_book.specs.Order.{Ascending, first, with_row};
     ghost use Rattle.version_book.specs.CommittedRows.{numbered, of_row, row_of};
     ghost use Rattle.version_book.specs.Stores.{TellRows};
     ghost use Rattle.version_shelf.specs.Shelf.{ClonesEqual, most_rows};
@@ -79,6 +80,13 @@ impl<K: Ord + Clone + Drop, T: KeyedRow<K> + Clone> RowShelf<K, T> {
     {
         let rows = after_change(&self.rows, change, commit)?;
         Ok(RowShelf { rows })
+    }
+
+    /// The row of a key, where there is one. Takes no memory.
+    pub(crate) fn get(&self, key: &K) -> Option<&T>
+        ensures { option_copied result ≡ first (filter (λ row. bytes_eq (T.key row) (T.bytes key.now)) (map row_of self.now)) }
+    {
+        lent(self.rows.get(key))
     }
 
     /// The row that a mark names, where it names one of these rows and there is one. The error is want of memory.

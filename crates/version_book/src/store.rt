@@ -7,7 +7,7 @@ use crate::entries::Entries;
 use crate::mark::Mark;
 use crate::row_shelf::RowShelf;
 use crate::rows_read::RowsRead;
-use entry_book::{Agent, Bundle, KeptBatch, Shared, both};
+use entry_book::{Agent, Bundle, Entry, KeptBatch, PageQuery, Shared, both};
 use spiffe_name::{SpiffeId, TrustDomain};
 use std::alloc::{AllocError, Global};
 use std::marker::Model;
@@ -37,7 +37,10 @@ impl Model for Store {
 
 impl Store {
     ghost use Rattle.std.specs.Prelude.{◌≡◌, IfOk, IsTrue, Ok, map, length};
+    ghost use Rattle.std.specs.Option.{option_copied};
+    ghost use Rattle.entry_book.specs.Book.{agent_at, bundle_at, children_of, entry_at};
     ghost use Rattle.entry_book.specs.Order.{Ascending};
+    ghost use Rattle.entry_book.specs.Pages.{listed, next_of};
     ghost use Rattle.entry_book.specs.Rows.{entry_key, agent_key, bundle_key};
     ghost use Rattle.entry_book.specs.Tokens.{token_key};
     ghost use Rattle.entry_book.specs.Writes.{FitAll, FitsBook};
@@ -179,6 +182,51 @@ impl Store {
             store = store.after_write(alloc, write, commit)?;
         }
         Ok(store)
+    }
+
+    /// The entry of an id, where there is one. Takes no memory.
+    pub(crate) fn entry(&self, id: &Uuid) -> Option<&Entry>
+        ensures { option_copied result ≡ entry_at id.now (book_of self.now) }
+    {
+        self.entries.get(id)
+    }
+
+    /// The agent of an id, where there is one. Takes no memory.
+    pub(crate) fn agent(&self, id: &Shared<SpiffeId>) -> Option<&Agent>
+        ensures { option_copied result ≡ agent_at id.now (book_of self.now) }
+    {
+        self.agents.get(id)
+    }
+
+    /// The bundle of a trust domain, where there is one. Takes no memory.
+    pub(crate) fn bundle(&self, domain: &Shared<TrustDomain>) -> Option<&Bundle>
+        ensures { option_copied result ≡ bundle_at domain.now (book_of self.now) }
+    {
+        self.bundles.get(domain)
+    }
+
+    /// The entries of a parent, in the order of their ids. The error is want of memory.
+    pub(crate) fn children(
+        &self,
+        alloc: Global,
+        parent: &Shared<SpiffeId>,
+    ) -> Result<Vec<Entry>, AllocError>
+        ensures { IfOk result (λ found. found.items ≡ children_of parent.now (book_of self.now)) }
+    {
+        self.entries.children(alloc, parent)
+    }
+
+    /// The entries that a page lists, and the id after which the next page begins, where there is one. The error is want of
+    /// memory.
+    pub(crate) fn page(
+        &self,
+        alloc: Global,
+        query: &PageQuery,
+    ) -> Result<(Vec<Entry>, Option<Uuid>), AllocError>
+        ensures listed { IfOk result (λ page. page.0.items ≡ listed query.now (book_of self.now)) }
+        ensures next { IfOk result (λ page. page.1 ≡ next_of query.now (book_of self.now)) }
+    {
+        self.entries.page(alloc, query)
     }
 
     /// The rows that a mark names. The error is want of memory.

@@ -7,10 +7,11 @@ use crate::mark::Mark;
 use crate::overlay::after_changes;
 use crate::rows_read::RowsRead;
 use crate::store::Store;
-use entry_book::Shared;
-use spiffe_name::TrustDomain;
+use entry_book::{Agent, Bundle, Entry, PageQuery, Shared, beside, both};
+use spiffe_name::{SpiffeId, TrustDomain};
 use std::alloc::{AllocError, Global};
 use std::marker::Model;
+use uuid::Uuid;
 
 /// How many rows of each kind a version has.
 #[derive(Clone, Copy, PartialEq, Eq)]
@@ -25,7 +26,20 @@ pub struct RowCounts {
 #[derive(Drop)]
 struct Body {
     domain: Shared<TrustDomain>,
+    server: Shared<SpiffeId>,
     store: Store,
+}
+
+impl Body {
+    ghost use Rattle.std.specs.Prelude.{◌≡◌, IfOk};
+
+    /// The trust domain, and the server's ID, with one more owner each. The error is that no more can be counted.
+    fn names(&self) -> Result<(Shared<TrustDomain>, Shared<SpiffeId>), AllocError>
+        ensures domain { IfOk result (λ names. names.0 ≡ self.now.domain) }
+        ensures server { IfOk result (λ names. names.1 ≡ self.now.server) }
+    {
+        both(self.domain.clone(), self.server.clone())
+    }
 }
 
 /// One version of the book of a trust domain's server. It is never changed: a reader keeps it for as long as it likes,
@@ -43,7 +57,8 @@ pub struct Version {
 }
 
 impl Model for Version {
-    ghost use Rattle.std.specs.Prelude.{◌*◌};
+    ghost use Rattle.std.specs.Prelude.{◌≡◌, ◌*◌};
+    ghost use Rattle.spiffe_name.specs.Id.{server_text};
     ghost use Rattle.entry_book.specs.Lawful.{Lawful};
     ghost use Rattle.version_book.specs.CommittedRows.{AllUpTo, State, book_of};
 
@@ -57,13 +72,18 @@ impl Model for Version {
 
     ghost invariant = { λ version.
         Lawful version.body.domain (64 * version.number) (book_of version.body.store)
-        × AllUpTo version.number version.body.store };
+        × AllUpTo version.number version.body.store
+        × (version.body.server ≡ server_text version.body.domain) };
 }
 
 impl Version {
     ghost use Rattle.std.specs.Prelude.{◌≡◌, ◌*◌, IfOk, IsTrue, List, false, length, true};
+    ghost use Rattle.std.specs.Option.{option_copied};
+    ghost use Rattle.spiffe_name.specs.Id.{server_text};
     ghost use Rattle.entry_book.specs.Batches.{Batch};
+    ghost use Rattle.entry_book.specs.Book.{agent_at, bundle_at, children_of, entry_at};
     ghost use Rattle.entry_book.specs.Lawful.{Lawful};
+    ghost use Rattle.entry_book.specs.Pages.{listed, next_of};
     ghost use Rattle.entry_book.specs.Writes.{after};
     ghost use Rattle.version_book.specs.Applying.{MayApply};
     ghost use Rattle.version_book.specs.History.{Follows, IsEarlier, any_hits};
@@ -75,12 +95,18 @@ impl Version {
     pub fn empty(alloc: Global, domain: TrustDomain) -> Result<Version, AllocError>
         ensures { IfOk result (λ version. version ≡ record { domain = domain; number = 0; rows = no_rows }) }
     {
-        let domain = Shared::of(alloc, domain)?;
-        let store = Store::empty(alloc);
+        let server = SpiffeId::server_of(alloc, &domain);
+        let (domain, server) = beside(domain, server)?;
+        let (domain, server) = both(Shared::of(alloc, domain), Shared::of(alloc, server))?;
+        let body = Body {
+            domain,
+            server,
+            store: Store::empty(alloc),
+        };
         Ok(Version {
             alloc,
             number: 0,
-            body: Shared::of(alloc, Body { domain, store })?,
+            body: Shared::of(alloc, body)?,
         })
     }
 
@@ -89,6 +115,13 @@ impl Version {
         ensures { result.now ≡ self.now.domain }
     {
         self.body.get().domain.get()
+    }
+
+    /// The ID of the server. Takes no memory.
+    pub fn server(&self) -> &Shared<SpiffeId>
+        ensures { result.now ≡ server_text self.now.domain }
+    {
+        &self.body.get().server
     }
 
     /// The number of this version's book in its history. Takes no memory. The book is lawful, and no row was written by a
@@ -119,6 +152,43 @@ impl Version {
         }
     }
 
+    /// The entry of an id, where there is one. Takes no memory.
+    pub fn entry(&self, id: &Uuid) -> Option<&Entry>
+        ensures { option_copied result ≡ entry_at id.now (book_of self.now.rows) }
+    {
+        self.body.get().store.entry(id)
+    }
+
+    /// The agent of an id, where there is one. Takes no memory.
+    pub fn agent(&self, id: &Shared<SpiffeId>) -> Option<&Agent>
+        ensures { option_copied result ≡ agent_at id.now (book_of self.now.rows) }
+    {
+        self.body.get().store.agent(id)
+    }
+
+    /// The bundle of a trust domain, where there is one. Takes no memory.
+    pub fn bundle(&self, domain: &Shared<TrustDomain>) -> Option<&Bundle>
+        ensures { option_copied result ≡ bundle_at domain.now (book_of self.now.rows) }
+    {
+        self.body.get().store.bundle(domain)
+    }
+
+    /// The entries of a parent, in the order of their ids. The error is want of memory.
+    pub fn children(&self, parent: &Shared<SpiffeId>) -> Result<Vec<Entry>, AllocError>
+        ensures { IfOk result (λ found. found.items ≡ children_of parent.now (book_of self.now.rows)) }
+    {
+        self.body.get().store.children(self.alloc, parent)
+    }
+
+    /// The entries that a page lists, and the id after which the next page begins, where there is one. The error is want of
+    /// memory.
+    pub fn page(&self, query: &PageQuery) -> Result<(Vec<Entry>, Option<Uuid>), AllocError>
+        ensures listed { IfOk result (λ page. page.0.items ≡ listed query.now (book_of self.now.rows)) }
+        ensures next { IfOk result (λ page. page.1 ≡ next_of query.now (book_of self.now.rows)) }
+    {
+        self.body.get().store.page(self.alloc, query)
+    }
+
     /// What a mark reads on this version's book. The error is want of memory.
     pub fn read(&self, mark: &Mark) -> Result<RowsRead, AllocError>
         ensures { IfOk result (λ reading. reading ≡ reads mark.now (book_of self.now.rows)) }
@@ -146,14 +216,19 @@ impl Version {
         ensures { IfOk result (λ version. version ≡ next_state (placed number changes.now) self.now) }
     {
         let body = self.body.get();
+        let (domain, server) = body.names()?;
         let store = body
             .store
             .after_writes(self.alloc, changes.writes(), number)?;
-        let domain = body.domain.clone()?;
+        let body = Body {
+            domain,
+            server,
+            store,
+        };
         Ok(Version {
             alloc: self.alloc,
             number,
-            body: Shared::of(self.alloc, Body { domain, store })?,
+            body: Shared::of(self.alloc, body)?,
         })
     }
 

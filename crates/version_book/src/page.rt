@@ -1,0 +1,52 @@
+//! Which entries of a version does a page list?
+//!
+//! No row is looked at before the id from which the page goes on, and none after the one that shows that more come than it lists.
+
+ghost use Rattle.std.specs.Prelude.{◌≡◌, ◌&&◌, ◌++◌, ◌∷◌, [], IfOk, OnOk, None, filter, length, map, nat_lt, take, if◌then◌else◌};
+ghost use Rattle.std.specs.Map.{values_of};
+ghost use Rattle.entry_book.specs.Pages.{comes_after, last_id, passes};
+ghost use Rattle.entry_book.specs.Rows.{Entry as EntryRow};
+ghost use Rattle.version_book.specs.CommittedRows.{row_of};
+
+use crate::committed_row::CommittedRow;
+use entry_book::{Entry, PageQuery};
+use std::alloc::{AllocError, Global};
+use uuid::Uuid;
+use version_shelf::Range;
+
+/// Puts a copy of the entry behind those listed, and answers its id, which is the last one then. The error is want of memory.
+#[tactic(auto, using(entry_book::proofs::Pages::last_of))]
+fn push_last(listed: &mut Vec<Entry>, entry: &Entry) -> Result<Option<Uuid>, AllocError>
+    ensures pushed { OnOk result (listed.new.items ≡ listed.old.items ++ entry.now ∷ []) }
+    ensures last { IfOk result (λ last. last ≡ last_id listed.new.items) }
+{
+    listed.push(entry.clone()?)?;
+    Ok(Some(*entry.id()))
+}
+
+/// The first of these rows that the page lists, as many as it has room for, and the id after which the next page begins, where
+/// there is one. The error is want of memory.
+pub(crate) fn page_of(
+    alloc: Global,
+    query: &PageQuery,
+    rows: Range<'_, Uuid, CommittedRow<Entry>>,
+) -> Result<(Vec<Entry>, Option<Uuid>), AllocError>
+    ensures listed { IfOk result (λ page. page.0.items ≡ take query.now.size
+        (filter (λ (entry : EntryRow). passes query.now.filter entry && comes_after query.now.from entry) (map row_of (values_of rows.entry)))) }
+    ensures next { IfOk result (λ page. page.1 ≡ (
+        if nat_lt query.now.size (length (filter (λ (entry : EntryRow). passes query.now.filter entry && comes_after query.now.from entry) (map row_of (values_of rows.entry))))
+        then last_id page.0.items
+        else None)) }
+{
+    let mut listed = Vec::new(alloc);
+    let mut last = None;
+    for (_, row) in rows {
+        if query.lists(&row.row) {
+            if listed.len() as u64 == query.size {
+                return Ok((listed, last));
+            }
+            last = push_last(&mut listed, &row.row)?;
+        }
+    }
+    Ok((listed, None))
+}
