@@ -9,6 +9,7 @@ pub mod Names
 pub mod NextMarks
 pub mod Places
 pub mod Plays
+pub mod Questions
 pub mod Ready
 pub mod Standing
 pub mod Statuses

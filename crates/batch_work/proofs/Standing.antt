@@ -42,11 +42,11 @@ use Rattle.batch_work.proofs.Plays.{at_item, cons_apart, plays}
 
 -- ---- runs that go on
 
-going_none : (r : RunResult) → going_on [] [] 0 r ≡ r
+pub going_none : (r : RunResult) → going_on [] [] 0 r ≡ r
 going_none (Ok t) = refl
 going_none (Err s) = let q : 0 + s.op ≡ s.op = omega arith in ap (λ n. Err (record { op = n; reason = s.reason })) q
 
-going_more : (replies : List OpReply) (writes : List RowWrite) (n : ℕ) (d : OpEffect) (r : RunResult) → going_on replies writes n (onto d r) ≡ going_on (replies ++ d.reply ∷ []) (writes ++ d.writes) (n + 1) r
+pub going_more : (replies : List OpReply) (writes : List RowWrite) (n : ℕ) (d : OpEffect) (r : RunResult) → going_on replies writes n (onto d r) ≡ going_on (replies ++ d.reply ∷ []) (writes ++ d.writes) (n + 1) r
 going_more replies writes n d (Ok t) = let p : replies ++ (d.reply ∷ t.replies) ≡ (replies ++ d.reply ∷ []) ++ t.replies = sym (append_assoc replies (d.reply ∷ []) t.replies) in let q : writes ++ (d.writes ++ t.writes) ≡ (writes ++ d.writes) ++ t.writes = sym (append_assoc writes d.writes t.writes) in rw (p, q) refl
 going_more replies writes n d (Err s) = let q : n + (s.op + 1) ≡ n + 1 + s.op = omega arith in ap (λ m. Err (record { op = m; reason = s.reason })) q
 

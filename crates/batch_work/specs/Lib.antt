@@ -1,6 +1,7 @@
 pub mod Bounds
 pub mod Laws
 pub mod Places
+pub mod Questions
 pub mod Reads
 pub mod Standing
 pub mod Steps

@@ -10,8 +10,7 @@ use crate::phase::Phase;
 use crate::stage::{Begun, Stage};
 use crate::take::settled;
 use crate::window::Window;
-use entry_book::{Batch, Outcome, Refusal, Shared};
-use spiffe_name::SpiffeId;
+use entry_book::{Batch, Outcome, Refusal, both};
 use std::alloc::{AllocError, Global};
 use version_book::Version;
 
@@ -32,20 +31,21 @@ fn earlier_in(batch: &Batch, window: &Window) -> Result<Option<Version>, AllocEr
     Ok(Some(version.clone()?))
 }
 
-/// Where a batch begins on a window. The error is want of memory.
-pub(crate) fn begun_on(alloc: Global, batch: &Batch, window: &Window) -> Result<Begun, AllocError>
+/// Where a batch begins on a window. The error is that no more owners can be counted.
+pub(crate) fn begun_on(batch: &Batch, window: &Window) -> Result<Begun, AllocError>
     requires fits { MayBegin batch.now window.now }
     ensures base { IfOk result (λ begun. base_of begun ≡ base_in batch.now window.now) }
     ensures began { IfOk result (BeganOn batch.now) }
 {
     let newest = window.newest();
     let _ = newest.number();
-    let earlier = earlier_in(batch, window)?;
-    let server = SpiffeId::server_of(alloc, batch.domain())?;
+    let _ = batch.domain();
+    let names = both(newest.server().clone(), newest.clone());
+    let ((server, newest), earlier) = both(names, earlier_in(batch, window))?;
     Ok(Begun {
-        newest: newest.clone()?,
+        newest,
         earlier,
-        server: Shared::of(alloc, server)?,
+        server,
     })
 }
 

@@ -7,6 +7,7 @@
 //!
 //! - [`Work`]: a batch on its way. It begins on a window, makes a read with each step, and is then ready for its commit, or
 //!   settled; [`Status`] says which.
+//! - [`answer`]: the reply to a batch that only asks, at once: nothing commits on what it reads, so there are no steps and no marks.
 //! - [`Window`]: the last 64 versions of one history. A batch reads the newest, or for the page of an earlier book that one.
 //! - [`laws`]: what is read decides what a batch comes to; what becomes of it at a commit; how many reads it makes, and which;
 //!   what a window shows of the list of all books.
@@ -17,11 +18,13 @@
 //!
 //! - `begin`: what a batch begins on; `look`: what its next read shows; `take`: what becomes of it then; `stage`: where it stands
 //!   between two steps.
+//! - `asking`: what a batch that only asks is answered at once.
 //! - `phase`: where an operation stands between two reads; `advance`: what comes next of it.
 #![tactic(auto)]
 
 mod advance;
 mod arrivals;
+mod asking;
 mod begin;
 mod domains;
 pub mod laws;
@@ -36,6 +39,7 @@ mod walk;
 mod window;
 mod work;
 
+pub use asking::answer;
 pub use status::Status;
 pub use window::Window;
 pub use work::Work;

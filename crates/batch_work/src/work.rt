@@ -143,7 +143,7 @@ impl Work {
         ensures err { OnErr result (self.new ≡ self.old) }
     {
         let _ = self.batch.ops();
-        let begun = begun_on(self.alloc, &self.batch, window)?;
+        let begun = begun_on(&self.batch, window)?;
         let stage = first_stage(self.alloc, &self.batch, &begun)?;
         self.begun = Some(begun);
         let_go(replace(&mut self.stage, stage));
