@@ -1,8 +1,8 @@
 //! What may many threads rely on that share one registration book?
 //!
-//! Each caller has a seat. A query takes no lock and waits for nobody: the seat looks once at what is published, and runs the
-//! batch on that. A batch of changes is run the same way; the lock is held for its commit alone, and where a batch that was
-//! committed since wrote what it had read, it begins again while tries are left. What a seat has seen only grows, is always a
+//! Each caller has a seat. A query takes no lock and waits for nobody: the seat looks once at what is published, and answers the
+//! batch on that. A batch of changes is run on that in small steps; the lock is held for its commit alone, and where a batch that
+//! was committed since wrote what it had read, it begins again while tries are left. What a seat has seen only grows, is always a
 //! lawful journal, and begins with all that it was told of by the receipts of others; so the answers of callers that meet stand
 //! in one list of committed batches.
 //!
@@ -19,7 +19,7 @@
 //! `Rules`.
 //!
 //! - `history`: the one history, and the beginnings of it that were seen; `published` and `rule`: what readers look at, and which
-//!   rule each step over it keeps; `run`: how a batch is run on what is published; `desk` and `commit`: what lies under the lock,
+//!   rule each step over it keeps; `run`: how a batch of changes is run on what is published; `desk` and `commit`: what lies under the lock,
 //!   and what is done there; `recent`: boards that are kept from readers' hands; `outcome` and `gate`.
 #![tactic(auto)]
 

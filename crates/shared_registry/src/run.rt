@@ -1,4 +1,4 @@
-//! What does a batch come to on what is published?
+//! What does a batch of changes come to on what is published?
 
 ghost use Rattle.std.specs.Prelude.{◌≡◌, IfOk, Ok, OnOk, Some};
 ghost use Rattle.batch_work.specs.Working.{base_in, status_of};

@@ -15,7 +15,7 @@ use crate::history::{Front, Naming};
 use crate::published::Published;
 use crate::rule::{Rule, Sees, View};
 use crate::run::{begun, ran};
-use batch_work::Work;
+use batch_work::{Work, answer};
 use commit_head::Item;
 use entry_book::{Batch, Reply, Shared};
 use left_right::reader::Reader;
@@ -367,10 +367,7 @@ fn answered(alloc: Global, page: &Published, batch: Batch) -> Result<Shared<Repl
     ensures place { IfOk result (λ reply. reply.place ≡ length page.now.journal) }
 {
     let _ = batch.ops();
-    let work = ran(page, begun(alloc, page, batch)?)?;
-    let _ = page.window();
-    let Some(reply) = work.into_reply() else {
-        unreachable!()
-    };
-    Ok(reply)
+    let reply = answer(alloc, &batch, page.window());
+    drop(batch);
+    reply
 }

@@ -1,16 +1,19 @@
-use Rattle.std.proofs.Common.{◌≡◌, subst}
-use Rattle.entry_book.specs.History.{books_of, reply_to}
-use Rattle.commit_head.specs.Journals.{batches_of}
+use Rattle.std.proofs.Common.{ap, ◌∙◌}
+use Rattle.std.proofs.lemmas.Result.{IfOk-weaker}
+use Rattle.batch_work.specs.Working.{base_in, reply_there}
 use Rattle.shared_registry.proofs.Answered.{answer_is, place_is}
 use Rattle.shared_registry.proofs.seat.answered.Goals as goal
 
 pub returns-clause-answer : goal.returns-clause-answer
 returns-clause-answer c =
-    let same = c.in_ok-begun.ensures.begun.batch_is in
-    subst (λ b. c.in-Some.reply ≡ reply_to b (books_of (batches_of c.args.page.now.journal))) same (answer_is _ _ _ _ c.in_ok-work.ensures c.window.ensures.journal c.in-Some.ensures.answer)
+    let batch = c.args.batch in
+    IfOk-weaker c.answer-reply.result _ _ (λ reply e.
+    answer_is batch c.args.page.now reply c.window.ensures.journal (e ∙ ap (λ w. reply_there batch (base_in batch w)) c.window.ensures.window)) c.answer-reply.ensures
 
 pub returns-clause-place : goal.returns-clause-place
 returns-clause-place c =
-    let same = c.in_ok-begun.ensures.begun.batch_is in
-    place_is _ _ c.args.page.now _ c.ops.ensures.made c.requires.query c.window.ensures.journal
-    (subst (λ b. c.in-Some.reply ≡ reply_to b (books_of (batches_of c.args.page.now.journal))) same (answer_is _ _ _ _ c.in_ok-work.ensures c.window.ensures.journal c.in-Some.ensures.answer))
+    let batch = c.args.batch in
+    let page = c.args.page.now in
+    IfOk-weaker c.answer-reply.result _ _ (λ reply e.
+    place_is _ batch page reply c.ops.ensures.made c.requires.query c.window.ensures.journal
+    (answer_is batch page reply c.window.ensures.journal (e ∙ ap (λ w. reply_there batch (base_in batch w)) c.window.ensures.window))) c.answer-reply.ensures
