@@ -3,6 +3,7 @@
 
 use crate::draws::nth;
 use crate::playing::{answers, first_book, plays_on, told};
+use crate::values::where_done;
 use crate::wanted::{is_number, is_text};
 use batch_texts::placed;
 use plain_book::PlainBook;
@@ -173,15 +174,21 @@ fn fill(
     answers(rt, alloc, book, text.as_str(), want.as_str())
 }
 
+/// Commits all these rows.
+fn fill_all(rt: &impl Abort, alloc: Global, book: &mut PlainBook) -> Result<(), Fail> {
+    plays_on(rt, alloc, book, OTHERS)?;
+    let mut number = 0;
+    for place in 2..11 {
+        fill(rt, alloc, book, &mut number, place)?;
+    }
+    Ok(())
+}
+
 /// The book of these rows, at place 10.
 fn large_book(rt: &impl Abort, alloc: Global) -> Result<PlainBook, Fail> {
     let mut book = first_book(alloc)?;
-    plays_on(rt, alloc, &mut book, OTHERS)?;
-    let mut number = 0;
-    for place in 2..11 {
-        fill(rt, alloc, &mut book, &mut number, place)?;
-    }
-    Ok(book)
+    let filled = fill_all(rt, alloc, &mut book);
+    where_done(filled, book)
 }
 
 /// How many selectors has the agent?
@@ -260,16 +267,18 @@ fn answer_at(alloc: Global, stage: &Stage, place: u64) -> Result<String, Fail> {
     Ok(text)
 }
 
+/// The place of the book then.
+fn place_at(stage: &Stage) -> u64 {
+    match stage {
+        Stage::Made => 10,
+        _ => 11,
+    }
+}
+
 /// The questions are answered out of what stands in the book then.
-fn tells(
-    rt: &impl Abort,
-    alloc: Global,
-    book: &mut PlainBook,
-    stage: &Stage,
-    place: u64,
-) -> Result<(), Fail> {
+fn tells(rt: &impl Abort, alloc: Global, book: &mut PlainBook, stage: &Stage) -> Result<(), Fail> {
     let got = told(alloc, book, QUESTIONS)?;
-    let want = answer_at(alloc, stage, place)?;
+    let want = answer_at(alloc, stage, place_at(stage))?;
     is_text(rt, got.as_str(), want.as_str(), change_to(stage));
     let count = got.split('.').count() as u64;
     is_number(rt, count.wrapping_sub(1), total_at(stage), "entries in all");
@@ -310,34 +319,46 @@ fn dropped_text(alloc: Global, stage: &Stage) -> Result<String, Fail> {
     Ok(text)
 }
 
+/// What the operation that leads to it is answered.
 fn change_text(alloc: Global, stage: &Stage) -> Result<String, Fail> {
     match stage {
+        Stage::Made => Ok(String::from_str(alloc, "refused O6 at 10; operation 0")?),
         Stage::Pruned => pruned_text(alloc, stage),
         _ => dropped_text(alloc, stage),
     }
 }
 
+/// The operation leads the book to what it is to become, and the book tells so.
+fn changes(
+    rt: &impl Abort,
+    alloc: Global,
+    book: &mut PlainBook,
+    stage: &Stage,
+) -> Result<(), Fail> {
+    let want = change_text(alloc, stage)?;
+    answers(rt, alloc, book, change_to(stage), want.as_str())?;
+    tells(rt, alloc, book, stage)
+}
+
 /// A large book becomes what it is to become, and tells so.
 fn becomes(rt: &impl Abort, alloc: Global, stage: &Stage) -> Result<(), Fail> {
     let mut book = large_book(rt, alloc)?;
-    let want = change_text(alloc, stage)?;
-    answers(rt, alloc, &mut book, change_to(stage), want.as_str())?;
-    tells(rt, alloc, &mut book, stage, 11)
+    let changed = changes(rt, alloc, &mut book, stage);
+    drop(book);
+    changed
 }
 
 #[test]
 fn agents_of_a_large_book_are_told_the_ends_of_chains(rt: HostRuntime) -> Result<(), Fail> {
     let mut book = large_book(&rt, rt.alloc())?;
-    tells(&rt, rt.alloc(), &mut book, &Stage::Made, 10)
+    let told = tells(&rt, rt.alloc(), &mut book, &Stage::Made);
+    drop(book);
+    told
 }
 
 #[test]
 fn a_bundle_that_many_entries_name_is_in_use(rt: HostRuntime) -> Result<(), Fail> {
-    let mut book = large_book(&rt, rt.alloc())?;
-    let drop = change_to(&Stage::Made);
-    let want = "refused O6 at 10; operation 0";
-    answers(&rt, rt.alloc(), &mut book, drop, want)?;
-    tells(&rt, rt.alloc(), &mut book, &Stage::Made, 10)
+    becomes(&rt, rt.alloc(), &Stage::Made)
 }
 
 #[test]

@@ -9,7 +9,8 @@
 //!   `tokens`: batches that carry a token. Each is told by a script, which `playing` plays.
 //! - `large`: what a book of over five hundred entries answers.
 //! - `pages`: pages of random entries are what a search finds.
-//! - `making`: batches, made of a text; `draws`: random texts, by a grammar; `wanted`: what a test wants to see.
+//! - `making`: batches, made of a text; `draws`: random texts, by a grammar; `values`: values of any type; `wanted`: what a
+//!   test wants to see.
 #![tactic(auto)]
 
 #[cfg(test)]
@@ -34,6 +35,8 @@ mod rows;
 mod search;
 #[cfg(test)]
 mod tokens;
+#[cfg(test)]
+mod values;
 #[cfg(test)]
 mod wanted;
 #[cfg(test)]

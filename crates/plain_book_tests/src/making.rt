@@ -1,6 +1,7 @@
 //! Batches, made of a text as in `batch_texts`. What those don't say stands in a line behind `with`: the two lifetimes of an
 //! entry, the revision that an update or a delete expects, and the filter of a page. Such a line tells IDs by their paths.
 
+use crate::values::{add, add_copy, beside, where_done};
 use batch_texts::{number, number_behind, trust_domain, word, words};
 use entry_book::{
     Batch, DomainSet, Filter, MatchMode, NewEntry, Op, PageQuery, SelectorMatch, Sequence, Shared,
@@ -47,15 +48,29 @@ fn domains(alloc: Global, words: &[&str]) -> Result<DomainSet, Fail> {
     Ok(DomainSet::of(alloc, domains)?)
 }
 
+fn no_hint(alloc: Global) -> Result<Shared<Text>, Fail> {
+    Ok(Shared::of(alloc, Text::of(String::new(alloc)))?)
+}
+
+/// The parent and the identity of an entry.
+fn ids(alloc: Global, words: &[&str]) -> Result<(Shared<SpiffeId>, Shared<SpiffeId>), Fail> {
+    let parent = id(alloc, word(words, 2))?;
+    beside(parent, id(alloc, word(words, 3)))
+}
+
+/// The selectors and the domains of an entry.
+fn sets(alloc: Global, words: &[&str]) -> Result<(Shared<SelectorSet>, DomainSet), Fail> {
+    let selectors = selectors(alloc, word(words, 4))?;
+    beside(selectors, domains(alloc, words))
+}
+
 /// An entry with no hint, of its number, parent, identity, selectors, expiry and domains, and of its lifetimes.
 fn entry(alloc: Global, words: &[&str], more: &[&str]) -> Result<Shared<NewEntry>, Fail> {
     let (number, expiry) = (uuid(words, 1)?, number(words, 5)?);
     let (x509_svid_ttl, jwt_svid_ttl) = lifetimes(more)?;
-    let parent = id(alloc, word(words, 2))?;
-    let identity = id(alloc, word(words, 3))?;
-    let selectors = selectors(alloc, word(words, 4))?;
-    let hint = Shared::of(alloc, Text::of(String::new(alloc)))?;
-    let domains = domains(alloc, words)?;
+    let named = beside(ids(alloc, words)?, sets(alloc, words))?;
+    let (named, hint) = beside(named, no_hint(alloc))?;
+    let ((parent, identity), (selectors, domains)) = named;
     let new = NewEntry {
         id: number,
         parent,
@@ -156,16 +171,22 @@ fn op_with(alloc: Global, words: &[&str], more: &[&str]) -> Result<Op, Fail> {
 
 fn add_with(alloc: Global, ops: &mut Vec<Op>, line: &str, more: &str) -> Result<(), Fail> {
     let (words, more) = (words(alloc, line)?, words(alloc, more)?);
-    ops.push(op_with(alloc, words.as_slice(), more.as_slice())?)?;
+    add(ops, op_with(alloc, words.as_slice(), more.as_slice())?)
+}
+
+fn add_copies(ops: &mut Vec<Op>, copied: &[Op]) -> Result<(), Fail> {
+    for op in copied {
+        add_copy(ops, op)?;
+    }
     Ok(())
 }
 
 /// Adds the operation of a line with nothing more.
 fn add_plain(alloc: Global, ops: &mut Vec<Op>, line: &str) -> Result<(), Fail> {
     let batch = batch_texts::batch(alloc, line)?;
-    let mut plain = batch.shared_ops().get().clone()?.into_vec();
-    ops.append(&mut plain)?;
-    Ok(())
+    let added = add_copies(ops, batch.shared_ops().get().as_slice());
+    drop(batch);
+    added
 }
 
 fn add_line(alloc: Global, ops: &mut Vec<Op>, line: &str) -> Result<(), Fail> {
@@ -178,13 +199,18 @@ fn add_line(alloc: Global, ops: &mut Vec<Op>, line: &str) -> Result<(), Fail> {
     }
 }
 
+fn add_lines(alloc: Global, ops: &mut Vec<Op>, lines: &str) -> Result<(), Fail> {
+    for line in lines.lines() {
+        add_line(alloc, ops, line)?;
+    }
+    Ok(())
+}
+
 /// The operations that the lines tell.
 fn ops_of(alloc: Global, lines: &str) -> Result<Vec<Op>, Fail> {
     let mut ops = Vec::new(alloc);
-    for line in lines.lines() {
-        add_line(alloc, &mut ops, line)?;
-    }
-    Ok(ops)
+    let added = add_lines(alloc, &mut ops, lines);
+    where_done(added, ops)
 }
 
 /// The batch of lines, some with more.

@@ -152,6 +152,39 @@ fn wanted_pages(alloc: Global, found: &[&str], size: u64, head: &str) -> Result<
     Ok(pages)
 }
 
+/// The page of this size and filter that the book answers behind an entry.
+fn told_page(
+    alloc: Global,
+    book: &mut PlainBook,
+    (size, filter): (u64, &str),
+    from: &str,
+) -> Result<String, Fail> {
+    let text = format!(in alloc; "page {size} - {from} with {filter}")?;
+    told(alloc, book, text.as_str())
+}
+
+fn add_line(text: &mut String, line: &str) -> Result<(), Fail> {
+    text.push_str(line)?;
+    text.push_str("\n")?;
+    Ok(())
+}
+
+/// The page behind this one, where there is one, which is added to the others.
+fn next_page(
+    alloc: Global,
+    book: &mut PlainBook,
+    (size, filter): (u64, &str),
+    page: &str,
+    pages: &mut String,
+) -> Result<Option<String>, Fail> {
+    let Some((_, from)) = page.split_once(" next ") else {
+        return Ok(None);
+    };
+    let next = told_page(alloc, book, (size, filter), from)?;
+    add_line(pages, next.as_str())?;
+    Ok(Some(next))
+}
+
 /// All pages that the book answers, from the first one on; none has more than thirteen entries.
 fn told_pages(
     alloc: Global,
@@ -160,15 +193,12 @@ fn told_pages(
     filter: &str,
 ) -> Result<String, Fail> {
     let mut pages = String::new(alloc);
-    let mut page = format!(in alloc; " next -")?;
+    let mut page = String::from_str(alloc, " next -")?;
     for _ in 0..20 {
-        let Some((_, from)) = page.as_str().split_once(" next ") else {
-            break;
-        };
-        let text = format!(in alloc; "page {size} - {from} with {filter}")?;
-        page = told(alloc, book, text.as_str())?;
-        pages.push_str(page.as_str())?;
-        pages.push_str("\n")?;
+        match next_page(alloc, book, (size, filter), page.as_str(), &mut pages)? {
+            Some(next) => page = next,
+            None => break,
+        }
     }
     Ok(pages)
 }
@@ -191,18 +221,15 @@ fn are_pages_found(
     Ok(())
 }
 
-/// So it is with each of these random filters.
-fn all_filters(
-    rt: &impl Abort,
-    alloc: Global,
-    book: &mut PlainBook,
-    state: &mut u64,
-) -> Result<(), Fail> {
-    let rows = filled(alloc, book, state)?;
+/// So it is with each of random filters, once a book is filled.
+fn all_filters(rt: &impl Abort, alloc: Global, book: &mut PlainBook) -> Result<(), Fail> {
+    plays_on(rt, alloc, book, BUNDLES)?;
+    let mut state = 7;
+    let rows = filled(alloc, book, &mut state)?;
     holds(rt, rows.len() > 8, "entries that the book took");
     for _ in 0..40 {
-        let size = below(state, 4).wrapping_add(1) as u64;
-        let filter = drawn(alloc, state, GRAMMAR, "<filter>")?;
+        let size = below(&mut state, 4).wrapping_add(1) as u64;
+        let filter = drawn(alloc, &mut state, GRAMMAR, "<filter>")?;
         are_pages_found(rt, alloc, book, &rows, filter.as_str(), size)?;
     }
     Ok(())
@@ -210,8 +237,8 @@ fn all_filters(
 
 #[test]
 fn pages_are_what_a_search_finds(rt: HostRuntime) -> Result<(), Fail> {
-    let mut state = 7;
     let mut book = first_book(rt.alloc())?;
-    plays_on(&rt, rt.alloc(), &mut book, BUNDLES)?;
-    all_filters(&rt, rt.alloc(), &mut book, &mut state)
+    let found = all_filters(&rt, rt.alloc(), &mut book);
+    drop(book);
+    found
 }

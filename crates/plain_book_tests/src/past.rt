@@ -1,6 +1,6 @@
 //! Pages of earlier books, and batches that wait for a later place.
 
-use crate::playing::{first_book, plays_on};
+use crate::playing::plays_all;
 use std::alloc::Global;
 use std::process::Abort;
 use std::test::Fail;
@@ -16,9 +16,7 @@ delete 4 => committed at 2; entry 4.0
 
 /// Plays a script on the book of four entries.
 fn plays(rt: &impl Abort, alloc: Global, script: &str) -> Result<(), Fail> {
-    let mut book = first_book(alloc)?;
-    plays_on(rt, alloc, &mut book, FOUR)?;
-    plays_on(rt, alloc, &mut book, script)
+    plays_all(rt, alloc, &[FOUR, script])
 }
 
 const DELETED_SINCE: &str = "\

@@ -3,6 +3,7 @@
 ghost use Rattle.std.specs.Prelude.{◌≡◌};
 
 use crate::making::batch;
+use crate::values::{beside, where_done};
 use crate::wanted::is_text;
 use batch_texts::{placed, reply_text, trust_domain};
 use entry_book::{Batch, Op, OpReply, Outcome, Reply};
@@ -15,54 +16,92 @@ pub fn first_book(alloc: Global) -> Result<PlainBook, Fail> {
     Ok(PlainBook::new(alloc, trust_domain(alloc, "ex.org")?)?)
 }
 
+/// The book's place. Nothing is said of it.
+fn place_of(book: &PlainBook) -> u64 {
+    book.place()
+}
+
 /// The book's reply. A run that is refused memory has changed nothing, and is made again.
 fn run(book: &mut PlainBook, batch: &Batch) -> Result<Reply, Fail>
     requires { batch.now.domain ≡ book.old.domain }
 {
-    let found = book.place();
+    let found = place_of(book);
     match book.run(batch) {
         Ok(reply) => Ok(reply),
-        Err(_) if book.place() == found => Ok(book.run(batch)?),
+        Err(_) if place_of(book) == found => Ok(book.run(batch)?),
         Err(_) => Err(Fail::from("changed without memory")),
     }
 }
 
 /// The book's reply to a batch of its trust domain.
-pub fn reply_to(book: &mut PlainBook, batch: &Batch) -> Result<Reply, Fail> {
+fn reply_to(book: &mut PlainBook, batch: &Batch) -> Result<Reply, Fail> {
     if batch.domain() != book.domain() {
         return Err(Fail::from("another trust domain"));
     }
     run(book, batch)
 }
 
-/// The book's reply to a batch that only asks and isn't refused.
-pub fn answer_to(book: &mut PlainBook, batch: &Batch) -> Result<Reply, Fail> {
-    let reply = reply_to(book, batch)?;
-    match &reply.outcome {
-        Outcome::Answered(_) => Ok(reply),
-        _ => Err(Fail::from("a question isn't answered")),
+/// A batch, and what a book replied to it.
+#[derive(Drop)]
+pub struct Answer {
+    batch: Batch,
+    reply: Reply,
+}
+
+impl Answer {
+    /// The operations. Nothing is said of them.
+    pub fn ops(&self) -> &[Op] {
+        self.batch.shared_ops().get().as_slice()
+    }
+
+    pub fn outcome(&self) -> &Outcome {
+        &self.reply.outcome
+    }
+
+    /// The replies to the operations; none where the batch is refused.
+    pub fn replies(&self) -> &[OpReply] {
+        match &self.reply.outcome {
+            Outcome::Committed(replies) | Outcome::Answered(replies) | Outcome::Repeated(replies) =>
+                replies.get().as_slice(),
+            Outcome::Refused(_) => &[],
+        }
+    }
+
+    /// The reply, as text.
+    pub fn text(&self, alloc: Global) -> Result<String, Fail> {
+        Ok(reply_text(alloc, &self.reply)?)
+    }
+
+    /// The batch only asks, and isn't refused.
+    fn is_answered(&self) -> Result<(), Fail> {
+        match &self.reply.outcome {
+            Outcome::Answered(_) => Ok(()),
+            _ => Err(Fail::from("a question isn't answered")),
+        }
     }
 }
 
-/// The operations of a batch. Nothing is said of them, so that no caller's proof computes what makes a batch of them.
-pub fn ops_of(batch: &Batch) -> &[Op] {
-    batch.shared_ops().get().as_slice()
+/// Runs the batch that a text tells.
+pub fn answer_to(alloc: Global, book: &mut PlainBook, text: &str) -> Result<Answer, Fail> {
+    let batch = batch(alloc, text)?;
+    let reply = reply_to(book, &batch);
+    let (batch, reply) = beside(batch, reply)?;
+    Ok(Answer { batch, reply })
 }
 
-/// The replies to a batch; none to one that is refused.
-pub fn replies(reply: &Reply) -> &[OpReply] {
-    match &reply.outcome {
-        Outcome::Committed(replies) | Outcome::Answered(replies) | Outcome::Repeated(replies) =>
-            replies.get().as_slice(),
-        Outcome::Refused(_) => &[],
-    }
+/// Runs the batch that a text tells, which only asks and isn't refused.
+pub fn asked(alloc: Global, book: &mut PlainBook, text: &str) -> Result<Answer, Fail> {
+    let answer = answer_to(alloc, book, text)?;
+    let answered = answer.is_answered();
+    where_done(answered, answer)
 }
 
 /// What the book answers to the batch that a text tells, as text.
 pub fn told(alloc: Global, book: &mut PlainBook, text: &str) -> Result<String, Fail> {
-    let batch = batch(alloc, text)?;
-    let reply = reply_to(book, &batch)?;
-    Ok(reply_text(alloc, &reply)?)
+    let answer = answer_to(alloc, book, text)?;
+    let told = answer.text(alloc);
+    drop(answer);
+    told
 }
 
 /// The book answers the batch that a text tells so.
@@ -79,8 +118,8 @@ pub fn answers(
 }
 
 /// Prunes nothing until the book is at this place.
-fn goes_to(rt: &impl Abort, alloc: Global, book: &mut PlainBook, place: u64) -> Result<(), Fail> {
-    for found in book.place()..place {
+fn goes_to(rt: &impl Abort, alloc: Global, book: &mut PlainBook, place: &str) -> Result<(), Fail> {
+    for found in place_of(book)..place.parse::<u64>()? {
         let next = found.wrapping_add(1);
         let want = format!(in alloc; "committed at {next}; pruned")?;
         answers(rt, alloc, book, "prune 0", want.as_str())?;
@@ -95,6 +134,20 @@ fn is_at(rt: &impl Abort, alloc: Global, book: &PlainBook, want: &str) -> Result
     Ok(())
 }
 
+/// What `BOOK` asks for, or a batch, is answered so.
+fn plays_answer(
+    rt: &impl Abort,
+    alloc: Global,
+    book: &mut PlainBook,
+    text: &str,
+    want: &str,
+) -> Result<(), Fail> {
+    if text == "BOOK" {
+        return is_at(rt, alloc, book, want);
+    }
+    answers(rt, alloc, book, text, want)
+}
+
 fn plays_line(
     rt: &impl Abort,
     alloc: Global,
@@ -102,11 +155,10 @@ fn plays_line(
     line: &str,
 ) -> Result<(), Fail> {
     if let Some(place) = line.strip_prefix("UP TO ") {
-        return goes_to(rt, alloc, book, place.parse::<u64>()?);
+        return goes_to(rt, alloc, book, place);
     }
     match line.split_once(" => ") {
-        Some(("BOOK", want)) => is_at(rt, alloc, book, want),
-        Some((text, want)) => answers(rt, alloc, book, text, want),
+        Some((text, want)) => plays_answer(rt, alloc, book, text, want),
         None => Err(Fail::from("no such line")),
     }
 }
@@ -125,8 +177,27 @@ pub fn plays_on(
     Ok(())
 }
 
+fn plays_all_on(
+    rt: &impl Abort,
+    alloc: Global,
+    book: &mut PlainBook,
+    scripts: &[&str],
+) -> Result<(), Fail> {
+    for script in scripts {
+        plays_on(rt, alloc, book, script)?;
+    }
+    Ok(())
+}
+
+/// Plays scripts, one after another, from the empty book on.
+pub fn plays_all(rt: &impl Abort, alloc: Global, scripts: &[&str]) -> Result<(), Fail> {
+    let mut book = first_book(alloc)?;
+    let played = plays_all_on(rt, alloc, &mut book, scripts);
+    drop(book);
+    played
+}
+
 /// Plays a script, from the empty book on.
 pub fn plays(rt: &impl Abort, alloc: Global, script: &str) -> Result<(), Fail> {
-    let mut book = first_book(alloc)?;
-    plays_on(rt, alloc, &mut book, script)
+    plays_all(rt, alloc, &[script])
 }

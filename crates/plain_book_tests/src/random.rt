@@ -1,18 +1,15 @@
 //! Random batches of a few names: each book that comes out is lawful, each authorised answer is what a search for
 //! chains finds, and every code and kind of answer comes.
 
-use crate::making::batch;
-use crate::playing::{answer_to, first_book, ops_of, replies, reply_to};
+use crate::playing::{Answer, answer_to, asked, first_book};
 use crate::requests::{
     Past, Request, is_past_page, is_told_before, keep, past_of, random_request, text_of,
 };
 use crate::rows::{BookRows, are_children_listed, are_of, is_lawful, rows_of};
 use crate::search::{bit, does_name, ends, has_cycle, is_alias, listed, number_of};
+use crate::values::{beside, where_done};
 use crate::wanted::holds;
-use batch_texts::reply_text;
-use entry_book::{
-    Agent, Batch, Bundle, DropMode, Entry, NewEntry, Op, OpReply, Outcome, PageQuery, Reply,
-};
+use entry_book::{Agent, Bundle, DropMode, Entry, NewEntry, Op, OpReply, Outcome, PageQuery};
 use plain_book::PlainBook;
 use std::alloc::Global;
 use std::process::Abort;
@@ -86,53 +83,14 @@ fn note_change(came: &mut String, op: &Op, reply: &OpReply) -> Result<(), Fail> 
     }
 }
 
-/// A request that was run, at a place, with what it was answered.
-#[derive(Drop)]
-struct Answered {
-    place: u64,
-    request: Request,
-    batch: Batch,
-    reply: Reply,
-    told: String,
-}
-
-/// Runs a random request.
-fn run(
-    alloc: Global,
-    book: &mut PlainBook,
-    state: &mut u64,
-    past: &Past,
-) -> Result<Answered, Fail> {
-    let place = book.place();
-    let request = random_request(alloc, state, past, place)?;
-    let batch = batch(alloc, text_of(alloc, &request)?.as_str())?;
-    let reply = reply_to(book, &batch)?;
-    let told = reply_text(alloc, &reply)?;
-    Ok(Answered {
-        place,
-        request,
-        batch,
-        reply,
-        told,
-    })
-}
-
-/// Notes what became of a request.
-fn note_all(came: &mut String, answered: &Answered) -> Result<(), Fail> {
-    if let Some((head, _)) = answered.told.as_str().split_once(" at ") {
+/// Notes what became of a request, which was told so.
+fn note_all(came: &mut String, request: &Request, answer: &Answer, told: &str) -> Result<(), Fail> {
+    if let Some((head, _)) = told.split_once(" at ") {
         note(came, head, true)?;
     }
-    match &answered.reply.outcome {
-        Outcome::Committed(replies) => note_changes(
-            came,
-            ops_of(&answered.batch),
-            replies.get().as_slice(),
-        ),
-        Outcome::Answered(_) => note(
-            came,
-            "a page of an earlier book",
-            is_past_page(&answered.request),
-        ),
+    match answer.outcome() {
+        Outcome::Committed(_) => note_changes(came, answer.ops(), answer.replies()),
+        Outcome::Answered(_) => note(came, "a page of an earlier book", is_past_page(request)),
         _ => Ok(()),
     }
 }
@@ -252,9 +210,9 @@ fn is_made(op: &Op, reply: &OpReply) -> bool {
 }
 
 /// Is what the batch was answered right? The questions of a repeat are answered out of an earlier book.
-fn are_right(answered: &Answered, rows: &BookRows, past: &Past) -> bool {
-    let is_repeated = matches!(&answered.reply.outcome, Outcome::Repeated(_));
-    for (op, reply) in ops_of(&answered.batch).iter().zip(replies(&answered.reply)) {
+fn are_right(answer: &Answer, rows: &BookRows, past: &Past) -> bool {
+    let is_repeated = matches!(answer.outcome(), Outcome::Repeated(_));
+    for (op, reply) in answer.ops().iter().zip(answer.replies()) {
         if !is_made(op, reply) || !(is_repeated || is_found(op, reply, rows, past)) {
             return false;
         }
@@ -274,11 +232,10 @@ fn note_chains(came: &mut String, rows: &BookRows, ends: u64) -> Result<(), Fail
 }
 
 /// Asks what the agent is authorised for, and what it is to trust.
-fn questions(alloc: Global, agent: &Agent) -> Result<Batch, Fail> {
+fn questions(alloc: Global, agent: &Agent) -> Result<String, Fail> {
     let id = agent.id.get().as_str();
     let path = id.strip_prefix("spiffe://ex.org").unwrap_or(id);
-    let text = format!(in alloc; "authorised {path}; trust {path}")?;
-    batch(alloc, text.as_str())
+    Ok(format!(in alloc; "authorised {path}; trust {path}")?)
 }
 
 /// Are these the entries, and the bundles that they name?
@@ -309,9 +266,13 @@ fn is_told(
 ) -> Result<bool, Fail> {
     let ends = ends(rows, agent);
     note_chains(came, rows, ends)?;
-    let reply = answer_to(book, &questions(alloc, agent)?)?;
-    note(came, "a bundle told", is_trusting(replies(&reply)))?;
-    Ok(are_told_so(replies(&reply), rows, ends))
+    let questions = questions(alloc, agent)?;
+    let told = asked(alloc, book, questions.as_str())?;
+    let is_trusting = is_trusting(told.replies());
+    let is_told_so = are_told_so(told.replies(), rows, ends);
+    drop(told);
+    note(came, "a bundle told", is_trusting)?;
+    Ok(is_told_so)
 }
 
 /// Is the book that came out lawful, and are its agents told what a search finds?
@@ -332,22 +293,54 @@ fn judge(
     Ok(())
 }
 
-/// Judges what a request was answered, and the book that came out.
-fn judge_all(
+/// The rows of the book that came out, once they and what was told are judged.
+fn judged_rows(
     rt: &impl Abort,
     alloc: Global,
     book: &mut PlainBook,
-    answered: &Answered,
+    (answer, told): (&Answer, &str),
     past: &Past,
     came: &mut String,
 ) -> Result<BookRows, Fail> {
-    let told = answered.told.as_str();
-    let is_told = is_told_before(alloc, &answered.request, past, answered.place, told)?;
-    holds(rt, is_told, told);
     let rows = rows_of(alloc, book)?;
-    holds(rt, are_right(answered, &rows, past), told);
-    judge(rt, alloc, book, &rows, came)?;
-    Ok(rows)
+    holds(rt, are_right(answer, &rows, past), told);
+    let judged = judge(rt, alloc, book, &rows, came);
+    where_done(judged, rows)
+}
+
+/// Judges what a request was answered at a place: what it was told, and the rows of the book that came out.
+fn judged(
+    rt: &impl Abort,
+    alloc: Global,
+    book: &mut PlainBook,
+    (request, place): (&Request, u64),
+    answer: &Answer,
+    past: &Past,
+    came: &mut String,
+) -> Result<(String, BookRows), Fail> {
+    let told = answer.text(alloc)?;
+    note_all(came, request, answer, told.as_str())?;
+    let is_told = is_told_before(alloc, request, past, place, told.as_str())?;
+    holds(rt, is_told, told.as_str());
+    let rows = judged_rows(rt, alloc, book, (answer, told.as_str()), past, came);
+    beside(told, rows)
+}
+
+/// Runs a request, and judges what comes of it, as `judged` has it.
+fn run(
+    rt: &impl Abort,
+    alloc: Global,
+    book: &mut PlainBook,
+    request: &Request,
+    past: &Past,
+    came: &mut String,
+) -> Result<(String, BookRows), Fail> {
+    let place = book.place();
+    let text = text_of(alloc, request)?;
+    let answer = answer_to(alloc, book, text.as_str())?;
+    let judged = judged(rt, alloc, book, (request, place), &answer, past, came);
+    drop(answer);
+    judged
 }
 
 /// Runs a random request, and judges what comes of it.
@@ -359,22 +352,34 @@ fn round(
     past: &mut Past,
     came: &mut String,
 ) -> Result<(), Fail> {
-    let answered = run(alloc, book, state, past)?;
-    note_all(came, &answered)?;
-    let rows = judge_all(rt, alloc, book, &answered, past, came)?;
-    let Answered { request, told, .. } = answered;
+    let request = random_request(alloc, state, past, book.place())?;
+    let ran = run(rt, alloc, book, &request, past, came);
+    let (request, (told, rows)) = beside(request, ran)?;
     keep(past, request, told, rows)
 }
 
-/// Runs random requests, one after another, and tells what came.
-fn rounds(rt: &impl Abort, alloc: Global, book: &mut PlainBook) -> Result<String, Fail> {
+/// Runs random requests, one after another.
+fn rounds(
+    rt: &impl Abort,
+    alloc: Global,
+    book: &mut PlainBook,
+    past: &mut Past,
+    came: &mut String,
+) -> Result<(), Fail> {
     let mut state = 7;
+    for _ in 0..1500 {
+        round(rt, alloc, book, &mut state, past, came)?;
+    }
+    Ok(())
+}
+
+/// What came of random requests to the first book.
+fn all_rounds(rt: &impl Abort, alloc: Global, book: &mut PlainBook) -> Result<String, Fail> {
     let mut came = String::new(alloc);
     let mut past = past_of(alloc, rows_of(alloc, book)?)?;
-    for _ in 0..1500 {
-        round(rt, alloc, book, &mut state, &mut past, &mut came)?;
-    }
-    Ok(came)
+    let done = rounds(rt, alloc, book, &mut past, &mut came);
+    drop(past);
+    where_done(done, came)
 }
 
 /// Everything came that has to come.
@@ -389,7 +394,8 @@ fn random_requests_keep_the_book_lawful_and_are_told_what_a_search_finds(
     rt: HostRuntime,
 ) -> Result<(), Fail> {
     let mut book = first_book(rt.alloc())?;
-    let came = rounds(&rt, rt.alloc(), &mut book)?;
-    all_came(&rt, came.as_str());
+    let came = all_rounds(&rt, rt.alloc(), &mut book);
+    drop(book);
+    all_came(&rt, came?.as_str());
     Ok(())
 }

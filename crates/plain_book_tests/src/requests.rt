@@ -3,6 +3,7 @@
 
 use crate::draws::drawn;
 use crate::rows::BookRows;
+use crate::values::{add, one};
 use batch_texts::below;
 use std::alloc::Global;
 use std::test::Fail;
@@ -74,8 +75,7 @@ pub struct Past {
 
 /// The past of the first book, which has these rows.
 pub fn past_of(alloc: Global, rows: BookRows) -> Result<Past, Fail> {
-    let mut books = Vec::new(alloc);
-    books.push(rows)?;
+    let books = one(alloc, rows)?;
     let kept = Vec::new(alloc);
     Ok(Past { books, kept })
 }
@@ -166,7 +166,7 @@ pub fn random_request(
 fn keep_answer(past: &mut Past, request: Request, told: String) -> Result<(), Fail> {
     let Request { token, ops, .. } = request;
     if let Some(token) = token {
-        past.kept.push(Kept { token, ops, told })?;
+        return add(&mut past.kept, Kept { token, ops, told });
     }
     Ok(())
 }
@@ -174,9 +174,10 @@ fn keep_answer(past: &mut Past, request: Request, told: String) -> Result<(), Fa
 /// Where the request is committed now: keeps the rows after it, and what it was answered.
 pub fn keep(past: &mut Past, request: Request, told: String, rows: BookRows) -> Result<(), Fail> {
     if !told.as_str().starts_with("committed") {
+        drop(rows);
         return Ok(());
     }
-    past.books.push(rows)?;
+    add(&mut past.books, rows)?;
     keep_answer(past, request, told)
 }
 

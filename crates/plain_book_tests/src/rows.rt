@@ -1,8 +1,8 @@
 //! All rows of a small book, and whether they are lawful.
 
-use crate::making::batch;
-use crate::playing::{answer_to, ops_of, replies};
+use crate::playing::{Answer, asked};
 use crate::search::{bit, does_name, number_of};
+use crate::values::{add_copy, where_done};
 use entry_book::{Agent, Bundle, Entry, Op, OpReply};
 use plain_book::PlainBook;
 use std::alloc::Global;
@@ -53,12 +53,11 @@ fn keep(rows: &mut BookRows, op: &Op, reply: &OpReply) -> Result<(), Fail> {
         return Err(Fail::from("a row of another key"));
     }
     match reply {
-        OpReply::EntryShown(Some(entry)) => rows.entries.push(entry.clone()?)?,
-        OpReply::AgentShown(Some(agent)) => rows.agents.push(agent.clone()?)?,
-        OpReply::BundleShown(Some(bundle)) => rows.bundles.push(bundle.clone()?)?,
-        _ => {}
+        OpReply::EntryShown(Some(entry)) => add_copy(&mut rows.entries, entry),
+        OpReply::AgentShown(Some(agent)) => add_copy(&mut rows.agents, agent),
+        OpReply::BundleShown(Some(bundle)) => add_copy(&mut rows.bundles, bundle),
+        _ => Ok(()),
     }
-    Ok(())
 }
 
 fn keep_all(rows: &mut BookRows, ops: &[Op], replies: &[OpReply]) -> Result<(), Fail> {
@@ -68,13 +67,19 @@ fn keep_all(rows: &mut BookRows, ops: &[Op], replies: &[OpReply]) -> Result<(), 
     Ok(())
 }
 
+/// The rows that are shown, each of its key.
+fn shown_rows(alloc: Global, shown: &Answer) -> Result<BookRows, Fail> {
+    let mut rows = empty(alloc);
+    let kept = keep_all(&mut rows, shown.ops(), shown.replies());
+    where_done(kept, rows)
+}
+
 /// The rows, each asked for by its key, and each of its key.
 pub fn rows_of(alloc: Global, book: &mut PlainBook) -> Result<BookRows, Fail> {
-    let keys = batch(alloc, KEYS)?;
-    let reply = answer_to(book, &keys)?;
-    let mut rows = empty(alloc);
-    keep_all(&mut rows, ops_of(&keys), replies(&reply))?;
-    Ok(rows)
+    let shown = asked(alloc, book, KEYS)?;
+    let rows = shown_rows(alloc, &shown);
+    drop(shown);
+    rows
 }
 
 /// The bits of the entries; none where they aren't in order, each once.
@@ -133,9 +138,10 @@ pub fn are_children_listed(
     book: &mut PlainBook,
     rows: &BookRows,
 ) -> Result<bool, Fail> {
-    let parents = batch(alloc, CHILDREN)?;
-    let reply = answer_to(book, &parents)?;
-    match bits_of_all_children(ops_of(&parents), replies(&reply)) {
+    let listed = asked(alloc, book, CHILDREN)?;
+    let bits = bits_of_all_children(listed.ops(), listed.replies());
+    drop(listed);
+    match bits {
         Some(all) => Ok(are_of(&rows.entries, all)),
         None => Ok(false),
     }
