@@ -6,7 +6,7 @@
 //! - `random`: long histories of random operations, which `draws` draws, beside plain lists of their rows, which `listed` has.
 //! - `running`: the version after a batch, whose writes a work of `batch_work` finds.
 //! - `marks`: marks, made of words; `rows`: rows, told as lines.
-//! - `wanted`: what a test wants to see.
+//! - `values`: values of any type; `wanted`: what a test wants to see.
 #![tactic(auto)]
 
 #[cfg(test)]
@@ -23,6 +23,8 @@ mod random;
 mod rows;
 #[cfg(test)]
 mod running;
+#[cfg(test)]
+mod values;
 #[cfg(test)]
 mod wanted;
 #[cfg(test)]

@@ -3,10 +3,11 @@
 use crate::marks::mark_of;
 use crate::rows::{add_agents, add_bundles, add_entries, add_tokens, add_writes, read_text};
 use crate::running::{ended, next_of};
+use crate::values::{add_some, beside, one, where_done};
 use crate::wanted::{holds, is_text};
 use batch_texts::{Failed, batch, number, trust_domain, word, words};
 use batch_work::{Status, Work};
-use std::alloc::Global;
+use std::alloc::{AllocError, Global};
 use std::process::Abort;
 use std::test::Fail;
 use version_book::{Changes, Mark, RowCounts, Version};
@@ -23,14 +24,13 @@ pub struct Step {
 /// The first version, alone.
 pub fn first_step(alloc: Global) -> Result<Vec<Step>, Fail> {
     let version = Version::empty(alloc, trust_domain(alloc, "ex.org")?)?;
-    let mut steps = Vec::new(alloc);
-    steps.push(Step {
+    let step = Step {
         batch: String::new(alloc),
         writes: String::new(alloc),
         changes: Changes::new(alloc),
         version,
-    })?;
-    Ok(steps)
+    };
+    one(alloc, step)
 }
 
 /// The writes of a work that is ready, for a place, told as text.
@@ -48,7 +48,7 @@ fn step_of(alloc: Global, work: &Work, text: &str, number: u64) -> Result<Option
     let batch = String::from_str(alloc, text)?;
     let writes = writes_text(alloc, work, number)?;
     let changes = work.changes().clone()?;
-    let version = next_of(work)?;
+    let (changes, version) = beside(changes, next_of(work))?;
     Ok(Some(Step {
         batch,
         writes,
@@ -71,13 +71,8 @@ pub fn go_on(alloc: Global, steps: &mut Vec<Step>, text: &str) -> Result<bool, F
     let Some(last) = steps.last() else {
         return Ok(false);
     };
-    match play(alloc, &last.version, text, number)? {
-        Some(next) => {
-            steps.push(next)?;
-            Ok(true)
-        }
-        None => Ok(false),
-    }
+    let next = play(alloc, &last.version, text, number)?;
+    add_some(steps, next)
 }
 
 /// Adds the rows of a reading, in short.
@@ -104,17 +99,23 @@ fn add_own_entries(
     mark: &Mark,
 ) -> Result<(), Failed> {
     let entries = version.read(mark)?.into_entries();
-    add_entries(alloc, text, &entries)
+    let added = add_entries(alloc, text, &entries);
+    drop(entries);
+    added
 }
 
 fn add_own_agents(text: &mut String, version: &Version, mark: &Mark) -> Result<(), Failed> {
     let agents = version.read(mark)?.into_agents();
-    add_agents(text, &agents)
+    let added = add_agents(text, &agents);
+    drop(agents);
+    added
 }
 
 fn add_own_bundles(text: &mut String, version: &Version, mark: &Mark) -> Result<(), Failed> {
     let bundles = version.read(mark)?.into_bundles();
-    add_bundles(text, &bundles)
+    let added = add_bundles(text, &bundles);
+    drop(bundles);
+    added
 }
 
 fn add_own_tokens(
@@ -124,7 +125,9 @@ fn add_own_tokens(
     mark: &Mark,
 ) -> Result<(), Failed> {
     let tokens = version.read(mark)?.into_tokens();
-    add_tokens(alloc, text, &tokens, u64::MAX)
+    let added = add_tokens(alloc, text, &tokens, u64::MAX);
+    drop(tokens);
+    added
 }
 
 /// Adds what a version reads at a mark, by rows that are handed over.
@@ -135,23 +138,52 @@ fn add_own(alloc: Global, text: &mut String, version: &Version, mark: &Mark) -> 
     add_own_tokens(alloc, text, version, mark)
 }
 
+/// Does the mark name what the other one names, by the clone of that?
+fn names_same(mark: &Mark, other: &Mark) -> Result<bool, AllocError> {
+    let kind = mark.kind().clone()?;
+    let is_same = kind == *other.kind();
+    drop(kind);
+    Ok(is_same)
+}
+
+/// The mark's clone names the same.
+fn is_cloned(copy: &Mark, mark: &Mark) -> Result<(), Fail> {
+    if names_same(copy, mark)? {
+        return Ok(());
+    }
+    Err(Fail::from("a clone that names something else"))
+}
+
 /// The mark's clone, which has to name the same, as has the clone of what it names.
 fn same_mark(mark: &Mark) -> Result<Mark, Fail> {
     let copy = mark.clone()?;
-    if copy.kind().clone()? != *mark.kind() {
-        return Err(Fail::from("a clone that names something else"));
-    }
-    Ok(copy)
+    let cloned = is_cloned(&copy, mark);
+    where_done(cloned, copy)
 }
 
-/// What the version's clone reads at the mark's clone.
-fn told_by_clone(alloc: Global, version: &Version, mark: &Mark) -> Result<String, Failed> {
-    let copy = version.clone()?;
+/// What a version reads at a mark, by rows that are handed over.
+fn told_own(alloc: Global, version: &Version, mark: &Mark) -> Result<String, Failed> {
     let mut rows = String::new(alloc);
-    add_own(alloc, &mut rows, &copy, mark)?;
+    add_own(alloc, &mut rows, version, mark)?;
     let mut text = String::new(alloc);
     add_short(&mut text, rows.as_str())?;
     Ok(text)
+}
+
+/// What the version's clone reads at a mark.
+fn told_by_clone(alloc: Global, version: &Version, mark: &Mark) -> Result<String, Failed> {
+    let copy = version.clone()?;
+    let told = told_own(alloc, &copy, mark);
+    drop(copy);
+    told
+}
+
+/// What the version's clone reads at the mark's clone.
+fn told_by_clones(alloc: Global, version: &Version, mark: &Mark) -> Result<String, Fail> {
+    let copy = same_mark(mark)?;
+    let told = told_by_clone(alloc, version, &copy);
+    drop(copy);
+    Ok(told?)
 }
 
 /// The number of a version. Nothing is said of it, so that no proof of a text looks at the version's rows.
@@ -194,7 +226,7 @@ fn answer_at(alloc: Global, steps: &[Step], words: &[&str], mark: &Mark) -> Resu
     match word(words, 0) {
         "COUNT" => Ok(told_count(alloc, &step.version)?),
         "READS" => Ok(told(alloc, &step.version, mark)?),
-        "CLONE" => Ok(told_by_clone(alloc, &step.version, &same_mark(mark)?)?),
+        "CLONE" => told_by_clones(alloc, &step.version, mark),
         _ => {
             let older = steps.get(number(words, 2)? as usize);
             told_same(alloc, &step.version, older, mark)
@@ -206,9 +238,11 @@ fn answer_at(alloc: Global, steps: &[Step], words: &[&str], mark: &Mark) -> Resu
 /// or, of a newer and an older one, `SAME 2 1: children /a`.
 fn answer(alloc: Global, steps: &[Step], question: &str) -> Result<String, Fail> {
     let (head, line) = question.split_once(": ").unwrap_or((question, "all"));
-    let mark = mark_of(alloc, line)?;
     let words = words(alloc, head)?;
-    answer_at(alloc, steps, words.as_slice(), &mark)
+    let mark = mark_of(alloc, line)?;
+    let told = answer_at(alloc, steps, words.as_slice(), &mark);
+    drop(mark);
+    told
 }
 
 /// Plays a line of a table.
@@ -228,12 +262,23 @@ fn plays_line(
     Ok(())
 }
 
+fn plays_lines(
+    rt: &impl Abort,
+    alloc: Global,
+    steps: &mut Vec<Step>,
+    table: &str,
+) -> Result<(), Fail> {
+    for line in table.lines() {
+        plays_line(rt, alloc, steps, line)?;
+    }
+    Ok(())
+}
+
 /// Plays a table: a question and its answer stand in a line with `=>` between them; each other line that isn't empty
 /// tells the batch that leads to the next version.
 pub fn plays(rt: &impl Abort, alloc: Global, table: &str) -> Result<(), Fail> {
     let mut steps = first_step(alloc)?;
-    for line in table.lines() {
-        plays_line(rt, alloc, &mut steps, line)?;
-    }
-    Ok(())
+    let played = plays_lines(rt, alloc, &mut steps, table);
+    drop(steps);
+    played
 }

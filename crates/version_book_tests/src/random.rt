@@ -5,6 +5,7 @@ use crate::listed::{Listed, own_mark, told};
 use crate::marks::mark_of;
 use crate::playing::{Step, first_step, go_on, number_of};
 use crate::rows::{read_text, read_up_to, through_text};
+use crate::values::{add, beside, where_done};
 use crate::wanted::{holds, is_text};
 use batch_texts::{number, word, words};
 use std::alloc::{AllocError, Global};
@@ -68,26 +69,42 @@ fn named_mark(alloc: Global, line: &str) -> Result<NamedMark, Fail> {
     Ok(NamedMark { name, mark })
 }
 
-fn all_marks(alloc: Global) -> Result<Vec<NamedMark>, Fail> {
-    let mut marks = Vec::new(alloc);
+fn add_named_marks(alloc: Global, marks: &mut Vec<NamedMark>) -> Result<(), Fail> {
     for line in MARKS.lines() {
-        marks.push(named_mark(alloc, line)?)?;
+        add(marks, named_mark(alloc, line)?)?;
     }
-    Ok(marks)
+    Ok(())
 }
 
-/// A history of so many versions after the first.
-fn history(alloc: Global, seed: u64, count: usize) -> Result<Vec<Step>, Fail> {
+fn all_marks(alloc: Global) -> Result<Vec<NamedMark>, Fail> {
+    let mut marks = Vec::new(alloc);
+    let added = add_named_marks(alloc, &mut marks);
+    where_done(added, marks)
+}
+
+/// Goes on by random batches to so many versions after the first.
+fn go_on_to(alloc: Global, steps: &mut Vec<Step>, seed: u64, count: usize) -> Result<(), Fail> {
     let mut state = seed;
-    let mut steps = first_step(alloc)?;
     for _ in 0..100_000 {
         if steps.len() > count {
             break;
         }
         let text = batch_text(alloc, &mut state)?;
-        go_on(alloc, &mut steps, text.as_str())?;
+        go_on(alloc, steps, text.as_str())?;
     }
-    Ok(steps)
+    Ok(())
+}
+
+fn versions(alloc: Global, seed: u64, count: usize) -> Result<Vec<Step>, Fail> {
+    let mut steps = first_step(alloc)?;
+    let gone_on = go_on_to(alloc, &mut steps, seed, count);
+    where_done(gone_on, steps)
+}
+
+/// A history of so many versions after the first, and all marks.
+fn history(alloc: Global, seed: u64, count: usize) -> Result<(Vec<Step>, Vec<NamedMark>), Fail> {
+    let steps = versions(alloc, seed, count)?;
+    beside(steps, all_marks(alloc))
 }
 
 /// Which operations have to come as a batch of their own, and how many rows one of these has to write at least.
@@ -175,8 +192,9 @@ fn reads_named(
 /// The version reads a row, and it alone, at the mark of its own.
 fn reads_row(rt: &impl Abort, alloc: Global, version: &Version, row: &str) -> Result<(), Fail> {
     let mark = mark_of(alloc, own_mark(row))?;
-    let got = read_text(alloc, version, &mark)?;
-    is_text(rt, got.as_str().trim_end(), told(row), row);
+    let got = read_text(alloc, version, &mark);
+    drop(mark);
+    is_text(rt, got?.as_str().trim_end(), told(row), row);
     Ok(())
 }
 
@@ -221,12 +239,12 @@ fn are_as_listed(
     rt: &impl Abort,
     alloc: Global,
     steps: &[Step],
+    listed: &mut Listed,
     marks: &[NamedMark],
 ) -> Result<(), Fail> {
-    let mut listed = Listed::empty(alloc);
     for step in steps {
         listed.apply(alloc, step.writes.as_str())?;
-        is_as_listed(rt, alloc, &step.version, &listed, marks)?;
+        is_as_listed(rt, alloc, &step.version, listed, marks)?;
     }
     Ok(())
 }
@@ -241,18 +259,29 @@ fn is_some_long(steps: &[Step]) -> bool {
     false
 }
 
+/// All came that has to come, and each version reads at each mark what the lists have.
+fn all_as_listed(
+    rt: &impl Abort,
+    alloc: Global,
+    steps: &[Step],
+    marks: &[NamedMark],
+) -> Result<(), Fail> {
+    holds(rt, steps.len() == 1001, "the count of versions");
+    holds(rt, is_some_long(steps), "a batch of more than three writes");
+    every_operation_came(rt, alloc, steps)?;
+    let mut listed = Listed::empty(alloc);
+    let compared = are_as_listed(rt, alloc, steps, &mut listed, marks);
+    drop(listed);
+    compared
+}
+
 #[test]
 fn each_mark_reads_what_the_lists_have(rt: HostRuntime) -> Result<(), Fail> {
-    let marks = all_marks(rt.alloc())?;
-    let steps = history(rt.alloc(), 7, 1000)?;
-    holds(&rt, steps.len() == 1001, "the count of versions");
-    every_operation_came(&rt, rt.alloc(), &steps)?;
-    holds(
-        &rt,
-        is_some_long(&steps),
-        "a batch of more than three writes",
-    );
-    are_as_listed(&rt, rt.alloc(), &steps, &marks)
+    let (steps, marks) = history(rt.alloc(), 7, 1000)?;
+    let compared = all_as_listed(&rt, rt.alloc(), &steps, &marks);
+    drop(steps);
+    drop(marks);
+    compared
 }
 
 /// What has to come of a mark between two versions.
@@ -341,23 +370,39 @@ fn compare_all(
     Ok(seen)
 }
 
-#[test]
-fn a_mark_is_unchanged_where_no_write_hits_it(rt: HostRuntime) -> Result<(), Fail> {
-    let marks = all_marks(rt.alloc())?;
-    let steps = history(rt.alloc(), 13, 300)?;
-    every_operation_came(&rt, rt.alloc(), &steps)?;
-    let seen = compare_all(&rt, rt.alloc(), &steps, &marks)?;
+/// Each outcome comes where all versions are compared.
+fn all_outcomes_come(
+    rt: &impl Abort,
+    alloc: Global,
+    steps: &[Step],
+    marks: &[NamedMark],
+) -> Result<(), Fail> {
+    every_operation_came(rt, alloc, steps)?;
+    let seen = compare_all(rt, alloc, steps, marks)?;
     for outcome in OUTCOMES.lines() {
-        holds(&rt, seen.contains(outcome), outcome);
+        holds(rt, seen.contains(outcome), outcome);
     }
     Ok(())
+}
+
+#[test]
+fn a_mark_is_unchanged_where_no_write_hits_it(rt: HostRuntime) -> Result<(), Fail> {
+    let (steps, marks) = history(rt.alloc(), 13, 300)?;
+    let compared = all_outcomes_come(&rt, rt.alloc(), &steps, &marks);
+    drop(steps);
+    drop(marks);
+    compared
+}
+
+fn append_copy(changes: &mut Changes, more: &Changes) -> Result<(), AllocError> {
+    changes.append(more.clone()?)
 }
 
 /// The writes of two versions, one after the other.
 fn both(middle: &Changes, newer: &Changes) -> Result<Changes, AllocError> {
     let mut changes = middle.clone()?;
-    changes.append(newer.clone()?)?;
-    Ok(changes)
+    let appended = append_copy(&mut changes, newer);
+    where_done(appended, changes)
 }
 
 /// A mark reads through writes what it reads of a newer version, but that places of that time are open, which reads as 0.
@@ -406,7 +451,9 @@ fn hits(
         return Err(Fail::from("no three versions"));
     };
     let changes = both(&middle.changes, &newer.changes)?;
-    hits_of(rt, alloc, (older, middle, newer), &changes, marks)
+    let hits = hits_of(rt, alloc, (older, middle, newer), &changes, marks);
+    drop(changes);
+    hits
 }
 
 /// Each mark reads through the writes of each two versions, of which some hit marks, and some don't hit all.
@@ -428,7 +475,9 @@ fn all_read_through(
 
 #[test]
 fn each_mark_reads_through_writes_what_it_reads_after_them(rt: HostRuntime) -> Result<(), Fail> {
-    let marks = all_marks(rt.alloc())?;
-    let steps = history(rt.alloc(), 5, 100)?;
-    all_read_through(&rt, rt.alloc(), &steps, &marks)
+    let (steps, marks) = history(rt.alloc(), 5, 100)?;
+    let read = all_read_through(&rt, rt.alloc(), &steps, &marks);
+    drop(steps);
+    drop(marks);
+    read
 }

@@ -139,7 +139,10 @@ pub fn read_up_to(
     mark: &Mark,
     last: u64,
 ) -> Result<String, Failed> {
-    reading_text(alloc, &version.read(mark)?, last)
+    let reading = version.read(mark)?;
+    let text = reading_text(alloc, &reading, last);
+    drop(reading);
+    text
 }
 
 /// What a version reads at a mark.
@@ -154,7 +157,10 @@ pub fn through_text(
     mark: &Mark,
     changes: &Changes,
 ) -> Result<String, Failed> {
-    reading_text(alloc, &version.read_after(mark, changes)?, u64::MAX)
+    let reading = version.read_after(mark, changes)?;
+    let text = reading_text(alloc, &reading, u64::MAX);
+    drop(reading);
+    text
 }
 
 /// Adds the marks of the domains that an entry names.

@@ -10,6 +10,7 @@ ghost use Rattle.version_book.specs.Written.{placed};
 ghost use Rattle.batch_work.specs.declared.status.Status.TheVariants as status;
 ghost use Rattle.batch_work.specs.Working.{IsAccepted, MayBegin, status_of};
 
+use crate::values::{beside, where_done};
 use batch_work::{Status, Window, Work};
 use entry_book::Batch;
 use std::alloc::{AllocError, Global};
@@ -29,20 +30,24 @@ fn may_begin(window: &Window, batch: &Batch) -> bool
     batch.domain() == window.newest().domain() && window.newest().number() <= MOST
 }
 
-/// A work of the batch, that has begun on the version.
-fn begun(alloc: Global, version: &Version, batch: Batch) -> Result<Work, Fail> {
-    let window = Window::of(version.clone()?);
-    if !may_begin(&window, &batch) {
+/// A work of the batch, that has begun on the window.
+fn begun_on(alloc: Global, window: &Window, batch: Batch) -> Result<Work, Fail> {
+    if !may_begin(window, &batch) {
+        drop(batch);
         return Err(Fail::from("no version for this batch"));
     }
     let mut work = Work::new(alloc, batch);
-    match work.begin(&window) {
-        Ok(()) => Ok(work),
-        Err(AllocError) => {
-            drop(work);
-            Err(Fail::from(AllocError))
-        }
-    }
+    let begun = work.begin(window);
+    Ok(where_done(begun, work)?)
+}
+
+/// A work of the batch, that has begun on the version.
+fn begun(alloc: Global, version: &Version, batch: Batch) -> Result<Work, Fail> {
+    let (batch, copy) = beside(batch, version.clone())?;
+    let window = Window::of(copy);
+    let work = begun_on(alloc, &window, batch);
+    drop(window);
+    work
 }
 
 fn run_to_end(work: &mut Work) -> Result<(), AllocError> {
@@ -58,20 +63,17 @@ fn run_to_end(work: &mut Work) -> Result<(), AllocError> {
 /// The work of the batch on the version, at its end.
 pub fn ended(alloc: Global, version: &Version, batch: Batch) -> Result<Work, Fail> {
     let mut work = begun(alloc, version, batch)?;
-    match run_to_end(&mut work) {
-        Ok(()) => Ok(work),
-        Err(AllocError) => {
-            drop(work);
-            Err(Fail::from(AllocError))
-        }
-    }
+    let ended = run_to_end(&mut work);
+    Ok(where_done(ended, work)?)
 }
 
 fn has_token(version: &Version, token: Uuid) -> Result<bool, AllocError>
     ensures { IfOk result (λ has. has ≡ false → token_at token (book_of version.now.rows) ≡ None) }
 {
     let reading = version.read(&Mark::token(token))?;
-    Ok(!reading.tokens().is_empty())
+    let has_none = reading.tokens().is_empty();
+    drop(reading);
+    Ok(!has_none)
 }
 
 /// Is something kept under the token, where there is one?
