@@ -203,6 +203,12 @@ fn told_count(alloc: Global, version: &Version) -> Result<String, Failed> {
     Ok(format!(in alloc; " {entries} {agents} {bundles} {tokens} at {number}")?)
 }
 
+/// The ID of a version's server.
+fn told_server(alloc: Global, version: &Version) -> Result<String, AllocError> {
+    let server = version.server().get().as_str();
+    format!(in alloc; " {server}")
+}
+
 /// Is the mark unchanged since the older version?
 fn told_same(
     alloc: Global,
@@ -225,6 +231,7 @@ fn answer_at(alloc: Global, steps: &[Step], words: &[&str], mark: &Mark) -> Resu
     };
     match word(words, 0) {
         "COUNT" => Ok(told_count(alloc, &step.version)?),
+        "SERVER" => Ok(told_server(alloc, &step.version)?),
         "READS" => Ok(told(alloc, &step.version, mark)?),
         "CLONE" => told_by_clones(alloc, &step.version, mark),
         _ => {
@@ -234,7 +241,7 @@ fn answer_at(alloc: Global, steps: &[Step], words: &[&str], mark: &Mark) -> Resu
     }
 }
 
-/// The answer of a version to a question: `COUNT 2`, `READS 2: children /a`, the same of its clone, `CLONE 2: children /a`,
+/// The answer of a version to a question: `COUNT 2`, `SERVER 2`, `READS 2: children /a`, the same of its clone, `CLONE 2: children /a`,
 /// or, of a newer and an older one, `SAME 2 1: children /a`.
 fn answer(alloc: Global, steps: &[Step], question: &str) -> Result<String, Fail> {
     let (head, line) = question.split_once(": ").unwrap_or((question, "all"));

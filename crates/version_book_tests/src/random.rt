@@ -4,7 +4,7 @@ use crate::draws::batch_text;
 use crate::listed::{Listed, own_mark, told};
 use crate::marks::mark_of;
 use crate::playing::{Step, first_step, go_on, number_of};
-use crate::rows::{read_text, read_up_to, through_text};
+use crate::rows::{asked_text, read_text, read_up_to, through_text};
 use crate::values::{add, beside, where_done};
 use crate::wanted::{holds, is_text};
 use batch_texts::{number, word, words};
@@ -161,7 +161,7 @@ fn every_operation_came(rt: &impl Abort, alloc: Global, steps: &[Step]) -> Resul
     Ok(())
 }
 
-/// The version reads these rows at the mark.
+/// The version reads these rows at the mark, and answers them where it is asked for them by name.
 fn reads(
     rt: &impl Abort,
     alloc: Global,
@@ -171,6 +171,8 @@ fn reads(
 ) -> Result<(), Fail> {
     let got = read_text(alloc, version, mark)?;
     is_text(rt, got.as_str(), want, at);
+    let asked = asked_text(alloc, version, mark)?;
+    is_text(rt, asked.as_str(), want, at);
     Ok(())
 }
 

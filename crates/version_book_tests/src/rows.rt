@@ -3,11 +3,11 @@
 //! stand the marks that name the row, between bars, the first of which names it alone.
 
 use batch_texts::{Failed, of_number};
-use entry_book::{Agent, Bundle, Entry, KeptBatch};
+use entry_book::{Agent, Bundle, Entry, Filter, KeptBatch, PageQuery, Shared};
 use spiffe_name::{SelectorSet, SpiffeId};
 use std::alloc::Global;
 use uuid::Uuid;
-use version_book::{Changes, Mark, RowWrite, RowsRead, TokenWrite, Version};
+use version_book::{Changes, Mark, MarkKind, RowWrite, RowsRead, TokenWrite, Version};
 
 /// The moments of random batches, in order, as marks.
 const MOMENTS: &str = "|expiring 1|expiring 2|expiring 3|expiring 4|";
@@ -148,6 +148,90 @@ pub fn read_up_to(
 /// What a version reads at a mark.
 pub fn read_text(alloc: Global, version: &Version, mark: &Mark) -> Result<String, Failed> {
     read_up_to(alloc, version, mark, u64::MAX)
+}
+
+fn add_children(
+    alloc: Global,
+    text: &mut String,
+    version: &Version,
+    parent: &Shared<SpiffeId>,
+) -> Result<(), Failed> {
+    let entries = version.children(parent)?;
+    let added = add_entries(alloc, text, &entries);
+    drop(entries);
+    added
+}
+
+/// Adds the entries of the page that begins behind this id, and answers the id behind which the next one does.
+fn add_page(
+    alloc: Global,
+    text: &mut String,
+    version: &Version,
+    query: &PageQuery,
+) -> Result<Option<Uuid>, Failed> {
+    let (entries, next) = version.page(query)?;
+    let added = add_entries(alloc, text, &entries);
+    drop(entries);
+    added?;
+    Ok(next)
+}
+
+/// Adds all entries, by pages of two.
+fn add_pages(alloc: Global, text: &mut String, version: &Version) -> Result<(), Failed> {
+    let mut query = PageQuery {
+        size: 2,
+        from: None,
+        at: None,
+        filter: Filter {
+            parent: None,
+            identity: None,
+            domain: None,
+            selectors: None,
+        },
+    };
+    for _ in 0..1_000 {
+        query.from = add_page(alloc, text, version, &query)?;
+        if query.from.is_none() {
+            break;
+        }
+    }
+    Ok(())
+}
+
+/// Adds what a version answers that is asked by name for what a mark names; where it can't be asked so, what it reads.
+fn add_asked(
+    alloc: Global,
+    text: &mut String,
+    version: &Version,
+    mark: &Mark,
+) -> Result<(), Failed> {
+    match mark.kind() {
+        MarkKind::Entry(id) => match version.entry(id) {
+            Some(entry) => add_entry(alloc, text, entry),
+            None => Ok(()),
+        },
+        MarkKind::Agent(id) => match version.agent(id) {
+            Some(agent) => add_agent(text, agent),
+            None => Ok(()),
+        },
+        MarkKind::Bundle(domain) => match version.bundle(domain) {
+            Some(bundle) => add_bundle(text, bundle),
+            None => Ok(()),
+        },
+        MarkKind::Children(parent) => add_children(alloc, text, version, parent),
+        MarkKind::All => add_pages(alloc, text, version),
+        MarkKind::Group(_, _) | MarkKind::Users(_) | MarkKind::Expiring(_) | MarkKind::Token(_) => {
+            let read = read_text(alloc, version, mark)?;
+            Ok(text.push_str(read.as_str())?)
+        }
+    }
+}
+
+/// What a version answers that is asked by name for what a mark names.
+pub fn asked_text(alloc: Global, version: &Version, mark: &Mark) -> Result<String, Failed> {
+    let mut text = String::new(alloc);
+    add_asked(alloc, &mut text, version, mark)?;
+    Ok(text)
 }
 
 /// What a version reads at a mark through writes.

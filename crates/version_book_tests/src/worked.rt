@@ -42,6 +42,8 @@ READS 3: expiring 6 => 1.0
 READS 2: entry 1 =>
 COUNT 2 => 0 0 2 0 at 2
 COUNT 0 => 0 0 0 0 at 0
+SERVER 0 => spiffe://ex.org/spire/server
+SERVER 6 => spiffe://ex.org/spire/server
 ";
 
 /// Two domains, an expiry of 0, the moment itself, children in the order of their ids, neighbouring parents.
