@@ -1,7 +1,7 @@
 //! A batch is run alike on two books that differ outside of what it reads.
 
 use crate::details::run_text;
-use crate::playing::first_window;
+use crate::playing::{first_window, newest_number};
 use crate::running::{commits, ended};
 use crate::wanted::{holds, is_text};
 use batch_texts::batch_text;
@@ -56,7 +56,7 @@ fn commits_elsewhere(
     other: &str,
 ) -> Result<bool, Fail> {
     let other = ended(alloc, window, other)?;
-    let is_spared = is_spared(work, &other, window.newest().number());
+    let is_spared = is_spared(work, &other, newest_number(window));
     let is_ready = commits(window, &other);
     drop(other);
     Ok(is_ready? && is_spared)
@@ -120,7 +120,7 @@ fn random_pair(
     state: &mut u64,
     pairs: &mut Pairs,
 ) -> Result<(), Fail> {
-    let place = window.newest().number();
+    let place = newest_number(window);
     let text = batch_text(alloc, state, place)?;
     let other = batch_text(alloc, state, place)?;
     pair(rt, alloc, window, text.as_str(), other.as_str(), pairs)
@@ -142,7 +142,9 @@ fn random_pairs(rt: &impl Abort, alloc: Global, window: &mut Window) -> Result<P
 #[test]
 fn a_batch_runs_alike_on_books_that_differ_elsewhere(rt: HostRuntime) -> Result<(), Fail> {
     let mut window = first_window(rt.alloc())?;
-    let pairs = random_pairs(&rt, rt.alloc(), &mut window)?;
+    let pairs = random_pairs(&rt, rt.alloc(), &mut window);
+    drop(window);
+    let pairs = pairs?;
     holds(&rt, 100 <= pairs.alike, "pairs alike");
     holds(&rt, 30 <= pairs.different, "different pairs");
     Ok(())

@@ -8,7 +8,7 @@
 //!   over `plain_rows`.
 //! - `elsewhere`: random batches on pairs of books.
 //! - `running`: a work to its end, and the version after it. `details` tells all that it has come to.
-//! - `wanted`: what a test wants to see.
+//! - `values`: values of any type; `wanted`: what a test wants to see.
 #![tactic(auto)]
 
 #[cfg(test)]
@@ -25,6 +25,8 @@ mod playing;
 mod random;
 #[cfg(test)]
 mod running;
+#[cfg(test)]
+mod values;
 #[cfg(test)]
 mod wanted;
 #[cfg(test)]

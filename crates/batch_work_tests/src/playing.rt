@@ -15,6 +15,11 @@ pub fn first_window(alloc: Global) -> Result<Window, Fail> {
     Ok(Window::of(Version::empty(alloc, domain)?))
 }
 
+/// The number of the newest version. Nothing is said of it.
+pub fn newest_number(window: &Window) -> u64 {
+    window.newest().number()
+}
+
 /// The marks that a batch reads on the window.
 fn reads(alloc: Global, window: &Window, text: &str) -> Result<String, Fail> {
     let work = ended(alloc, window, text)?;
@@ -40,17 +45,22 @@ fn goes_on(alloc: Global, window: &mut Window, text: &str) -> Result<(), Fail> {
 }
 
 /// The same batch, so many times one after another.
-fn goes_on_often(alloc: Global, window: &mut Window, times: u64, text: &str) -> Result<(), Fail> {
-    for _ in 0..times {
+fn goes_on_often(alloc: Global, window: &mut Window, times: &str, text: &str) -> Result<(), Fail> {
+    for _ in 0..times.parse::<u64>()? {
         goes_on(alloc, window, text)?;
     }
     Ok(())
 }
 
+/// The number of the version that the window gives for this one.
+fn found_number(window: &Window, number: u64) -> Option<u64> {
+    let version = window.book(number)?;
+    Some(version.number())
+}
+
 /// Adds the number of the version that the window gives for this one.
 fn add_version(alloc: Global, text: &mut String, window: &Window, number: u64) -> Result<(), Fail> {
-    if let Some(version) = window.book(number) {
-        let found = version.number();
+    if let Some(found) = found_number(window, number) {
         text.push_str(format!(in alloc; "{found} ")?.as_str())?;
     }
     Ok(())
@@ -62,9 +72,16 @@ fn versions(alloc: Global, window: &Window, first: u64, last: u64) -> Result<Str
     for number in first..last.wrapping_add(1) {
         add_version(alloc, &mut text, window, number)?;
     }
-    let newest = window.newest().number();
+    let newest = newest_number(window);
     text.push_str(format!(in alloc; "newest {newest}")?.as_str())?;
     Ok(text)
+}
+
+/// The versions that are asked for by the two numbers behind a word.
+fn versions_asked(alloc: Global, window: &Window, question: &str) -> Result<String, Fail> {
+    let words = words(alloc, question)?;
+    let (first, last) = (number(words.as_slice(), 1)?, number(words.as_slice(), 2)?);
+    versions(alloc, window, first, last)
 }
 
 fn answer(alloc: Global, window: &Window, question: &str) -> Result<String, Fail> {
@@ -74,9 +91,7 @@ fn answer(alloc: Global, window: &Window, question: &str) -> Result<String, Fail
     if let Some(text) = question.strip_prefix("COMES ") {
         return comes(alloc, window, text);
     }
-    let words = words(alloc, question)?;
-    let (first, last) = (number(words.as_slice(), 1)?, number(words.as_slice(), 2)?);
-    versions(alloc, window, first, last)
+    versions_asked(alloc, window, question)
 }
 
 /// A line with no answer: `AGAIN`, a number and a batch, or a batch alone.
@@ -85,7 +100,7 @@ fn runs(alloc: Global, window: &mut Window, line: &str) -> Result<(), Fail> {
         return goes_on(alloc, window, line);
     };
     match text.split_once(" ") {
-        Some((times, text)) => goes_on_often(alloc, window, times.parse::<u64>()?, text),
+        Some((times, text)) => goes_on_often(alloc, window, times, text),
         None => Err(Fail::from("no such line")),
     }
 }
@@ -120,5 +135,7 @@ pub fn plays_on(
 /// Plays a table, from the empty book on.
 pub fn plays(rt: &impl Abort, alloc: Global, table: &str) -> Result<(), Fail> {
     let mut window = first_window(alloc)?;
-    plays_on(rt, alloc, &mut window, table)
+    let played = plays_on(rt, alloc, &mut window, table);
+    drop(window);
+    played
 }

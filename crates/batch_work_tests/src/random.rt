@@ -4,7 +4,7 @@ ghost use Rattle.std.specs.Prelude.{◌≡◌};
 
 use crate::details::{run_text, whole_text};
 use crate::footprints::{PlainHistory, footprint, no_history};
-use crate::playing::first_window;
+use crate::playing::{first_window, newest_number};
 use crate::running::{commits, ended};
 use crate::wanted::{holds, is_number, is_text};
 use batch_texts::{batch_text, trust_domain};
@@ -55,14 +55,19 @@ fn plain_book(alloc: Global) -> Result<PlainBook, Fail> {
     Ok(PlainBook::new(alloc, trust_domain(alloc, "ex.org")?)?)
 }
 
+/// The plain book's place. Nothing is said of it.
+fn place_of_book(book: &PlainBook) -> u64 {
+    book.place()
+}
+
 /// The plain book's reply. A run that is refused memory has changed nothing, and is made again.
 fn run(book: &mut PlainBook, batch: &Batch) -> Result<Reply, Fail>
     requires { batch.now.domain ≡ book.old.domain }
 {
-    let found = book.place();
+    let found = place_of_book(book);
     match book.run(batch) {
         Ok(reply) => Ok(reply),
-        Err(_) if book.place() == found => Ok(book.run(batch)?),
+        Err(_) if place_of_book(book) == found => Ok(book.run(batch)?),
         Err(_) => Err(Fail::from("changed without memory")),
     }
 }
@@ -73,7 +78,9 @@ fn plain_text(alloc: Global, book: &mut PlainBook, batch: &Batch) -> Result<Stri
         return Err(Fail::from("another trust domain"));
     }
     let reply = run(book, batch)?;
-    whole_text(alloc, reply.place, &reply.outcome)
+    let told = whole_text(alloc, reply.place, &reply.outcome);
+    drop(reply);
+    told
 }
 
 /// What a batch has to read, told by hand, and to come to, told by the plain book.
@@ -84,7 +91,7 @@ fn wanted(
     batch: &Batch,
     text: &str,
 ) -> Result<String, Fail> {
-    let mut want = footprint(alloc, history, book.place(), text)?;
+    let mut want = footprint(alloc, history, place_of_book(book), text)?;
     want.push_str(" => ")?;
     want.push_str(plain_text(alloc, book, batch)?.as_str())?;
     Ok(want)
@@ -125,7 +132,7 @@ fn compare(
     text: &str,
     told: &mut String,
 ) -> Result<(), Fail> {
-    let next = window.newest().number().wrapping_add(1);
+    let next = newest_number(window).wrapping_add(1);
     let want = wanted(alloc, book, history, work.batch(), text)?;
     is_as_wanted(rt, alloc, work, next, want.as_str(), told)?;
     commits(window, work)?;
@@ -142,7 +149,7 @@ fn round(
     state: &mut u64,
     told: &mut String,
 ) -> Result<(), Fail> {
-    let text = batch_text(alloc, state, window.newest().number())?;
+    let text = batch_text(alloc, state, newest_number(window))?;
     let work = ended(alloc, window, text.as_str())?;
     let compared = compare(rt, alloc, window, book, history, &work, text.as_str(), told);
     drop(work);
@@ -155,12 +162,12 @@ fn rounds(
     alloc: Global,
     window: &mut Window,
     book: &mut PlainBook,
+    history: &mut PlainHistory,
     told: &mut String,
 ) -> Result<(), Fail> {
     let mut state = 7;
-    let mut history = no_history(alloc);
     for _ in 0..1200_u64 {
-        round(rt, alloc, window, book, &mut history, &mut state, told)?;
+        round(rt, alloc, window, book, history, &mut state, told)?;
     }
     Ok(())
 }
@@ -180,15 +187,27 @@ fn plays_on_both(
     book: &mut PlainBook,
 ) -> Result<(), Fail> {
     let mut told = String::new(alloc);
-    rounds(rt, alloc, window, book, &mut told)?;
-    is_number(rt, window.newest().number(), book.place(), "place");
+    let mut history = no_history(alloc);
+    let played = rounds(rt, alloc, window, book, &mut history, &mut told);
+    drop(history);
+    played?;
+    is_number(rt, newest_number(window), place_of_book(book), "place");
     all_came(rt, told.as_str());
     Ok(())
+}
+
+/// Random batches on a window, with the plain book beside it.
+fn plays_beside(rt: &impl Abort, alloc: Global, window: &mut Window) -> Result<(), Fail> {
+    let mut book = plain_book(alloc)?;
+    let played = plays_on_both(rt, alloc, window, &mut book);
+    drop(book);
+    played
 }
 
 #[test]
 fn random_batches_come_to_what_the_plain_book_answers(rt: HostRuntime) -> Result<(), Fail> {
     let mut window = first_window(rt.alloc())?;
-    let mut book = plain_book(rt.alloc())?;
-    plays_on_both(&rt, rt.alloc(), &mut window, &mut book)
+    let played = plays_beside(&rt, rt.alloc(), &mut window);
+    drop(window);
+    played
 }

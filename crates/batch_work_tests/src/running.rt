@@ -9,6 +9,7 @@ ghost use Rattle.batch_work.specs.declared.status.Status.TheVariants as status;
 ghost use Rattle.batch_work.specs.Windows.{IsNext};
 ghost use Rattle.batch_work.specs.Working.{IsAccepted, MayBegin, status_of};
 
+use crate::values::where_done;
 use batch_texts::{add_mark, batch, marks_text, replies_text, reply_text};
 use batch_work::{Status, Window, Work};
 use entry_book::Batch;
@@ -32,16 +33,12 @@ fn may_begin(window: &Window, batch: &Batch) -> bool
 /// A work of the batch, that has begun on the window.
 pub fn begun(alloc: Global, window: &Window, batch: Batch) -> Result<Work, Fail> {
     if !may_begin(window, &batch) {
+        drop(batch);
         return Err(Fail::from("no window for this batch"));
     }
     let mut work = Work::new(alloc, batch);
-    match work.begin(window) {
-        Ok(()) => Ok(work),
-        Err(AllocError) => {
-            drop(work);
-            Err(Fail::from(AllocError))
-        }
-    }
+    let begun = work.begin(window);
+    Ok(where_done(begun, work)?)
 }
 
 /// One step more, and its mark behind the others; where the work doesn't run, none.
@@ -50,8 +47,10 @@ fn step(alloc: Global, work: &mut Work, text: &mut String) -> Result<bool, Fail>
         return Ok(false);
     }
     let mark = work.next_mark()?;
-    work.step()?;
-    add_mark(alloc, text, &mark)?;
+    let mark = where_done(work.step(), mark)?;
+    let added = add_mark(alloc, text, &mark);
+    drop(mark);
+    added?;
     Ok(true)
 }
 
@@ -96,7 +95,9 @@ fn has_token(version: &Version, token: Uuid) -> Result<bool, AllocError>
     ensures { IfOk result (λ has. has ≡ false → token_at token (book_of version.now.rows) ≡ None) }
 {
     let reading = version.read(&Mark::token(token))?;
-    Ok(!reading.tokens().is_empty())
+    let has_none = reading.tokens().is_empty();
+    drop(reading);
+    Ok(!has_none)
 }
 
 /// Is something kept under the token, where there is one?
@@ -160,6 +161,7 @@ pub fn commit(window: &mut Window, work: &Work) -> Result<(), Fail> {
     }
     let version = next_of(work)?;
     if !is_next(window, &version) {
+        drop(version);
         return Err(Fail::from("begun on an older version"));
     }
     window.push(version);

@@ -65,11 +65,15 @@ fn play_both(
 fn play_copied(rt: &impl Abort, alloc: Global, window: &mut Window) -> Result<(), Fail> {
     plays_on(rt, alloc, window, "AGAIN 64 set_agent n1 x:1")?;
     let mut copy = window.clone()?;
-    play_both(rt, alloc, window, &mut copy)
+    let played = play_both(rt, alloc, window, &mut copy);
+    drop(copy);
+    played
 }
 
 #[test]
 fn a_copy_stays_while_its_owner_goes_on(rt: HostRuntime) -> Result<(), Fail> {
     let mut window = first_window(rt.alloc())?;
-    play_copied(&rt, rt.alloc(), &mut window)
+    let played = play_copied(&rt, rt.alloc(), &mut window);
+    drop(window);
+    played
 }
