@@ -4,6 +4,7 @@ ghost use Rattle.std.specs.Prelude.{◌≡◌, IfOk, true};
 ghost use Rattle.call_events.specs.Events.{IsFor};
 ghost use Rattle.call_machine.specs.Machine.{AreFor};
 
+use crate::values::unless;
 use call_machine::{Done, Event, EventRefusal, KnownCall, Machine, RefusedEvent};
 use spiffe_name::TrustDomain;
 use std::alloc::Global;
@@ -33,6 +34,14 @@ fn are_for(domain: &TrustDomain, events: &[Event]) -> bool
     }
 }
 
+/// Is it refused for want of memory?
+pub fn lacks_memory(answer: &Result<Done, RefusedEvent>) -> bool {
+    match answer {
+        Ok(_) => false,
+        Err(refused) => refused.refusal == EventRefusal::NoMemory,
+    }
+}
+
 /// A machine, with a bound on the events that it has accepted.
 #[derive(Drop)]
 pub struct Counted {
@@ -55,7 +64,7 @@ impl Model for Counted {
 impl Counted {
     /// The machine of a trust domain's server.
     pub fn new(alloc: Global, domain: TrustDomain) -> Result<Counted, Fail> {
-        let machine = Machine::new(alloc, domain.clone()?)?;
+        let machine = new_machine(alloc, &domain)?;
         Ok(Counted {
             domain,
             machine,
@@ -66,16 +75,12 @@ impl Counted {
     /// One event. Want of memory is an error.
     pub fn apply(&mut self, event: Event) -> Result<Result<Done, RefusedEvent>, Fail> {
         if self.events >= EVENTS || !is_for(&self.domain, &event) {
+            drop(event);
             return Err(Fail::from("not for this machine"));
         }
         self.events += 1;
-        match self.machine.apply(event) {
-            Ok(done) => Ok(Ok(done)),
-            Err(refused) if refused.refusal == EventRefusal::NoMemory => {
-                Err(Fail::from("no memory"))
-            }
-            Err(refused) => Ok(Err(refused)),
-        }
+        let answer = self.machine.apply(event);
+        unless(lacks_memory(&answer), "no memory", answer)
     }
 
     pub fn order(&self) -> Result<Vec<u64>, Fail> {
@@ -95,15 +100,36 @@ fn new_machine(alloc: Global, domain: &TrustDomain) -> Result<Machine, Fail>
     Ok(Machine::new(alloc, domain.clone()?)?)
 }
 
+/// The answers of a machine of this trust domain, which was handed no event, to a list of events.
+fn answers_of(
+    mut machine: Machine,
+    domain: &TrustDomain,
+    events: Vec<Event>,
+) -> Result<Vec<Result<Done, RefusedEvent>>, Fail>
+    requires domain { machine.domain ≡ domain.now }
+    requires count { machine.count ≡ 0 }
+{
+    if events.len() > 1_000 || !are_for(domain, events.as_slice()) {
+        drop(machine);
+        drop(events);
+        return Err(Fail::from("not for this machine"));
+    }
+    let answers = machine.run(events);
+    drop(machine);
+    Ok(answers?)
+}
+
 /// The answers of a new machine of this trust domain to a list of events.
 pub fn run_at_once(
     alloc: Global,
     domain: &TrustDomain,
     events: Vec<Event>,
 ) -> Result<Vec<Result<Done, RefusedEvent>>, Fail> {
-    if events.len() > 1_000 || !are_for(domain, events.as_slice()) {
-        return Err(Fail::from("not for this machine"));
+    match new_machine(alloc, domain) {
+        Ok(machine) => answers_of(machine, domain, events),
+        Err(failed) => {
+            drop(events);
+            Err(failed)
+        }
     }
-    let mut machine = new_machine(alloc, domain)?;
-    Ok(machine.run(events)?)
 }

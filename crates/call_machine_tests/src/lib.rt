@@ -4,6 +4,7 @@
 //!
 //! - `worked`: small schedules, told by tables, which `playing` plays. `making` reads events, `telling` tells answers.
 //! - `counted`: a machine, and what a test has to know of it; `refused`: that a refused event is handed back and changes nothing.
+//! - `values`: values of any type; `wanted`: what a test wants to see.
 #![tactic(auto)]
 
 #[cfg(test)]
@@ -16,5 +17,9 @@ mod playing;
 mod refused;
 #[cfg(test)]
 mod telling;
+#[cfg(test)]
+mod values;
+#[cfg(test)]
+mod wanted;
 #[cfg(test)]
 mod worked;

@@ -2,13 +2,15 @@
 
 ghost use Rattle.std.specs.Prelude.{◌<◌};
 
-use crate::counted::{Counted, run_at_once};
+use crate::counted::{Counted, lacks_memory, run_at_once};
 use crate::making::{bundles, event};
 use crate::refused::answer;
-use crate::telling::{answer_text, known_text, numbers_text, whole_answer_text};
+use crate::telling::{answer_text, known_text, numbers_text};
+use crate::values::{had, where_done};
+use crate::wanted::{holds, is_text};
 use batch_texts::{batch, trust_domain};
 use batch_work::Status;
-use call_machine::{Done, Event, EventRefusal, RefusedEvent};
+use call_machine::{Done, Event, RefusedEvent};
 use std::alloc::Global;
 use std::process::Abort;
 use std::test::Fail;
@@ -16,37 +18,56 @@ use std::test::Fail;
 /// The calls up to this number are looked at where an event is refused.
 const LAST: u64 = 8;
 
-pub fn first_machine(alloc: Global) -> Result<Counted, Fail> {
+fn first_machine(alloc: Global) -> Result<Counted, Fail> {
     Counted::new(alloc, trust_domain(alloc, "ex.org")?)
 }
 
-/// An event that has to be accepted.
-pub fn accepted(machine: &mut Counted, event: Event) -> Result<Done, Fail> {
-    match machine.apply(event)? {
-        Ok(done) => Ok(done),
-        Err(_) => Err(Fail::from("refused")),
+/// The answer to an event that has to be accepted.
+fn accepted(machine: &mut Counted, event: Event) -> Result<Done, Fail> {
+    had(machine.apply(event)?, "refused")
+}
+
+/// Hands in an event that has to be accepted.
+fn does(machine: &mut Counted, event: Event) -> Result<(), Fail> {
+    drop(accepted(machine, event)?);
+    Ok(())
+}
+
+/// What a call waits for that has begun.
+fn status_begun(done: &Done) -> Option<Status> {
+    match done {
+        Done::Begun(_, _, status) => Some(*status),
+        _ => None,
     }
 }
 
 /// What the call waits for after its begin.
 fn begins(machine: &mut Counted, call: u64) -> Result<Status, Fail> {
-    match accepted(machine, Event::Begin(call))? {
-        Done::Begun(_, _, status) => Ok(status),
-        _ => Err(Fail::from("not begun")),
+    let done = accepted(machine, Event::Begin(call))?;
+    let status = status_begun(&done);
+    drop(done);
+    Ok(status.ok_or("not begun")?)
+}
+
+/// What a call waits for that has made a step.
+fn status_stepped(done: &Done) -> Option<Status> {
+    match done {
+        Done::Stepped(_, _, status) => Some(*status),
+        _ => None,
     }
 }
 
 /// What the call waits for after its next step.
 fn steps(machine: &mut Counted, call: u64) -> Result<Status, Fail> {
-    match accepted(machine, Event::Step(call))? {
-        Done::Stepped(_, _, status) => Ok(status),
-        _ => Err(Fail::from("no step")),
-    }
+    let done = accepted(machine, Event::Step(call))?;
+    let status = status_stepped(&done);
+    drop(done);
+    Ok(status.ok_or("no step")?)
 }
 
 /// Makes a call of the batch that a text tells, from its invoke to its reply.
 fn runs(alloc: Global, machine: &mut Counted, call: u64, text: &str) -> Result<(), Fail> {
-    accepted(machine, Event::Invoke(call, batch(alloc, text)?))?;
+    does(machine, Event::Invoke(call, batch(alloc, text)?))?;
     let mut status = begins(machine, call)?;
     for _ in 0..1_000_u64 {
         if status != Status::Running {
@@ -55,10 +76,9 @@ fn runs(alloc: Global, machine: &mut Counted, call: u64, text: &str) -> Result<(
         status = steps(machine, call)?;
     }
     if status == Status::Ready {
-        accepted(machine, Event::Commit(call))?;
+        does(machine, Event::Commit(call))?;
     }
-    accepted(machine, Event::Reply(call))?;
-    Ok(())
+    does(machine, Event::Reply(call))
 }
 
 /// So many new bundles, 64 in each call, from this call on.
@@ -74,7 +94,7 @@ fn fills(alloc: Global, machine: &mut Counted, first: u64, count: u64) -> Result
 /// The calls up to this number are handed in, each with the batch that a text tells.
 fn hands_in(alloc: Global, machine: &mut Counted, last: u64, text: &str) -> Result<(), Fail> {
     for call in 0..last {
-        accepted(
+        does(
             machine,
             Event::Invoke(call.wrapping_add(1), batch(alloc, text)?),
         )?;
@@ -110,10 +130,7 @@ fn reply_to(
     }
     match question.strip_prefix("CALL ") {
         Some(call) => Ok(known_text(alloc, machine.call(call.parse::<u64>()?))?),
-        None => {
-            let answer = answer(rt, alloc, machine, event(alloc, question)?, LAST)?;
-            Ok(answer_text(alloc, &answer)?)
-        }
+        None => answer(rt, alloc, machine, question, LAST),
     }
 }
 
@@ -126,9 +143,21 @@ fn plays_line(
 ) -> Result<(), Fail> {
     if let Some((question, want)) = line.split_once(" => ") {
         let got = reply_to(rt, alloc, machine, question)?;
-        assert_eq!(rt; got.as_str(), want, "{line}");
+        is_text(rt, got.as_str(), want, line);
     } else if !line.is_empty() {
         prepares(alloc, machine, line)?;
+    }
+    Ok(())
+}
+
+fn plays_lines(
+    rt: &impl Abort,
+    alloc: Global,
+    machine: &mut Counted,
+    table: &str,
+) -> Result<(), Fail> {
+    for line in table.lines() {
+        plays_line(rt, alloc, machine, line)?;
     }
     Ok(())
 }
@@ -140,52 +169,75 @@ fn plays_line(
 /// this number on; `HAND-IN` hands in all calls up to this number.
 pub fn plays(rt: &impl Abort, alloc: Global, table: &str) -> Result<(), Fail> {
     let mut machine = first_machine(alloc)?;
+    let played = plays_lines(rt, alloc, &mut machine, table);
+    drop(machine);
+    played
+}
+
+/// The event of a line and its answer, where it tells one.
+fn event_of(line: &str) -> Option<(&str, &str)> {
+    let (question, want) = line.split_once(" => ")?;
+    if question == "ORDER" || question.starts_with("CALL ") {
+        return None;
+    }
+    Some((question, want))
+}
+
+fn add_event(alloc: Global, events: &mut Vec<Event>, told: &str) -> Result<(), Fail> {
+    Ok(events.push(event(alloc, told)?)?)
+}
+
+fn add_events(alloc: Global, events: &mut Vec<Event>, table: &str) -> Result<(), Fail> {
     for line in table.lines() {
-        plays_line(rt, alloc, &mut machine, line)?;
+        if let Some((told, _)) = event_of(line) {
+            add_event(alloc, events, told)?;
+        }
     }
     Ok(())
 }
 
-/// The event of a line, where it tells one.
-fn event_of(alloc: Global, line: &str) -> Result<Option<Event>, Fail> {
-    match line.split_once(" => ") {
-        Some((question, _)) if question != "ORDER" && !question.starts_with("CALL ") => {
-            Ok(Some(event(alloc, question)?))
-        }
-        _ => Ok(None),
-    }
-}
-
-/// The answer of a line that tells an event.
-fn want_of(line: &str) -> &str {
-    match line.split_once(" => ") {
-        Some((_, want)) => want,
-        None => "",
-    }
+/// The events of a table. Lines without an event are passed over.
+fn events_of(alloc: Global, table: &str) -> Result<Vec<Event>, Fail> {
+    let mut events = Vec::new(alloc);
+    let added = add_events(alloc, &mut events, table);
+    where_done(added, events)
 }
 
 /// The answer to an event of a list. Want of memory is an error, so that no table has to know of it.
-fn listed_answer(alloc: Global, answer: &Result<Done, RefusedEvent>) -> Result<String, Fail> {
+fn listed_answer(
+    alloc: Global,
+    answer: Option<&Result<Done, RefusedEvent>>,
+) -> Result<String, Fail> {
     match answer {
-        Err(refused) if refused.refusal == EventRefusal::NoMemory => Err(Fail::from("no memory")),
-        _ => Ok(whole_answer_text(alloc, answer)?),
+        Some(answer) if !lacks_memory(answer) => Ok(answer_text(alloc, answer)?),
+        Some(_) => Err(Fail::from("no memory")),
+        None => Ok(String::from_str(alloc, "no answer")?),
     }
 }
 
-/// Hands in the events of a table in one call. Lines without an event are passed over.
-pub fn plays_at_once(rt: &impl Abort, alloc: Global, table: &str) -> Result<(), Fail> {
-    let mut events = Vec::new(alloc);
-    let mut wanted = Vec::new(alloc);
+/// The answers are those of the table's events, one after another.
+fn check_answers(
+    rt: &impl Abort,
+    alloc: Global,
+    answers: &[Result<Done, RefusedEvent>],
+    table: &str,
+) -> Result<(), Fail> {
+    let mut answers = answers.iter();
     for line in table.lines() {
-        if let Some(event) = event_of(alloc, line)? {
-            events.push(event)?;
-            wanted.push(want_of(line))?;
+        if let Some((told, want)) = event_of(line) {
+            let got = listed_answer(alloc, answers.next())?;
+            is_text(rt, got.as_str(), want, told);
         }
     }
-    let answers = run_at_once(alloc, &trust_domain(alloc, "ex.org")?, events)?;
-    assert_eq!(rt; answers.len(), wanted.len());
-    for (answer, want) in answers.iter().zip(wanted.iter()) {
-        assert_eq!(rt; listed_answer(alloc, answer)?.as_str(), *want);
-    }
+    holds(rt, answers.next().is_none(), "an answer for each event");
     Ok(())
+}
+
+/// Hands in the events of a table in one call.
+pub fn plays_at_once(rt: &impl Abort, alloc: Global, table: &str) -> Result<(), Fail> {
+    let domain = trust_domain(alloc, "ex.org")?;
+    let answers = run_at_once(alloc, &domain, events_of(alloc, table)?)?;
+    let checked = check_answers(rt, alloc, answers.as_slice(), table);
+    drop(answers);
+    checked
 }

@@ -1,37 +1,38 @@
 //! An event that is refused is handed back, and has changed nothing.
 
 use crate::counted::Counted;
-use crate::telling::{known_text, numbers_text};
-use call_machine::{Done, Event, EventRefusal};
-use entry_book::{Batch, KeptBatch, Sequence, Shared};
+use crate::making::event;
+use crate::telling::{answer_text, known_text, numbers_text};
+use crate::wanted::{holds, is_text};
+use call_machine::{Done, Event, RefusedEvent};
+use entry_book::{Batch, KeptBatch, Sequence, Shared, both};
 use std::alloc::Global;
 use std::process::Abort;
 use std::test::Fail;
 use uuid::Uuid;
 
-/// A copy of the event, which shares the operations.
-pub fn copy_of(event: &Event) -> Result<Event, Fail> {
-    match event {
-        Event::Invoke(number, batch) => Ok(Event::Invoke(*number, batch.clone()?)),
-        Event::Begin(number) => Ok(Event::Begin(*number)),
-        Event::Step(number) => Ok(Event::Step(*number)),
-        Event::Commit(number) => Ok(Event::Commit(*number)),
-        Event::Reply(number) => Ok(Event::Reply(*number)),
-    }
+/// What is kept of a batch that is answered by nothing.
+fn kept(alloc: Global, batch: &Batch) -> Result<KeptBatch, Fail> {
+    let no_replies = Shared::of(alloc, Sequence::empty(alloc));
+    let (ops, replies) = both(batch.shared_ops().clone(), no_replies)?;
+    Ok(KeptBatch {
+        token: Uuid::nil(),
+        ops,
+        place: 0,
+        replies,
+    })
+}
+
+fn has_same_ops(alloc: Global, first: &Batch, second: &Batch) -> Result<bool, Fail> {
+    let kept = kept(alloc, first)?;
+    let is_same = kept.has_ops(second.ops());
+    drop(kept);
+    Ok(is_same)
 }
 
 fn is_same_batch(alloc: Global, first: &Batch, second: &Batch) -> Result<bool, Fail> {
-    let kept = KeptBatch {
-        token: Uuid::nil(),
-        ops: first.shared_ops().clone()?,
-        place: 0,
-        replies: Shared::of(alloc, Sequence::empty(alloc))?,
-    };
-    Ok(
-        kept.has_ops(second.ops())
-            && first.after() == second.after()
-            && first.token() == second.token(),
-    )
+    let is_same = has_same_ops(alloc, first, second)?;
+    Ok(is_same && first.after() == second.after() && first.token() == second.token())
 }
 
 fn is_same_event(alloc: Global, first: &Event, second: &Event) -> Result<bool, Fail> {
@@ -47,6 +48,14 @@ fn is_same_event(alloc: Global, first: &Event, second: &Event) -> Result<bool, F
     }
 }
 
+/// Is it the event that a text tells?
+fn is_told(alloc: Global, told: &str, refused: &Event) -> Result<bool, Fail> {
+    let event = event(alloc, told)?;
+    let is_same = is_same_event(alloc, &event, refused);
+    drop(event);
+    is_same
+}
+
 /// All that a machine tells of its order, and of the calls up to this number.
 fn machine_text(alloc: Global, machine: &Counted, last: u64) -> Result<String, Fail> {
     let mut text = numbers_text(alloc, machine.order()?.as_slice())?;
@@ -57,24 +66,48 @@ fn machine_text(alloc: Global, machine: &Counted, last: u64) -> Result<String, F
     Ok(text)
 }
 
-/// What is answered to an event. One that is refused is handed back, and what the machine tells of the calls up to this number
-/// has stayed.
+/// The event that a text tells is handed back, and what the machine tells of the calls up to this number is what it told before.
+fn check_refused(
+    rt: &impl Abort,
+    alloc: Global,
+    machine: &Counted,
+    told: &str,
+    refused: &Event,
+    (last, before): (u64, &str),
+) -> Result<(), Fail> {
+    holds(rt, is_told(alloc, told, refused)?, told);
+    let after = machine_text(alloc, machine, last)?;
+    is_text(rt, after.as_str(), before, told);
+    Ok(())
+}
+
+/// The text of an answer to the event that a text tells. One that is refused is looked at.
+fn checked_text(
+    rt: &impl Abort,
+    alloc: Global,
+    machine: &Counted,
+    told: &str,
+    answer: &Result<Done, RefusedEvent>,
+    before: (u64, &str),
+) -> Result<String, Fail> {
+    if let Err(refused) = answer {
+        check_refused(rt, alloc, machine, told, &refused.event, before)?;
+    }
+    Ok(answer_text(alloc, answer)?)
+}
+
+/// What is answered to the event that a text tells. One that is refused is handed back, and what the machine tells of the calls up
+/// to this number has stayed.
 pub fn answer(
     rt: &impl Abort,
     alloc: Global,
     machine: &mut Counted,
-    event: Event,
+    told: &str,
     last: u64,
-) -> Result<Result<Done, EventRefusal>, Fail> {
-    let given = copy_of(&event)?;
+) -> Result<String, Fail> {
     let before = machine_text(alloc, machine, last)?;
-    match machine.apply(event)? {
-        Ok(done) => Ok(Ok(done)),
-        Err(refused) => {
-            assert!(rt; is_same_event(alloc, &given, &refused.event)?);
-            let after = machine_text(alloc, machine, last)?;
-            assert_eq!(rt; after.as_str(), before.as_str());
-            Ok(Err(refused.refusal))
-        }
-    }
+    let answer = machine.apply(event(alloc, told)?)?;
+    let text = checked_text(rt, alloc, machine, told, &answer, (last, before.as_str()));
+    drop(answer);
+    text
 }

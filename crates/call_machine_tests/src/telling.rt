@@ -2,7 +2,7 @@
 
 use batch_texts::{Failed, mark_text, placed, reply_text};
 use batch_work::Status;
-use call_machine::{CallAnswer, Decision, Done, EventRefusal, KnownCall, RefusedEvent, Told};
+use call_machine::{CallAnswer, Decision, Done, KnownCall, RefusedEvent, Told};
 use entry_book::Reply;
 use std::alloc::Global;
 use version_book::Mark;
@@ -68,18 +68,7 @@ pub fn done_text(alloc: Global, done: &Done) -> Result<String, Failed> {
 }
 
 /// The answer to an event, or the code of its refusal.
-pub fn answer_text(alloc: Global, answer: &Result<Done, EventRefusal>) -> Result<String, Failed> {
-    match answer {
-        Ok(done) => done_text(alloc, done),
-        Err(refusal) => Ok(String::from_str(alloc, refusal.code())?),
-    }
-}
-
-/// The same, of an answer with the refused event.
-pub fn whole_answer_text(
-    alloc: Global,
-    answer: &Result<Done, RefusedEvent>,
-) -> Result<String, Failed> {
+pub fn answer_text(alloc: Global, answer: &Result<Done, RefusedEvent>) -> Result<String, Failed> {
     match answer {
         Ok(done) => done_text(alloc, done),
         Err(refused) => Ok(String::from_str(alloc, refused.refusal.code())?),
