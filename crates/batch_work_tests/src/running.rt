@@ -11,7 +11,7 @@ ghost use Rattle.batch_work.specs.Working.{IsAccepted, MayBegin, status_of};
 
 use crate::values::where_done;
 use batch_texts::{add_mark, batch, marks_text, replies_text, reply_text};
-use batch_work::{Status, Window, Work};
+use batch_work::{Status, Window, Work, answer};
 use entry_book::Batch;
 use std::alloc::{AllocError, Global};
 use std::test::Fail;
@@ -68,16 +68,33 @@ pub fn run_to_end(alloc: Global, work: &mut Work) -> Result<String, Fail> {
     Ok(text)
 }
 
+/// What a batch that only asks is answered at once on the window, told as text.
+fn answered_text(alloc: Global, window: &Window, batch: &Batch) -> Result<String, Fail> {
+    if !batch.is_query() || !may_begin(window, batch) {
+        return Err(Fail::from("no window for this question"));
+    }
+    let reply = answer(alloc, batch, window)?;
+    let text = reply_text(alloc, reply.get());
+    drop(reply);
+    Ok(text?)
+}
+
+/// Makes all steps; where the batch only asks, it is answered at once as the work is in the end.
+fn run_and_ask(alloc: Global, window: &Window, work: &mut Work) -> Result<(), Fail> {
+    run_to_end(alloc, work)?;
+    if work.batch().is_query()
+        && answered_text(alloc, window, work.batch())? != end_text(alloc, work)?
+    {
+        return Err(Fail::from("answered otherwise at once"));
+    }
+    Ok(())
+}
+
 /// The work of the batch of a text on the window, at its end.
 pub fn ended(alloc: Global, window: &Window, text: &str) -> Result<Work, Fail> {
     let mut work = begun(alloc, window, batch(alloc, text)?)?;
-    match run_to_end(alloc, &mut work) {
-        Ok(_) => Ok(work),
-        Err(why) => {
-            drop(work);
-            Err(why)
-        }
-    }
+    let run = run_and_ask(alloc, window, &mut work);
+    where_done(run, work)
 }
 
 /// What a work has come to, told as text: it is ready, with these replies, or settled with this reply.
