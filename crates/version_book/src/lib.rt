@@ -13,13 +13,13 @@
 //! |---|---|---|---|
 //! | `clone` | none | one, of all that the version holds | none |
 //! | `number`, `domain`, `server`, `count`, `Changes::hits` | none | none | none |
-//! | `entry`, `agent`, `bundle` | the one that is asked for | none | none |
-//! | `children` | those of the parent, once a search has found them | those of these rows | for a list of them, and for sorting it |
-//! | `page` | from the id from which it goes on, to the one that shows that more come | those of the rows that it lists | for a list of them |
+//! | `entry`, `agent`, `bundle` | the one that is asked for, once a search has found it | none | none |
+//! | `children` | those of the parent, once a search has found them | those of these rows, and two of the parent's ID | for a list of them, and for sorting it |
+//! | `page` | from the id from which it goes on, once a search has found it, to the one that shows that more come | those of the rows that it lists | for a list of them |
 //! | `unchanged` | those that the mark names, up to the first difference, once a search has found them | none | none |
 //! | `read` | those that the mark names, once a search has found them | those of these rows | for a list of them, and for sorting it |
 //! | `read_after` | the same, and these again for each change | those of these rows, again for each change | for a list of them, again for each change |
-//! | `apply` | for each key of a row that goes or comes, those that a search compares | one of each part of the pages made anew; of each other shelf, one | for these pages, and for a row that comes, once for each of its keys |
+//! | `apply` | for each key of a row that goes or comes, those that a search compares | one of each part of the pages made anew; one of each other shelf, of the domain and of the server's ID | for these pages, and for a row that comes, once for each of its keys |
 //!
 //! What sharing means: a version has in common with the one before it each page that no change touched, and of the others
 //! each row that stays. They are let go with the last version that has them.

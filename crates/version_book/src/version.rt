@@ -180,8 +180,8 @@ impl Version {
         self.body.get().store.children(self.alloc, parent)
     }
 
-    /// The entries that a page lists, and the id after which the next page begins, where there is one. The error is want of
-    /// memory.
+    /// The entries that a page lists, and the id after which the next page begins, where there is one. They are those of this
+    /// version, whatever place the query asks about. The error is want of memory.
     pub fn page(&self, query: &PageQuery) -> Result<(Vec<Entry>, Option<Uuid>), AllocError>
         ensures listed { IfOk result (λ page. page.0.items ≡ listed query.now (book_of self.now.rows)) }
         ensures next { IfOk result (λ page. page.1 ≡ next_of query.now (book_of self.now.rows)) }
