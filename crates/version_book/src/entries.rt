@@ -1,8 +1,7 @@
 //! How are the entries of a version kept?
 
 ghost use Rattle.std.specs.Prelude.{◌≡◌, IfOk};
-ghost use Rattle.version_book.specs.declared.key.KeyPart.TheVariants.{Start, At, End};
-ghost use Rattle.version_book.specs.Index.{group_keys, user_keys, expiry_keys};
+ghost use Rattle.version_book.specs.Index.{AreBoundsOf, group_keys, user_keys, expiry_keys};
 
 use crate::changes::RowChange;
 use crate::committed_row::{CommittedRow, is_same_row, lent, row_alone};
@@ -82,9 +81,10 @@ fn expiry_keys(alloc: Global, entry: &Entry) -> Result<Vec<ExpiryKey>, AllocErro
 }
 
 /// The bounds of the keys of a parent's entries. The error is that no more owners can be counted.
-fn children_between(parent: &Shared<SpiffeId>) -> Result<(GroupKey, GroupKey), AllocError>
-    ensures low { IfOk result (λ bounds. bounds.0 ≡ (At parent.now, Start, Start)) }
-    ensures high { IfOk result (λ bounds. bounds.1 ≡ (At parent.now, End, End)) }
+pub(crate) fn children_between(
+    parent: &Shared<SpiffeId>,
+) -> Result<(GroupKey, GroupKey), AllocError>
+    ensures { IfOk result (AreBoundsOf parent.now) }
 {
     let (low, high) = both(parent.clone(), parent.clone())?;
     Ok((
@@ -94,11 +94,12 @@ fn children_between(parent: &Shared<SpiffeId>) -> Result<(GroupKey, GroupKey), A
 }
 
 impl Entries {
-    ghost use Rattle.std.specs.Prelude.{◌≡◌, ◌&&◌, ◌+◌, ◌≤◌, [], IfOk, IfSome, IsTrue, Some, None, bytes_eq, filter, length, map, nat_lt, option_map, take, if◌then◌else◌};
+    ghost use Rattle.std.specs.Prelude.{◌≡◌, ◌&&◌, ◌+◌, ◌≤◌, [], IfOk, IfSome, IsTrue, List, Some, None, bytes_eq, filter, length, map, nat_lt, option_map, take, if◌then◌else◌, ℕ};
     ghost use Rattle.std.specs.Option.{option_copied};
     ghost use Rattle.entry_book.specs.Order.{Ascending, Within, first, with_row};
     ghost use Rattle.entry_book.specs.Pages.{comes_after, last_id, passes};
     ghost use Rattle.entry_book.specs.Rows.{Entry as EntryRow, entry_key};
+    ghost use Rattle.version_book.specs.Index.{AreBoundsOf};
     ghost use Rattle.version_book.specs.Marks.{names_entry};
     ghost use Rattle.version_book.specs.CommittedRows.{numbered, of_row, row_of};
     ghost use Rattle.version_shelf.specs.Shelf.{most_rows};
@@ -212,11 +213,22 @@ impl Entries {
     ) -> Result<Vec<Entry>, AllocError>
         ensures { IfOk result (λ found. found.items ≡ filter (λ (entry : EntryRow). bytes_eq entry.parent parent.now) (map row_of self.now)) }
     {
-        let (low, high) = children_between(parent)?;
-        let found = entries_between(alloc, &self.groups, &low, &high);
-        drop(low);
-        drop(high);
+        let bounds = children_between(parent)?;
+        let found = self.children_within(alloc, &bounds);
+        drop(bounds);
         found
+    }
+
+    /// The entries of the parent of which these are the bounds, in the order of their ids. The error is want of memory.
+    pub(crate) fn children_within(
+        &self,
+        alloc: Global,
+        bounds: &(GroupKey, GroupKey),
+    ) -> Result<Vec<Entry>, AllocError>
+        ensures { IfOk result (λ found. (parent : List ℕ) → AreBoundsOf parent bounds.now
+            → found.items ≡ filter (λ (entry : EntryRow). bytes_eq entry.parent parent) (map row_of self.now)) }
+    {
+        entries_between(alloc, &self.groups, &bounds.0, &bounds.1)
     }
 
     /// The entries that a page lists, and the id after which the next page begins, where there is one. The error is want of

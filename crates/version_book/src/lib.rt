@@ -15,11 +15,12 @@
 //! | `number`, `domain`, `server`, `count`, `Changes::hits` | none | none | none |
 //! | `entry`, `agent`, `bundle` | the one that is asked for, once a search has found it | none | none |
 //! | `children` | those of the parent, once a search has found them | those of these rows, and two of the parent's ID | for a list of them, and for sorting it |
+//! | `aliases` | those of the server, once a search has found them | those of these rows | for a list of them, and for sorting it |
 //! | `page` | from the id from which it goes on, once a search has found it, to the one that shows that more come | those of the rows that it lists | for a list of them |
 //! | `unchanged` | those that the mark names, up to the first difference, once a search has found them | none | none |
 //! | `read` | those that the mark names, once a search has found them | those of these rows | for a list of them, and for sorting it |
 //! | `read_after` | the same, and these again for each change | those of these rows, again for each change | for a list of them, again for each change |
-//! | `apply` | for each key of a row that goes or comes, those that a search compares | one of each part of the pages made anew; one of each other shelf, of the domain and of the server's ID | for these pages, and for a row that comes, once for each of its keys |
+//! | `apply` | for each key of a row that goes or comes, those that a search compares | one of each part of the pages made anew; one of each other shelf, and one of the server's names | for these pages, and for a row that comes, once for each of its keys |
 //!
 //! What sharing means: a version has in common with the one before it each page that no change touched, and of the others
 //! each row that stays. They are let go with the last version that has them.
@@ -38,6 +39,7 @@
 //!
 //! - `store`: the sets of rows of a version; `entries` and `row_shelf`: the shelves of a set; `index` and `key`: how an index is
 //!   kept and ordered; `committed_row`: their rows.
+//! - `names`: what all versions of a book have in common.
 //! - `row`: what marks and writes ask of a row; `hits`: which writes hit a mark; `overlay`: what a mark reads after writes; `page`:
 //!   which rows a page lists.
 #![tactic(auto)]
@@ -50,6 +52,7 @@ mod index;
 mod key;
 pub mod laws;
 mod mark;
+mod names;
 mod overlay;
 mod page;
 mod row;

@@ -4,6 +4,7 @@ ghost use Rattle.std.specs.Prelude.{◌≡◌};
 
 use crate::changes::{RowWrite, TokenWrite};
 use crate::entries::Entries;
+use crate::key::GroupKey;
 use crate::mark::Mark;
 use crate::row_shelf::RowShelf;
 use crate::rows_read::RowsRead;
@@ -36,7 +37,7 @@ impl Model for Store {
 }
 
 impl Store {
-    ghost use Rattle.std.specs.Prelude.{◌≡◌, IfOk, IsTrue, Ok, map, length};
+    ghost use Rattle.std.specs.Prelude.{◌≡◌, IfOk, IsTrue, List, Ok, map, length, ℕ};
     ghost use Rattle.std.specs.Option.{option_copied};
     ghost use Rattle.entry_book.specs.Book.{agent_at, bundle_at, children_of, entry_at};
     ghost use Rattle.entry_book.specs.Order.{Ascending};
@@ -44,6 +45,7 @@ impl Store {
     ghost use Rattle.entry_book.specs.Rows.{entry_key, agent_key, bundle_key};
     ghost use Rattle.entry_book.specs.Tokens.{token_key};
     ghost use Rattle.entry_book.specs.Writes.{FitAll, FitsBook};
+    ghost use Rattle.version_book.specs.Index.{AreBoundsOf};
     ghost use Rattle.version_book.specs.Marks.{reads};
     ghost use Rattle.version_book.specs.CommittedRows.{book_of, marked, no_rows, of_row, rows_after, rows_after_write};
     ghost use Rattle.version_book.specs.Room.{RoomAll, RoomFor};
@@ -214,6 +216,17 @@ impl Store {
         ensures { IfOk result (λ found. found.items ≡ children_of parent.now (book_of self.now)) }
     {
         self.entries.children(alloc, parent)
+    }
+
+    /// The entries of the parent of which these are the bounds, in the order of their ids. The error is want of memory.
+    pub(crate) fn children_within(
+        &self,
+        alloc: Global,
+        bounds: &(GroupKey, GroupKey),
+    ) -> Result<Vec<Entry>, AllocError>
+        ensures { IfOk result (λ found. (parent : List ℕ) → AreBoundsOf parent bounds.now → found.items ≡ children_of parent (book_of self.now)) }
+    {
+        self.entries.children_within(alloc, bounds)
     }
 
     /// The entries that a page lists, and the id after which the next page begins, where there is one. The error is want of

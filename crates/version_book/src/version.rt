@@ -4,10 +4,11 @@ ghost use Rattle.std.specs.Prelude.{◌≡◌};
 
 use crate::changes::Changes;
 use crate::mark::Mark;
+use crate::names::ServerNames;
 use crate::overlay::after_changes;
 use crate::rows_read::RowsRead;
 use crate::store::Store;
-use entry_book::{Agent, Bundle, Entry, PageQuery, Shared, beside, both};
+use entry_book::{Agent, Bundle, Entry, PageQuery, Shared};
 use spiffe_name::{SpiffeId, TrustDomain};
 use std::alloc::{AllocError, Global};
 use std::marker::Model;
@@ -25,21 +26,8 @@ pub struct RowCounts {
 /// What all owners of a version share.
 #[derive(Drop)]
 struct Body {
-    domain: Shared<TrustDomain>,
-    server: Shared<SpiffeId>,
+    names: Shared<ServerNames>,
     store: Store,
-}
-
-impl Body {
-    ghost use Rattle.std.specs.Prelude.{◌≡◌, IfOk};
-
-    /// The trust domain, and the server's ID, with one more owner each. The error is that no more can be counted.
-    fn names(&self) -> Result<(Shared<TrustDomain>, Shared<SpiffeId>), AllocError>
-        ensures domain { IfOk result (λ names. names.0 ≡ self.now.domain) }
-        ensures server { IfOk result (λ names. names.1 ≡ self.now.server) }
-    {
-        both(self.domain.clone(), self.server.clone())
-    }
 }
 
 /// One version of the book of a trust domain's server. It is never changed: a reader keeps it for as long as it likes,
@@ -57,23 +45,21 @@ pub struct Version {
 }
 
 impl Model for Version {
-    ghost use Rattle.std.specs.Prelude.{◌≡◌, ◌*◌};
-    ghost use Rattle.spiffe_name.specs.Id.{server_text};
+    ghost use Rattle.std.specs.Prelude.{◌*◌};
     ghost use Rattle.entry_book.specs.Lawful.{Lawful};
     ghost use Rattle.version_book.specs.CommittedRows.{AllUpTo, State, book_of};
 
     ghost Value = { State };
 
     ghost view = { λ version. record {
-      domain = version.body.domain;
+      domain = version.body.names;
       number = version.number;
       rows = version.body.store;
     } };
 
     ghost invariant = { λ version.
-        Lawful version.body.domain (64 * version.number) (book_of version.body.store)
-        × AllUpTo version.number version.body.store
-        × (version.body.server ≡ server_text version.body.domain) };
+        Lawful version.body.names (64 * version.number) (book_of version.body.store)
+        × AllUpTo version.number version.body.store };
 }
 
 impl Version {
@@ -95,12 +81,9 @@ impl Version {
     pub fn empty(alloc: Global, domain: TrustDomain) -> Result<Version, AllocError>
         ensures { IfOk result (λ version. version ≡ record { domain = domain; number = 0; rows = no_rows }) }
     {
-        let server = SpiffeId::server_of(alloc, &domain);
-        let (domain, server) = beside(domain, server)?;
-        let (domain, server) = both(Shared::of(alloc, domain), Shared::of(alloc, server))?;
+        let names = ServerNames::of(alloc, domain)?;
         let body = Body {
-            domain,
-            server,
+            names: Shared::of(alloc, names)?,
             store: Store::empty(alloc),
         };
         Ok(Version {
@@ -114,14 +97,14 @@ impl Version {
     pub fn domain(&self) -> &TrustDomain
         ensures { result.now ≡ self.now.domain }
     {
-        self.body.get().domain.get()
+        self.body.get().names.get().domain()
     }
 
     /// The ID of the server. Takes no memory.
     pub fn server(&self) -> &Shared<SpiffeId>
         ensures { result.now ≡ server_text self.now.domain }
     {
-        &self.body.get().server
+        self.body.get().names.get().server()
     }
 
     /// The number of this version's book in its history. Takes no memory. The book is lawful, and no row was written by a
@@ -180,6 +163,16 @@ impl Version {
         self.body.get().store.children(self.alloc, parent)
     }
 
+    /// The node aliases, the entries whose parent is the server, in the order of their ids. It counts no owner of the server's
+    /// ID, which all readers have in common. The error is want of memory.
+    pub fn aliases(&self) -> Result<Vec<Entry>, AllocError>
+        ensures { IfOk result (λ found. found.items ≡ children_of (server_text self.now.domain) (book_of self.now.rows)) }
+    {
+        let body = self.body.get();
+        body.store
+            .children_within(self.alloc, body.names.get().aliases())
+    }
+
     /// The entries that a page lists, and the id after which the next page begins, where there is one. They are those of this
     /// version, whatever place the query asks about. The error is want of memory.
     pub fn page(&self, query: &PageQuery) -> Result<(Vec<Entry>, Option<Uuid>), AllocError>
@@ -216,15 +209,11 @@ impl Version {
         ensures { IfOk result (λ version. version ≡ next_state (placed number changes.now) self.now) }
     {
         let body = self.body.get();
-        let (domain, server) = body.names()?;
+        let names = body.names.clone()?;
         let store = body
             .store
             .after_writes(self.alloc, changes.writes(), number)?;
-        let body = Body {
-            domain,
-            server,
-            store,
-        };
+        let body = Body { names, store };
         Ok(Version {
             alloc: self.alloc,
             number,

@@ -1,7 +1,9 @@
 //! Versions of one history, and what they answer, told by a table.
 
 use crate::marks::mark_of;
-use crate::rows::{add_agents, add_bundles, add_entries, add_tokens, add_writes, read_text};
+use crate::rows::{
+    add_agents, add_bundles, add_entries, add_tokens, add_writes, aliases_text, read_text,
+};
 use crate::running::{ended, next_of};
 use crate::values::{add_some, beside, one, where_done};
 use crate::wanted::{holds, is_text};
@@ -209,6 +211,14 @@ fn told_server(alloc: Global, version: &Version) -> Result<String, AllocError> {
     format!(in alloc; " {server}")
 }
 
+/// The aliases of a version.
+fn told_aliases(alloc: Global, version: &Version) -> Result<String, Failed> {
+    let rows = aliases_text(alloc, version)?;
+    let mut text = String::new(alloc);
+    add_short(&mut text, rows.as_str())?;
+    Ok(text)
+}
+
 /// Is the mark unchanged since the older version?
 fn told_same(
     alloc: Global,
@@ -232,6 +242,7 @@ fn answer_at(alloc: Global, steps: &[Step], words: &[&str], mark: &Mark) -> Resu
     match word(words, 0) {
         "COUNT" => Ok(told_count(alloc, &step.version)?),
         "SERVER" => Ok(told_server(alloc, &step.version)?),
+        "ALIASES" => Ok(told_aliases(alloc, &step.version)?),
         "READS" => Ok(told(alloc, &step.version, mark)?),
         "CLONE" => told_by_clones(alloc, &step.version, mark),
         _ => {
@@ -241,8 +252,8 @@ fn answer_at(alloc: Global, steps: &[Step], words: &[&str], mark: &Mark) -> Resu
     }
 }
 
-/// The answer of a version to a question: `COUNT 2`, `SERVER 2`, `READS 2: children /a`, the same of its clone, `CLONE 2: children /a`,
-/// or, of a newer and an older one, `SAME 2 1: children /a`.
+/// The answer of a version to a question: `COUNT 2`, `SERVER 2`, `ALIASES 2`, `READS 2: children /a`, the same of its clone,
+/// `CLONE 2: children /a`, or, of a newer and an older one, `SAME 2 1: children /a`.
 fn answer(alloc: Global, steps: &[Step], question: &str) -> Result<String, Fail> {
     let (head, line) = question.split_once(": ").unwrap_or((question, "all"));
     let words = words(alloc, head)?;

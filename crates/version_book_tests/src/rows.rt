@@ -150,6 +150,16 @@ pub fn read_text(alloc: Global, version: &Version, mark: &Mark) -> Result<String
     read_up_to(alloc, version, mark, u64::MAX)
 }
 
+/// The aliases of a version.
+pub fn aliases_text(alloc: Global, version: &Version) -> Result<String, Failed> {
+    let mut text = String::new(alloc);
+    let aliases = version.aliases()?;
+    let added = add_entries(alloc, &mut text, &aliases);
+    drop(aliases);
+    added?;
+    Ok(text)
+}
+
 fn add_children(
     alloc: Global,
     text: &mut String,

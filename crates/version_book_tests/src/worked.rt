@@ -90,6 +90,25 @@ CLONE 7: users d2 => 2.0 3.0
 CLONE 7: expiring 8 => 1.0 2.0 5.0
 ";
 
+/// The server's entries are the aliases, and those of its neighbours aren't.
+const ALIASES: &str = "
+create 2 /spire/server /x u:2 0
+create 1 /spire/server /y u:1 0
+create 3 /spire/serve /x u:3 0
+create 4 /spire/server/a /x u:4 0
+ALIASES 0 =>
+ALIASES 1 => 2.0
+ALIASES 4 => 1.0 2.0
+READS 4: children /spire/server => 1.0 2.0
+update 1 /a /y u:1 0
+ALIASES 5 => 2.0
+update 1 /spire/server /z u:1 0
+ALIASES 6 => 1.2 2.0
+delete 2
+ALIASES 7 => 1.2
+ALIASES 4 => 1.0 2.0
+";
+
 /// Agents and bundles, and whether what they read is unchanged.
 const ROWS: &str = "
 set_agent /spire/agent/m u:1
@@ -190,6 +209,11 @@ fn an_update_moves_an_entry_in_every_mark(rt: HostRuntime) -> Result<(), Fail> {
 #[test]
 fn marks_read_their_own_rows(rt: HostRuntime) -> Result<(), Fail> {
     plays(&rt, rt.alloc(), READ)
+}
+
+#[test]
+fn the_entries_of_the_server_are_the_aliases(rt: HostRuntime) -> Result<(), Fail> {
+    plays(&rt, rt.alloc(), ALIASES)
 }
 
 #[test]

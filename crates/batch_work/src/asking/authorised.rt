@@ -23,9 +23,8 @@ fn held_aliases(alloc: Global, version: &Version, agent: &Agent) -> Result<Vec<E
     ensures { IfOk result (λ aliases. aliases.items
         ≡ filter (holds (server_text version.now.domain) agent.now) (children_of (server_text version.now.domain) (book_in version.now))) }
 {
-    let server = version.server();
-    let aliases = version.children(server)?;
-    let held = held(alloc, server.get(), agent, aliases.as_slice());
+    let aliases = version.aliases()?;
+    let held = held(alloc, version.server().get(), agent, aliases.as_slice());
     drop(aliases);
     held
 }

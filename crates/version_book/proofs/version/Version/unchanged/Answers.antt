@@ -9,8 +9,8 @@ use Rattle.version_book.proofs.version.Version.unchanged.Goals as goal
 
 pub returns-clause-rows : goal.returns-clause-rows
 returns-clause-rows c =
-    let older : State = record { domain = c.older.inside.body.domain; number = c.older.inside.number; rows = c.older.inside.body.store } in
-    let newer : State = record { domain = c.self.inside.body.domain; number = c.self.inside.number; rows = c.self.inside.body.store } in
+    let older : State = record { domain = c.older.inside.body.names; number = c.older.inside.number; rows = c.older.inside.body.store } in
+    let newer : State = record { domain = c.self.inside.body.names; number = c.self.inside.number; rows = c.self.inside.body.store } in
     let tells = subst (λ o. NumbersTell o.store c.self.inside.body.store → IsTrue c.is_same_at.result → marked c.args.mark.now o.store ≡ marked c.args.mark.now c.self.inside.body.store) c.get.ensures
     (subst (λ s. NumbersTell c.get.result.now.store s.store → IsTrue c.is_same_at.result → marked c.args.mark.now c.get.result.now.store ≡ marked c.args.mark.now s.store) c.get-body.ensures c.is_same_at.ensures.tells) in
     subst (λ o. IsEarlier o c.args.self.now → IsTrue c.is_same_at.result → marked c.args.mark.now o.rows ≡ marked c.args.mark.now c.args.self.now.rows) c.older.view_is
@@ -19,8 +19,8 @@ returns-clause-rows c =
 
 pub returns-clause-reads : goal.returns-clause-reads
 returns-clause-reads c =
-    let older : State = record { domain = c.older.inside.body.domain; number = c.older.inside.number; rows = c.older.inside.body.store } in
-    let newer : State = record { domain = c.self.inside.body.domain; number = c.self.inside.number; rows = c.self.inside.body.store } in
+    let older : State = record { domain = c.older.inside.body.names; number = c.older.inside.number; rows = c.older.inside.body.store } in
+    let newer : State = record { domain = c.self.inside.body.names; number = c.self.inside.number; rows = c.self.inside.body.store } in
     let tells = subst (λ o. NumbersTell o.store c.self.inside.body.store → IsTrue c.is_same_at.result → marked c.args.mark.now o.store ≡ marked c.args.mark.now c.self.inside.body.store) c.get.ensures
     (subst (λ s. NumbersTell c.get.result.now.store s.store → IsTrue c.is_same_at.result → marked c.args.mark.now c.get.result.now.store ≡ marked c.args.mark.now s.store) c.get-body.ensures c.is_same_at.ensures.tells) in
     subst (λ o. IsEarlier o c.args.self.now → IsTrue c.is_same_at.result → Agree (book_of o.rows) (book_of c.args.self.now.rows) c.args.mark.now) c.older.view_is
@@ -29,8 +29,8 @@ returns-clause-reads c =
 
 pub returns-clause-hit : goal.returns-clause-hit
 returns-clause-hit c =
-    let older : State = record { domain = c.older.inside.body.domain; number = c.older.inside.number; rows = c.older.inside.body.store } in
-    let newer : State = record { domain = c.self.inside.body.domain; number = c.self.inside.number; rows = c.self.inside.body.store } in
+    let older : State = record { domain = c.older.inside.body.names; number = c.older.inside.number; rows = c.older.inside.body.store } in
+    let newer : State = record { domain = c.self.inside.body.names; number = c.self.inside.number; rows = c.self.inside.body.store } in
     let same = subst (λ o. marked c.args.mark.now o.store ≡ marked c.args.mark.now c.self.inside.body.store → IsTrue c.is_same_at.result) c.get.ensures
     (subst (λ s. marked c.args.mark.now c.get.result.now.store ≡ marked c.args.mark.now s.store → IsTrue c.is_same_at.result) c.get-body.ensures c.is_same_at.ensures.same) in
     subst (λ o. (batches : List Batch) → Follows o batches c.args.self.now → c.is_same_at.result ≡ false → any_hits c.args.mark.now o batches ≡ true) c.older.view_is

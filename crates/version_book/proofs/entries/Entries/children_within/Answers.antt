@@ -1,0 +1,14 @@
+use Rattle.std.proofs.Common.{map, ap, ◌∙◌}
+use Rattle.std.specs.Prelude.{bytes_eq, filter}
+use Rattle.std.specs.Map.{values_of}
+use Rattle.std.proofs.lemmas.Result.{IfOk-weaker}
+use Rattle.entry_book.specs.Rows.{Entry}
+use Rattle.version_book.specs.Index.{group_keys}
+use Rattle.version_book.specs.CommittedRows.{row_of}
+use Rattle.version_book.proofs.Ranges.{covers_children_at}
+use Rattle.version_book.proofs.entries.Entries.children_within.Goals as goal
+
+pub returns : goal.returns
+returns c = IfOk-weaker c.entries_between.result _ _ (λ found h parent bounds.
+    h group_keys (values_of c.self.inside.rows) (λ (entry : Entry). bytes_eq entry.parent parent) c.self.invariant.2 (covers_children_at parent c.args.bounds.now.0 c.args.bounds.now.1 bounds.low bounds.high) c.self.invariant.1
+    ∙ ap (λ rows. filter (λ (entry : Entry). bytes_eq entry.parent parent) (map row_of rows)) c.self.view_is) c.entries_between.ensures
