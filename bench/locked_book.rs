@@ -15,6 +15,8 @@ use std::time::{Duration, Instant};
 const OWN: &str = "ex.org";
 const AGENTS: u64 = 32;
 const ENTRIES: u64 = 10;
+/// Readers with an agent each ask for each ninth one.
+const APART: u64 = 9;
 /// A time is told in steps of so many nanoseconds, up to so many steps.
 const STEP: u64 = 50;
 const STEPS: usize = 200_000;
@@ -163,7 +165,7 @@ fn main() {
         let (book, stop, server) = (&book, &stop, &server);
         let asking: Vec<_> = (0..readers)
             .map(|reader| {
-                let agent = agent_id(if same > 0 { 0 } else { reader % AGENTS });
+                let agent = agent_id(if same > 0 { 0 } else { reader * APART % AGENTS });
                 scope.spawn(move || {
                     Times::of(stop, || {
                         let (_, entries) = book.read().unwrap().authorised(&agent, server);
