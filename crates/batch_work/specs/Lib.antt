@@ -1,5 +1,6 @@
 pub mod Bounds
 pub mod Laws
+pub mod LentReplies
 pub mod Places
 pub mod Questions
 pub mod Reads

@@ -1,6 +1,6 @@
 //! What is a batch that only asks answered, at once?
 //!
-//! Nothing commits on what it reads, so it keeps no marks and makes no steps.
+//! Nothing commits on what it reads, so it keeps no marks and makes no steps, and its rows are lent.
 
 ghost use Rattle.std.specs.Prelude.{◌≡◌, ◌++◌, ◌∷◌, [], IfOk, IfSome, true, ℕ};
 ghost use Rattle.std.specs.Option.{option_copied};
@@ -9,56 +9,46 @@ ghost use Rattle.entry_book.specs.History.{reply_with, verdict_run};
 ghost use Rattle.entry_book.specs.Ops.{op_of};
 ghost use Rattle.entry_book.specs.Pages.{listed, next_of};
 ghost use Rattle.entry_book.specs.Runs.{run};
+ghost use Rattle.batch_work.specs.LentReplies.{outcome_of};
 ghost use Rattle.batch_work.specs.Questions.{all_answered, answered};
 ghost use Rattle.batch_work.specs.Windows.{book_in};
 ghost use Rattle.batch_work.specs.Working.{MayBegin, base_in, reply_there, version_read};
 
 mod authorised;
+mod walk;
 
 use crate::asking::authorised::{authorised_reply, trust_reply};
+use crate::lent_reply::{LentOpReply, LentOutcome, LentReply, LentRows, lent};
 use crate::window::Window;
-use entry_book::{
-    Batch, Op, OpRefusal, OpReply, Outcome, PageQuery, Refusal, Reply, Sequence, Shared, beside,
-};
+use entry_book::{Batch, Op, OpRefusal, PageQuery, Refusal, Sequence};
 use std::alloc::{AllocError, Global};
 use version_book::Version;
 
-/// A copy of the row, where there is one. The error is that no more owners can be counted.
-fn copied<T: Clone>(row: Option<&T>) -> Result<Option<T>, AllocError>
-    requires clones { (one copy : T) → T.is_clone one copy → copy ≡ one }
-    ensures { IfOk result (λ copy. copy ≡ option_copied row.entry) }
-{
-    match row {
-        Some(row) => Ok(Some(row.clone()?)),
-        None => Ok(None),
-    }
-}
-
 /// A page of a version's entries. The error is want of memory.
-fn page(version: &Version, query: &PageQuery) -> Result<OpReply, AllocError>
-    ensures { IfOk result (λ reply. reply ≡ OpReply.Page (listed query.now (book_in version.now)) (next_of query.now (book_in version.now))) }
+fn page<'a>(version: &'a Version, query: &PageQuery) -> Result<LentRows<'a>, AllocError>
+    ensures { IfOk result (λ rows. rows ≡ LentRows.Page (listed query.now (book_in version.now)) (next_of query.now (book_in version.now))) }
 {
     let (entries, next) = version.page(query)?;
-    Ok(OpReply::Page(Sequence::of(entries), next))
+    Ok(LentRows::Page(Sequence::of(entries), next))
 }
 
 /// What an operation that only asks is replied on a version, or why it is refused. The error is want of memory.
-fn answer_op(
+fn answer_op<'a>(
     alloc: Global,
-    version: &Version,
+    version: &'a Version,
     op: &Op,
-) -> Result<Result<OpReply, OpRefusal>, AllocError>
+) -> Result<Result<LentOpReply<'a>, OpRefusal>, AllocError>
     requires question { is_question op.now ≡ true }
     ensures { IfOk result (λ answer. op_of version.now.domain op.now (book_in version.now) ≡ answered answer) }
 {
-    Ok(match op {
-        Op::Show(id) => Ok(OpReply::EntryShown(copied(version.entry(id))?)),
-        Op::ShowAgent(agent) => Ok(OpReply::AgentShown(copied(version.agent(agent))?)),
-        Op::ShowBundle(domain) => Ok(OpReply::BundleShown(copied(version.bundle(domain))?)),
-        Op::Children(parent) => Ok(OpReply::Entries(Sequence::of(version.children(parent)?))),
-        Op::Page(query) => Ok(page(version, query.get())?),
-        Op::Authorised(agent) => authorised_reply(alloc, version, agent)?,
-        Op::Trust(agent) => trust_reply(alloc, version, agent)?,
+    let rows = match op {
+        Op::Show(id) => LentRows::Entry(lent(version.entry(id))),
+        Op::ShowAgent(agent) => LentRows::Agent(lent(version.agent(agent))),
+        Op::ShowBundle(domain) => LentRows::Bundle(lent(version.bundle(domain))),
+        Op::Children(parent) => LentRows::Entries(Sequence::of(version.children(parent)?)),
+        Op::Page(query) => page(version, query.get())?,
+        Op::Authorised(agent) => return authorised_reply(alloc, version, agent),
+        Op::Trust(agent) => return trust_reply(alloc, version, agent),
         Op::Create(_)
         | Op::Update(_, _)
         | Op::Delete(_, _)
@@ -67,53 +57,43 @@ fn answer_op(
         | Op::DropAgent(_)
         | Op::SetBundle(_, _)
         | Op::DropBundle(_, _) => unreachable!(),
-    })
-}
-
-/// The replies with one more behind them. The error is want of memory.
-fn with_reply(
-    mut replies: Sequence<OpReply>,
-    reply: OpReply,
-) -> Result<Sequence<OpReply>, AllocError>
-    ensures { IfOk result (λ more. more ≡ replies ++ reply ∷ []) }
-{
-    replies.push(reply)?;
-    Ok(replies)
+    };
+    Ok(Ok(LentOpReply::of(rows)))
 }
 
 /// What operations that only ask are replied on a version, in order, or the first that is refused, counted from 0. The error
 /// is want of memory.
-fn answer_ops(
+fn answer_ops<'a>(
     alloc: Global,
-    version: &Version,
+    version: &'a Version,
     ops: &[Op],
-) -> Result<Result<Sequence<OpReply>, (usize, OpRefusal)>, AllocError>
+) -> Result<Result<Sequence<LentOpReply<'a>>, (usize, OpRefusal)>, AllocError>
     requires questions { is_query ops.now ≡ true }
     ensures { IfOk result (λ answers. run version.now.domain ops.now (book_in version.now) ≡ all_answered answers) }
 {
     let mut replies = Sequence::empty(alloc);
     for (index, op) in ops.iter().enumerate() {
-        let (earlier, answer) = beside(replies, answer_op(alloc, version, op))?;
-        match answer {
-            Ok(reply) => replies = with_reply(earlier, reply)?,
-            Err(reason) => {
-                drop(earlier);
-                return Ok(Err((index, reason)));
-            }
+        match answer_op(alloc, version, op)? {
+            Ok(reply) => replies.push(reply)?,
+            Err(reason) => return Ok(Err((index, reason))),
         }
     }
     Ok(Ok(replies))
 }
 
 /// What a batch that only asks comes to on the version that it reads. The error is want of memory.
-fn outcome_on(alloc: Global, version: &Version, ops: &[Op]) -> Result<Outcome, AllocError>
+fn outcome_on<'a>(
+    alloc: Global,
+    version: &'a Version,
+    ops: &[Op],
+) -> Result<LentOutcome<'a>, AllocError>
     requires questions { is_query ops.now ≡ true }
     ensures { IfOk result (λ outcome. (batch : BatchRow) (place : ℕ) → batch.ops ≡ ops.now → batch.domain ≡ version.now.domain
-        → reply_with place (verdict_run batch place (book_in version.now)) ≡ record { place = place; outcome = outcome }) }
+        → reply_with place (verdict_run batch place (book_in version.now)) ≡ record { place = place; outcome = outcome_of outcome }) }
 {
     match answer_ops(alloc, version, ops)? {
-        Ok(replies) => Ok(Outcome::Answered(Shared::of(alloc, replies)?)),
-        Err((index, reason)) => Ok(Outcome::Refused(Refusal::OfOp(index, reason))),
+        Ok(replies) => Ok(Ok(replies)),
+        Err((index, reason)) => Ok(Err(Refusal::OfOp(index, reason))),
     }
 }
 
@@ -129,30 +109,38 @@ fn version_in<'a>(batch: &Batch, window: &'a Window) -> Option<&'a Version>
 }
 
 /// What a batch that only asks comes to on a window. The error is want of memory.
-fn outcome_in(alloc: Global, batch: &Batch, window: &Window) -> Result<Outcome, AllocError>
+fn outcome_in<'a>(
+    alloc: Global,
+    batch: &Batch,
+    window: &'a Window,
+) -> Result<LentOutcome<'a>, AllocError>
     requires query { is_query batch.now.ops ≡ true }
     requires fits { MayBegin batch.now window.now }
     ensures { IfOk result (λ outcome. reply_there batch.now (base_in batch.now window.now)
-        ≡ record { place = window.now.newest.number; outcome = outcome }) }
+        ≡ record { place = window.now.newest.number; outcome = outcome_of outcome }) }
 {
     let ops = batch.ops();
     if window.newest().number() < batch.after() {
-        return Ok(Outcome::Refused(Refusal::NotYet));
+        return Ok(Err(Refusal::NotYet));
     }
     match version_in(batch, window) {
         Some(version) => outcome_on(alloc, version, ops),
-        None => Ok(Outcome::Refused(Refusal::OfOp(0, OpRefusal::VersionGone))),
+        None => Ok(Err(Refusal::OfOp(0, OpRefusal::VersionGone))),
     }
 }
 
-/// The reply to a batch that only asks: that of a work which begins on the window, once it is settled. The error is want of
-/// memory.
-pub fn answer(alloc: Global, batch: &Batch, window: &Window) -> Result<Shared<Reply>, AllocError>
+/// The reply to a batch that only asks: that of a work which begins on the window, once it is settled. The window lends the rows.
+/// The error is want of memory.
+pub fn answer<'a>(
+    alloc: Global,
+    batch: &Batch,
+    window: &'a Window,
+) -> Result<LentReply<'a>, AllocError>
     requires query { is_query batch.now.ops ≡ true }
     requires fits { MayBegin batch.now window.now }
     ensures { IfOk result (λ reply. reply ≡ reply_there batch.now (base_in batch.now window.now)) }
 {
     let outcome = outcome_in(alloc, batch, window)?;
     let place = window.newest().number();
-    Shared::of(alloc, Reply { place, outcome })
+    Ok(LentReply::of(place, outcome))
 }

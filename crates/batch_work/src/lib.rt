@@ -8,12 +8,14 @@
 //! - [`Work`]: a batch on its way. It begins on a window, makes a read with each step, and is then ready for its commit, or
 //!   settled; [`Status`] says which.
 //! - [`answer`]: the reply to a batch that only asks, at once: nothing commits on what it reads, so there are no steps and no marks.
+//! - [`LentReply`]: such a reply, whose rows are lent by the version that was asked, so that no owner of a row is counted; it is made
+//!   of a [`LentOpReply`] for each operation, which has its [`LentRows`].
 //! - [`Window`]: the last 64 versions of one history. A batch reads the newest, or for the page of an earlier book that one.
 //! - [`laws`]: what is read decides what a batch comes to; what becomes of it at a commit; how many reads it makes, and which;
 //!   what a window shows of the list of all books.
 //!
 //! The definitions stand in `specs/`: the table of reads and the footprint of a batch in `Reads`, what a work is in `Working`,
-//! what a window shows in `Windows`, the laws in `Laws`, `Bounds` and `Walked`; the others are for this crate's own contracts.
+//! what a window shows in `Windows`, what rows that are lent reply in `LentReplies`, the laws in `Laws`, `Bounds` and `Walked`; the others are for this crate's own contracts.
 //! Nothing outside this crate knows how a work keeps its course:
 //!
 //! - `begin`: what a batch begins on; `look`: what its next read shows; `take`: what becomes of it then; `stage`: where it stands
@@ -28,6 +30,7 @@ mod asking;
 mod begin;
 mod domains;
 pub mod laws;
+mod lent_reply;
 mod look;
 mod phase;
 mod rows;
@@ -40,6 +43,7 @@ mod window;
 mod work;
 
 pub use asking::answer;
+pub use lent_reply::{LentOpReply, LentReply, LentRows};
 pub use status::Status;
 pub use window::Window;
 pub use work::Work;

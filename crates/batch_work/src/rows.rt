@@ -30,7 +30,7 @@ pub(crate) fn similar_in<'a>(entries: &'a [Entry], new: &Entry) -> Option<&'a En
 }
 
 /// Is the entry an alias, and does the agent have all of its selectors?
-fn holds(server: &SpiffeId, agent: &Agent, entry: &Entry) -> bool
+pub(crate) fn holds(server: &SpiffeId, agent: &Agent, entry: &Entry) -> bool
     ensures { result ≡ holds server.now agent.now entry.now }
 {
     entry.parent().get() == server && entry.selectors().get().within(agent.selectors.get())

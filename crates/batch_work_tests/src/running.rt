@@ -73,7 +73,10 @@ fn answered_text(alloc: Global, window: &Window, batch: &Batch) -> Result<String
     if !batch.is_query() || !may_begin(window, batch) {
         return Err(Fail::from("no window for this question"));
     }
-    let reply = answer(alloc, batch, window)?;
+    let lent = answer(alloc, batch, window)?;
+    let reply = lent.kept(alloc);
+    drop(lent);
+    let reply = reply?;
     let text = reply_text(alloc, reply.get());
     drop(reply);
     Ok(text?)

@@ -29,7 +29,7 @@ use Rattle.line_reading.specs.declared.fault.Fault.{Fault}
 use Rattle.line_reading.specs.declared.fault.Field.{Field}
 use Rattle.line_reading.specs.declared.refusal.LineRefusal.{LineRefusal}
 use Rattle.reg_lines.specs.Refusals.{fault_json, failure_json, no_memory_json, op_member, refusal_json}
-use Rattle.reg_lines.specs.Replies.{agent_json, bundle_json, detail_member, dropped_json, entry_json, given_lifetime, lifetime_member, op_reply_json, selector_json, uuid_json, uuid_text, under, done_json, refused_json, outcome_json, reply_json, page_json, conflict_json}
+use Rattle.reg_lines.specs.Replies.{agent_json, bundle_json, detail_member, dropped_json, entry_json, given_lifetime, lifetime_member, op_reply_json, selector_json, uuid_json, uuid_text, under, done_json, done_of, refused_json, outcome_json, reply_json, page_json, page_of, conflict_json}
 use Rattle.reg_lines.specs.Values.{whole, if_due, list_data, option_data, uuid_data, selector_data, agent_data, bundle_data, dropped_data, entry_data, op_reply_data, done_data, refused_data, outcome_data, reply_data, fault_data, failure_data, refusal_data, page_data, conflict_data}
 
 same_for_all : (f g : ℕ → List ℕ) → ((b : ℕ) → f b ≡ g b) → (s : List ℕ) → flat_map f s ≡ flat_map g s
@@ -171,7 +171,7 @@ next-is : (next : Option (List ℕ)) → option_json uuid_json next ≡ compact_
 next-is next = option_json-is uuid_json uuid_data (λ id. text_json-is (uuid_text id)) next
 
 page_json-is : (es : List Entry) (next : Option (List ℕ)) → page_json es next ≡ compact_text (page_data es next)
-unfolding page_json serde_json_on_literals
+unfolding page_of serde_json_on_literals
 page_json-is es next =
     left-right (codes "{\"entries\":") (
     list_json entry_json es
@@ -200,7 +200,7 @@ replies-are : (rs : List OpReply) → list_json op_reply_json rs ≡ compact_tex
 replies-are rs = list_json-is op_reply_json op_reply_data op_reply_json-is rs
 
 done_json-is : (call place : ℕ) (rs : List OpReply) (word : List ℕ) → done_json call place rs word ≡ compact_text (done_data call place rs word)
-unfolding done_json serde_json_on_literals
+unfolding done_of serde_json_on_literals
 done_json-is call place rs word =
     left-right (codes "{\"call\":") (
     decimal call

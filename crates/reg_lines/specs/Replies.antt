@@ -72,12 +72,15 @@ bundle_json b =
 unfoldable pub under : List ℕ → List ℕ → List ℕ
 under key text = codes "{" ++ text_json key ++ codes ":" ++ text ++ codes "}"
 
--- the entries of a page, and the id after which the next one begins, or null
-unfoldable pub page_json : List Entry → Option (List ℕ) → List ℕ
-page_json es next =
-    codes "{\"entries\":" ++ list_json entry_json es
+-- the entries of a page, each printed so, and the id after which the next one begins, or null
+unfoldable pub page_of : {X : Type 0} → (X → List ℕ) → List X → Option (List ℕ) → List ℕ
+page_of text es next =
+    codes "{\"entries\":" ++ list_json text es
     ++ codes ",\"next\":" ++ option_json uuid_json next
     ++ codes "}"
+
+abbrev pub page_json : List Entry → Option (List ℕ) → List ℕ
+page_json es next = page_of entry_json es next
 
 -- what was dropped with a bundle: the ids that were deleted, and those that were dissociated
 unfoldable pub dropped_json : List (List ℕ) → List (List ℕ) → List ℕ
@@ -102,13 +105,17 @@ op_reply_json (replied.Dropped deleted dissociated) = dropped_json deleted disso
 
 -- ---- the reply to a batch, with its call number
 
-unfoldable pub done_json : ℕ → ℕ → List OpReply → List ℕ → List ℕ
-done_json call place replies result =
+-- the operations were all answered, with replies each of which is printed so
+unfoldable pub done_of : {X : Type 0} → (X → List ℕ) → ℕ → ℕ → List X → List ℕ → List ℕ
+done_of text call place replies result =
     codes "{\"call\":" ++ decimal call
     ++ codes ",\"place\":" ++ decimal place
-    ++ codes ",\"replies\":" ++ list_json op_reply_json replies
+    ++ codes ",\"replies\":" ++ list_json text replies
     ++ codes ",\"result\":" ++ text_json result
     ++ codes "}"
+
+abbrev pub done_json : ℕ → ℕ → List OpReply → List ℕ → List ℕ
+done_json call place replies result = done_of op_reply_json call place replies result
 
 -- what a refusal is about, where its code says of what kind that is: a similar entry, a missing domain
 abbrev pub op_detail_member : OpRefusal → List ℕ

@@ -2,13 +2,14 @@
 //!
 //! - `print_json`: a value that has one JSON text, which it puts piece by piece; `text`: a text as a JSON string.
 //! - `names`, `book_rows`: what a book holds; `marks`: what a call read.
-//! - `replies`, `events`, `refusal`, `seats`: the lines that go out.
+//! - `replies`, `lent_replies`, `events`, `refusal`, `seats`: the lines that go out.
 //! - `batches`, `records`: what was asked, as a record of a call has it.
 //! - `values`: which JSON values these lines are; `written`: what the types of a record's parts see to.
 
 pub(crate) mod batches;
 pub(crate) mod book_rows;
 pub(crate) mod events;
+pub(crate) mod lent_replies;
 pub(crate) mod marks;
 pub(crate) mod names;
 pub(crate) mod print_json;
@@ -21,6 +22,7 @@ pub(crate) mod values;
 pub(crate) mod written;
 
 pub use events::{CallOrder, EventRefused};
+pub use lent_replies::LentCallReply;
 pub use print_json::{PrintJson, print_line, print_list, print_number};
 pub use records::CallRecord;
 pub use replies::{CallConflict, CallReply};

@@ -1,5 +1,5 @@
 -- What the engine `session` answers, line by line.
-use Rattle.std.specs.Prelude.{◌≡◌, ◌≤◌, ◌^◌, ℕ, ◌+◌, true, false, List, [], Result, Ok, Err, refl}
+use Rattle.std.specs.Prelude.{◌≡◌, ◌⊎◌, ◌≤◌, ◌^◌, ⊤, ℕ, ◌+◌, true, false, List, [], Result, Ok, Err, refl}
 use Rattle.rand_chacha.specs.ChaCha.{ChaCha}
 use Rattle.entry_book.specs.Batches.{is_query}
 use Rattle.entry_book.specs.History.{books_of, reply_to}
@@ -27,6 +27,8 @@ use Rattle.line_engines.specs.Driver.{RunsOver}
 use Rattle.line_engines.specs.declared.fault.RunFault.{RunFault}
 use Rattle.reg_programs.specs.declared.session_engine.LineAnswer.{LineAnswer}
 use Rattle.reg_programs.specs.declared.session_engine.LineAnswer.TheVariants.{Shared, Own, Conflicted, NotAnswered, NotRead}
+use Rattle.reg_programs.specs.declared.session_engine.Taken.{Taken}
+use Rattle.reg_programs.specs.declared.session_engine.Taken.TheVariants.{Answered, Asked}
 
 -- What a session has come to: the seat, which counts its calls, with the lists that it has seen and was told of; the ids that are still to be given; and how many lines were read.
 pub record Session : Type 0 where
@@ -62,10 +64,11 @@ outcome_json call line NoEntry = seat_refusal_json line WasNotLetIn
 
 -- ---- a call of the seat, and its answer
 
--- What a seat is answered to a request, as it is printed, and what the seat is then. A question has the plain book's reply on the books of what the seat has then seen. A batch of changes is answered as the registry promises it, with the tries that the request gives.
+-- What a seat is answered to a request, as it is printed, and what the seat is then. A question has the plain book's reply on the books of what the seat has then seen; where memory is wanting for that reply alone, the seat has seen these books all the same. A batch of changes is answered as the registry promises it, with the tries that the request gives.
 pub data AnswersCall (domain : Bytes) (s : Seated) (request : Request) (line : ℕ) (t : Seated) (text : List ℕ) : Type 0 where
   replied : is_query request.batch.ops ≡ true → Entered domain s t → t.own ≡ s.own → text ≡ reply_json t.calls (reply_to request.batch (books_of (batches_of t.seen))) → AnswersCall domain s request line t text
   no_reply : (why : NoAnswer) → is_query request.batch.ops ≡ true → Stays domain s t → t.own ≡ s.own → text ≡ no_answer_json line why → AnswersCall domain s request line t text
+  unanswered : is_query request.batch.ops ≡ true → Entered domain s t → t.own ≡ s.own → text ≡ no_memory_json line → AnswersCall domain s request line t text
   submitted : (outcome : Outcome) → is_query request.batch.ops ≡ false → Along domain s t → HasHeard s t outcome → IsSubmitted s t request.batch request.tries outcome → text ≡ outcome_json t.calls line outcome → AnswersCall domain s request line t text
 
 -- ---- a line, and its answer
@@ -99,6 +102,16 @@ line_answer_json (Own call reply) = reply_json call reply
 line_answer_json (Conflicted conflict) = conflict_json conflict.call conflict.place
 line_answer_json (NotAnswered r) = seat_refusal_json r.line r.refusal
 line_answer_json (NotRead r) = refusal_json r
+
+-- A question is the seat's to answer: the seat has just looked at what is published.
+abbrev pub IsToAnswer : Bytes → Seated → Taken → Type 0
+IsToAnswer domain seat (Answered a) = ⊤
+IsToAnswer domain seat (Asked line batch) = (seat.found ≡ seat.seen) × (is_query batch.ops ≡ true) × (batch.domain ≡ domain)
+
+-- What is printed of a line that was taken: what it is answered, or the reply to a question on the books of what the seat has seen, or that memory is wanting for it.
+abbrev pub IsTextOf : Seated → Taken → List ℕ → Type 0
+IsTextOf seat (Answered a) text = text ≡ line_answer_json a
+IsTextOf seat (Asked line batch) text = (text ≡ reply_json seat.calls (reply_to batch (books_of (batches_of seat.seen)))) ⊎ (text ≡ no_memory_json line)
 
 -- One line was taken: its reply has this text, and this is where it left the seat and the ids.
 pub record TakesRequestLine (domain : Bytes) (now : Session) (line : List ℕ) (text : List ℕ) (seat : Seated) (ids : ChaCha) : Type 0 where

@@ -1,14 +1,16 @@
 //! How is an input of request lines answered through a seat of a shared registry?
 
-ghost use Rattle.std.specs.Prelude.{◌≡◌, ◌+◌, ◌<◌, ◌^◌, [], true, false};
-ghost use Rattle.entry_book.specs.Batches.{is_query};
-ghost use Rattle.reg_programs.specs.Sessions.{AnswersCall, Grew, RunsSession, Session, SessionsGrow, TakesRequestLine, line_answer_json, no_answer_json, outcome_json};
+ghost use Rattle.std.specs.Prelude.{◌≡◌, ◌+◌, ◌<◌, ◌^◌, [], List, true, false, ℕ};
+ghost use Rattle.reg_lines.specs.Refusals.{no_memory_json, refusal_json};
+ghost use Rattle.reg_lines.specs.Stream.{Puts};
+ghost use Rattle.line_engines.specs.Answers.{as_line};
+ghost use Rattle.reg_programs.specs.Sessions.{AnswersCall, Grew, IsTextOf, IsToAnswer, RunsSession, Session, SessionsGrow, TakesRequestLine, line_answer_json, no_answer_json, outcome_json};
 
-use entry_book::{Outcome as BatchOutcome, Reply, Shared};
+use entry_book::{Batch, Outcome as BatchOutcome, Reply, Shared};
 use line_engines::{Answerer, RunFault, run_lines};
 use reg_lines::{
-    CallConflict, CallReply, Ids, Input, LineRefusal, Output, PrintJson, Request, SeatRefusal,
-    SeatRefused, Sink, Source, print_line, read_request,
+    CallConflict, CallReply, Ids, Input, LentCallReply, LineRefusal, Output, PrintJson, Request,
+    SeatRefusal, SeatRefused, Sink, Source, print_line, read_request,
 };
 use shared_registry::{Naming, NoAnswer, OpenGate, Outcome, Registry, Seat};
 use spiffe_name::{Failure, TrustDomain};
@@ -110,7 +112,7 @@ impl<'a, J: Naming, R: Wait> Answerer for SessionRun<'a, J, R> {
     ghost some_answer = { λ _. a_request_answer J.domain };
 
     fn answer<K: Sink>(&mut self, alloc: Global, line: &[u8], output: &mut Output<K>) -> bool {
-        let answer = take(
+        let taken = take(
             self.rt,
             alloc,
             self.registry,
@@ -121,7 +123,7 @@ impl<'a, J: Naming, R: Wait> Answerer for SessionRun<'a, J, R> {
             line,
         );
         self.lines += 1;
-        print_line(&answer, output);
+        print_taken(&self.seat, &taken, output);
         true
     }
 
@@ -167,7 +169,33 @@ impl PrintJson for LineAnswer {
     }
 }
 
-/// Takes one line, of which `lines` came before: what it is answered.
+/// What has become of a line.
+#[derive(Drop)]
+pub(crate) enum Taken {
+    /// It is answered so.
+    Answered(LineAnswer),
+    /// The line of this number asks this, and the seat, which has looked, is to answer it.
+    Asked(u64, Batch),
+}
+
+/// Prints the reply to a line that was taken. The seat lends the rows of its answer.
+fn print_taken<J: Naming, K: Sink>(seat: &Seat<J>, taken: &Taken, output: &mut Output<K>)
+    requires { IsToAnswer J.domain seat.now taken.now }
+    ensures { (text : List ℕ) × IsTextOf seat.now taken.now text × Puts output.old output.new (as_line text) }
+{
+    match taken {
+        Taken::Answered(answer) => print_line(answer, output),
+        Taken::Asked(line, batch) => match seat.answer(batch) {
+            Ok(reply) => {
+                let call = seat.calls();
+                print_line(&LentCallReply { call, reply }, output);
+            }
+            Err(AllocError) => print_line(&no_memory(*line), output),
+        },
+    }
+}
+
+/// Takes one line, of which `lines` came before: what has become of it.
 fn take<J: Naming, R: Wait>(
     rt: &R,
     alloc: Global,
@@ -177,47 +205,63 @@ fn take<J: Naming, R: Wait>(
     ids: &mut Ids,
     lines: u64,
     line: &[u8],
-) -> LineAnswer
+) -> Taken
     requires domain { domain.now ≡ J.domain }
     requires lines { lines + 1 < 2 ^ 64 }
-    ensures line { TakesRequestLine J.domain (record { seat = seat.old; ids = ids.old; lines = lines }) line.now (line_answer_json result) seat.new ids.new }
+    ensures asked { IsToAnswer J.domain seat.new result }
+    ensures line { (text : List ℕ) → IsTextOf seat.new result text
+        → TakesRequestLine J.domain (record { seat = seat.old; ids = ids.old; lines = lines }) line.now text seat.new ids.new }
 {
     match read_request(alloc, domain, ids, line, lines + 1) {
-        Err(refusal) => LineAnswer::NotRead(refusal),
+        Err(refusal) => Taken::Answered(LineAnswer::NotRead(refusal)),
         Ok(request) => {
             if seat.has_calls() {
                 call(rt, registry, seat, request, lines + 1)
             } else {
-                LineAnswer::NotAnswered(SeatRefused {
+                Taken::Answered(LineAnswer::NotAnswered(SeatRefused {
                     line: lines + 1,
                     refusal: SeatRefusal::Spent,
-                })
+                }))
             }
         }
     }
 }
 
-/// Makes a call of the seat, for the request of the line of this number: what it is answered.
+/// Makes a call of the seat, for the request of the line of this number: what has become of it.
 fn call<J: Naming, R: Wait>(
     rt: &R,
     registry: &Registry<J>,
     seat: &mut Seat<J>,
     request: Request,
     line: u64,
-) -> LineAnswer
+) -> Taken
     requires domain { request.batch.domain ≡ J.domain }
     requires calls { seat.old.calls < 2 ^ 48 }
-    ensures answers { AnswersCall J.domain seat.old request line seat.new (line_answer_json result) }
+    ensures asked { IsToAnswer J.domain seat.new result }
+    ensures answers { (text : List ℕ) → IsTextOf seat.new result text → AnswersCall J.domain seat.old request line seat.new text }
 {
     let Request { batch, tries } = request;
     if batch.is_query() {
-        match registry.query(seat, batch) {
-            Ok(reply) => LineAnswer::Shared(seat.calls(), reply),
-            Err(why) => not_answered(line, why),
+        match seat.look() {
+            Ok(()) => Taken::Asked(line, batch),
+            Err(why) => {
+                drop(batch);
+                Taken::Answered(not_answered(line, why))
+            }
         }
     } else {
         let outcome = registry.submit(rt, seat, &OpenGate, batch, tries.count() as u32);
-        outcome_of(seat.calls(), line, outcome)
+        Taken::Answered(outcome_of(seat.calls(), line, outcome))
+    }
+}
+
+/// That memory is wanting for the answer to the line of this number.
+fn no_memory(line: u64) -> LineRefusal
+    ensures { refusal_json result ≡ no_memory_json line }
+{
+    LineRefusal {
+        line,
+        failure: Failure::NoMemory,
     }
 }
 
@@ -226,10 +270,7 @@ fn not_answered(line: u64, why: NoAnswer) -> LineAnswer
     ensures { line_answer_json result ≡ no_answer_json line why }
 {
     match why {
-        NoAnswer::NoMemory => LineAnswer::NotRead(LineRefusal {
-            line,
-            failure: Failure::NoMemory,
-        }),
+        NoAnswer::NoMemory => LineAnswer::NotRead(no_memory(line)),
         NoAnswer::NoEntry => LineAnswer::NotAnswered(SeatRefused {
             line,
             refusal: SeatRefusal::NoEntry,

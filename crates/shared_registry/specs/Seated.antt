@@ -6,13 +6,14 @@ use Rattle.commit_head.specs.declared.item.Item.{Item}
 use Rattle.commit_head.specs.Journals.{IsLawfulJournal}
 use Rattle.shared_registry.specs.Seats.{AllBelow, calls_of}
 
--- The seat's number, how many calls it has made, the journal that it has seen, the longest that it was told of, and the numbers of its own committed calls.
+-- The seat's number, how many calls it has made, the journal that it has seen, the longest that it was told of, the numbers of its own committed calls, and the journal that it found published when it last looked.
 pub record Seated : Type 0 where
   pub number : ℕ
   pub calls : ℕ
   pub seen : List Item
   pub told : List Item
   pub own : List ℕ
+  pub found : List Item
 
 -- What stays or grows at a call that takes a call number: the number is above those of the seat's own calls so far; what is seen is a lawful journal that begins with what was seen, and its items under this seat are the seat's own calls.
 pub record Along (domain : Bytes) (s t : Seated) : Type 0 where

@@ -15,7 +15,7 @@ use crate::history::{Front, Naming};
 use crate::published::Published;
 use crate::rule::{Rule, Sees, View};
 use crate::run::{begun, ran};
-use batch_work::{Work, answer};
+use batch_work::{LentReply, Work, answer};
 use commit_head::Item;
 use entry_book::{Batch, Reply, Shared};
 use left_right::reader::Reader;
@@ -78,7 +78,7 @@ impl<J: Naming> Model for Seat<J> {
 
     ghost Value = { Seated };
 
-    ghost view = { λ s. record { number = s.number; calls = s.calls; seen = s.seen; told = s.told; own = calls_of s.number s.seen } };
+    ghost view = { λ s. record { number = s.number; calls = s.calls; seen = s.seen; told = s.told; own = calls_of s.number s.seen; found = s.page.journal } };
 
     ghost invariant = { λ s. (s.number < 32) × (s.count ≡ length (calls_of s.number s.seen)) × AllBelow (s.calls + 1) (calls_of s.number s.seen) × IsSome s.reader × IsOf J.history J.domain s.page };
 }
@@ -243,7 +243,45 @@ impl<J: Naming> Seat<J> {
         }
     }
 
-    /// The answer to a query, on the books of what is then seen. It waits for nobody.
+    /// Looks at what is published, for a query, which is one call. The seat has then seen it. It waits for nobody.
+    pub fn look(&mut self) -> Result<(), NoAnswer>
+        requires has_calls { self.old.calls < 2 ^ 48 }
+        ensures found { IfOk result (λ _. self.new.found ≡ self.new.seen) }
+        ensures entered { MatchResult result (λ _. Entered J.domain self.old self.new) (λ _. Stays J.domain self.old self.new) }
+        ensures own { self.new.own ≡ self.old.own }
+    {
+        let _before = self.seen.len();
+        self.calls += 1;
+        let found = find(
+            &mut self.reader,
+            &mut self.page,
+            &self.seen,
+            &self.told,
+            self.number,
+            self.count,
+        );
+        let front = match found {
+            Ok(front) => front,
+            Err(why) => return Err(why),
+        };
+        let _after = front.len();
+        self.seen = front;
+        Ok(())
+    }
+
+    /// The answer to a query, on the books of what the seat has seen, which it has just looked at. The seat lends its rows, so that
+    /// no owner of a row is counted. It waits for nobody. The error is want of memory.
+    pub fn answer(&self, batch: &Batch) -> Result<LentReply<'_>, AllocError>
+        requires found { self.now.found ≡ self.now.seen }
+        requires query { is_query batch.now.ops ≡ true }
+        requires domain { batch.now.domain ≡ J.domain }
+        ensures answer { IfOk result (λ reply. reply ≡ reply_to batch.now (books_of (batches_of self.now.seen))) }
+        ensures place { IfOk result (λ reply. reply.place ≡ length self.now.seen) }
+    {
+        lent_answer(self.alloc, &self.page, batch)
+    }
+
+    /// The answer to a query, on the books of what is then seen, with rows of its own. It waits for nobody.
     pub fn query(&mut self, batch: Batch) -> Result<Shared<Reply>, NoAnswer>
         requires has_calls { self.old.calls < 2 ^ 48 }
         requires query { is_query batch.ops ≡ true }
@@ -359,15 +397,31 @@ fn find<J: Naming>(
     }
 }
 
-/// What a query is answered on what is published. The error is want of memory.
+/// What a query is answered on what is published, which lends the rows. The error is want of memory.
+fn lent_answer<'a>(
+    alloc: Global,
+    page: &'a Published,
+    batch: &Batch,
+) -> Result<LentReply<'a>, AllocError>
+    requires query { is_query batch.now.ops ≡ true }
+    requires domain { batch.now.domain ≡ page.now.window.newest.domain }
+    ensures answer { IfOk result (λ reply. reply ≡ reply_to batch.now (books_of (batches_of page.now.journal))) }
+    ensures place { IfOk result (λ reply. reply.place ≡ length page.now.journal) }
+{
+    let _ = batch.ops();
+    answer(alloc, batch, page.window())
+}
+
+/// What a query is answered on what is published, with rows of its own. The error is want of memory.
 fn answered(alloc: Global, page: &Published, batch: Batch) -> Result<Shared<Reply>, AllocError>
     requires query { is_query batch.ops ≡ true }
     requires domain { batch.domain ≡ page.now.window.newest.domain }
     ensures answer { IfOk result (λ reply. reply ≡ reply_to batch (books_of (batches_of page.now.journal))) }
     ensures place { IfOk result (λ reply. reply.place ≡ length page.now.journal) }
 {
-    let _ = batch.ops();
-    let reply = answer(alloc, &batch, page.window());
+    let lent = lent_answer(alloc, page, &batch)?;
+    let reply = lent.kept(alloc);
+    drop(lent);
     drop(batch);
     reply
 }

@@ -52,9 +52,11 @@ pub fn without_tries(text: &str) -> &str {
     text.split_once("; ").unwrap_or((text, "")).1
 }
 
-/// The answer to a query. There is nothing here to wait with.
+/// The answer to a query, with rows of its own, or with rows that the seat lends, at each other call. There is nothing here to wait
+/// with.
 fn query<J: Naming>(
     registry: &Registry<J>,
+    alloc: Global,
     own: &TrustDomain,
     seat: &mut Seat<J>,
     batch: Batch,
@@ -64,7 +66,15 @@ fn query<J: Naming>(
     if batch.domain() != own || !batch.is_query() || !seat.has_calls() {
         return Err(Failed("a batch isn't for a query"));
     }
-    Ok(registry.query(seat, batch)?)
+    if seat.calls().is_multiple_of(2) {
+        return Ok(registry.query(seat, batch)?);
+    }
+    seat.look()?;
+    let lent = seat.answer(&batch)?;
+    let reply = lent.kept(alloc);
+    drop(lent);
+    drop(batch);
+    Ok(reply?)
 }
 
 /// Learns a receipt. There is nothing here to wait with, either.
@@ -141,7 +151,7 @@ impl<'a, J: Naming, R: Wait + Clock> Site<'a, J, R> {
 
     /// The answer to a query, as text.
     fn asks(&self, seat: &mut Seat<J>, batch: Batch) -> Result<String, Failed> {
-        let reply = query(&self.registry, &self.domain, seat, batch)?;
+        let reply = query(&self.registry, self.alloc, &self.domain, seat, batch)?;
         Ok(reply_text(self.alloc, reply.get())?)
     }
 

@@ -107,9 +107,6 @@ module _ {K : Type 0} (cmp : K → K → Ordering) (keys : Entry → List K) (p 
   at_bounds : (lo hi low high : K) → lo ≡ low → hi ≡ high → Covers cmp keys lo hi p → Covers cmp keys low high p
   at_bounds lo hi low high l h c = subst (λ k. Covers cmp keys k high p) l (subst (λ k. Covers cmp keys lo k p) h c)
 
-pub covers_children_at : (parent : Bytes) (lo hi : GroupKey) → lo ≡ (At parent, Start, Start) → hi ≡ (At parent, End, End) → Covers group_cmp group_keys lo hi (λ e. bytes_eq e.parent parent)
-covers_children_at parent lo hi low high = at_bounds group_cmp group_keys (λ e. bytes_eq e.parent parent) (At parent, Start, Start) (At parent, End, End) lo hi (sym low) (sym high) (covers_children parent)
-
 pub covers_groups_of : (m : MarkKind) (lo hi : GroupKey) → index_range_of m ≡ Groups lo hi → Covers group_cmp group_keys lo hi (names_entry m)
 covers_groups_of (mark.Group parent identity) lo hi e =
     let low : (At parent, At identity, Start) ≡ lo = cc in

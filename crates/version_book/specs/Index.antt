@@ -46,11 +46,6 @@ pub record IsIndex {K : Type 0} (keys : Entry → List K) (rows : List (Committe
 abbrev pub is_between : {K : Type 0} → (K → K → Ordering) → K → K → K → Bool
 is_between cmp lo hi k = is_ge (cmp k lo) && is_lt (cmp k hi)
 
--- The bounds of the keys of a parent's entries.
-pub record AreBoundsOf (parent : Bytes) (bounds : GroupKey × GroupKey) : Type 0 where
-  pub low : bounds.0 ≡ (At parent, Start, Start)
-  pub high : bounds.1 ≡ (At parent, End, End)
-
 -- The range has just the entries that pass the test, each under one key.
 pub record Covers {K : Type 0} (cmp : K → K → Ordering) (keys : Entry → List K) (lo hi : K) (p : Entry → Bool) : Type 0 where
   pub sound : (e : Entry) (k : K) → Within (keys e) k → is_between cmp lo hi k ≡ true → p e ≡ true

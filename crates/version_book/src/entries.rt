@@ -1,14 +1,16 @@
 //! How are the entries of a version kept?
 
 ghost use Rattle.std.specs.Prelude.{◌≡◌, IfOk};
-ghost use Rattle.version_book.specs.Index.{AreBoundsOf, group_keys, user_keys, expiry_keys};
+ghost use Rattle.version_book.specs.Index.{group_keys, user_keys, expiry_keys};
 
 use crate::changes::RowChange;
 use crate::committed_row::{CommittedRow, is_same_row, lent, row_alone};
-use crate::index::{entries_between, same_between, with_keys, without_keys};
+use crate::index::{entries_between, lent_between, same_between, with_keys, without_keys};
 use crate::key::{ExpiryKey, GroupKey, KeyPart, UserKey};
+use crate::lent::Lent;
 use crate::mark::{IndexRange, Mark, MarkKind};
 use crate::page::page_of;
+use crate::parent::{ParentEnd, ParentStart};
 use entry_book::{Entry, PageQuery, Shared, both};
 use spiffe_name::SpiffeId;
 use std::alloc::{AllocError, Global};
@@ -80,26 +82,12 @@ fn expiry_keys(alloc: Global, entry: &Entry) -> Result<Vec<ExpiryKey>, AllocErro
     Ok(keys)
 }
 
-/// The bounds of the keys of a parent's entries. The error is that no more owners can be counted.
-pub(crate) fn children_between(
-    parent: &Shared<SpiffeId>,
-) -> Result<(GroupKey, GroupKey), AllocError>
-    ensures { IfOk result (AreBoundsOf parent.now) }
-{
-    let (low, high) = both(parent.clone(), parent.clone())?;
-    Ok((
-        (KeyPart::At(low), KeyPart::Start, KeyPart::Start),
-        (KeyPart::At(high), KeyPart::End, KeyPart::End),
-    ))
-}
-
 impl Entries {
     ghost use Rattle.std.specs.Prelude.{◌≡◌, ◌&&◌, ◌+◌, ◌≤◌, [], IfOk, IfSome, IsTrue, List, Some, None, bytes_eq, filter, length, map, nat_lt, option_map, take, if◌then◌else◌, ℕ};
     ghost use Rattle.std.specs.Option.{option_copied};
     ghost use Rattle.entry_book.specs.Order.{Ascending, Within, first, with_row};
     ghost use Rattle.entry_book.specs.Pages.{comes_after, last_id, passes};
     ghost use Rattle.entry_book.specs.Rows.{Entry as EntryRow, entry_key};
-    ghost use Rattle.version_book.specs.Index.{AreBoundsOf};
     ghost use Rattle.version_book.specs.Marks.{names_entry};
     ghost use Rattle.version_book.specs.CommittedRows.{numbered, of_row, row_of};
     ghost use Rattle.version_shelf.specs.Shelf.{most_rows};
@@ -205,39 +193,29 @@ impl Entries {
         lent(self.rows.get(id))
     }
 
-    /// The entries of a parent, in the order of their ids. The error is want of memory.
+    /// The entries of a parent, lent, in the order of their ids. The error is want of memory.
     pub(crate) fn children(
         &self,
         alloc: Global,
         parent: &Shared<SpiffeId>,
-    ) -> Result<Vec<Entry>, AllocError>
+    ) -> Result<Vec<Lent<'_, Entry>>, AllocError>
         ensures { IfOk result (λ found. found.items ≡ filter (λ (entry : EntryRow). bytes_eq entry.parent parent.now) (map row_of self.now)) }
     {
-        let bounds = children_between(parent)?;
-        let found = self.children_within(alloc, &bounds);
-        drop(bounds);
-        found
+        lent_between(
+            alloc,
+            &self.groups,
+            &ParentStart { parent },
+            &ParentEnd { parent },
+        )
     }
 
-    /// The entries of the parent of which these are the bounds, in the order of their ids. The error is want of memory.
-    pub(crate) fn children_within(
-        &self,
-        alloc: Global,
-        bounds: &(GroupKey, GroupKey),
-    ) -> Result<Vec<Entry>, AllocError>
-        ensures { IfOk result (λ found. (parent : List ℕ) → AreBoundsOf parent bounds.now
-            → found.items ≡ filter (λ (entry : EntryRow). bytes_eq entry.parent parent) (map row_of self.now)) }
-    {
-        entries_between(alloc, &self.groups, &bounds.0, &bounds.1)
-    }
-
-    /// The entries that a page lists, and the id after which the next page begins, where there is one. The error is want of
-    /// memory.
+    /// The entries that a page lists, lent, and the id after which the next page begins, where there is one. The error is want
+    /// of memory.
     pub(crate) fn page(
         &self,
         alloc: Global,
         query: &PageQuery,
-    ) -> Result<(Vec<Entry>, Option<Uuid>), AllocError>
+    ) -> Result<(Vec<Lent<'_, Entry>>, Option<Uuid>), AllocError>
         ensures listed { IfOk result (λ page. page.0.items ≡ take query.now.size
             (filter (λ (entry : EntryRow). passes query.now.filter entry && comes_after query.now.from entry) (map row_of self.now))) }
         ensures next { IfOk result (λ page. page.1 ≡ (

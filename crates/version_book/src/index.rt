@@ -12,9 +12,10 @@ ghost use Rattle.version_book.specs.Index.{Covers, IsIndex, KeysTell, TellsKeys}
 ghost use Rattle.version_book.specs.Stores.{IsAbsent, stamps};
 
 use crate::committed_row::CommittedRow;
+use crate::lent::{Lent, owned};
 use entry_book::Entry;
 use std::alloc::{AllocError, Global};
-use version_shelf::Shelf;
+use version_shelf::{Bound, Shelf};
 
 /// The index without these keys: those of a row that is taken away. The error is want of memory.
 pub(crate) fn without_keys<K: Ord + Clone + Drop>(
@@ -62,6 +63,25 @@ fn in_order<K: Ord + Clone>(index: &Shelf<K, CommittedRow<Entry>>)
     let _ = index.len();
 }
 
+/// The entries of the keys `lo <= key < hi`, lent, in the order of their ids. The error is want of memory.
+pub(crate) fn lent_between<'a, K: Ord + Clone, L: Bound<K>, H: Bound<K>>(
+    alloc: Global,
+    index: &'a Shelf<K, CommittedRow<Entry>>,
+    lo: &L,
+    hi: &H,
+) -> Result<Vec<Lent<'a, Entry>>, AllocError>
+    ensures { IfOk result (λ found. (keys_of : EntryRow → List K) (rows : List (NumberedRow EntryRow)) (p : EntryRow → Bool)
+        → IsIndex keys_of rows index.now → Covers K.cmp keys_of (L.place lo.now) (H.place hi.now) p → Ascending (of_row entry_key) rows
+        → found.items ≡ filter p (map row_of rows)) }
+{
+    let mut found = Vec::new(alloc);
+    for (_, row) in index.range(lo, hi) {
+        found.push(Lent::of(&row.row))?;
+    }
+    found.sort_by_key(|entry| *entry.get().id())?;
+    Ok(found)
+}
+
 /// The entries of the keys `lo <= key < hi`, in the order of their ids. The error is want of memory.
 pub(crate) fn entries_between<K: Ord + Clone>(
     alloc: Global,
@@ -73,12 +93,10 @@ pub(crate) fn entries_between<K: Ord + Clone>(
         → IsIndex keys_of rows index.now → Covers K.cmp keys_of lo.now hi.now p → Ascending (of_row entry_key) rows
         → found.items ≡ filter p (map row_of rows)) }
 {
-    let mut found = Vec::new(alloc);
-    for (_, row) in index.range(lo, hi) {
-        found.push(row.row.clone()?)?;
-    }
-    found.sort_by_key(|entry| *entry.id())?;
-    Ok(found)
+    let found = lent_between(alloc, index, lo, hi)?;
+    let entries = owned(alloc, found.as_slice());
+    drop(found);
+    entries
 }
 
 /// Have the keys `lo <= key < hi` the same rows in both indexes, each last written by the same commit?

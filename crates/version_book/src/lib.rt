@@ -14,9 +14,8 @@
 //! | `clone` | none | one, of all that the version holds | none |
 //! | `number`, `domain`, `server`, `count`, `Changes::hits` | none | none | none |
 //! | `entry`, `agent`, `bundle` | the one that is asked for, once a search has found it | none | none |
-//! | `children` | those of the parent, once a search has found them | those of these rows, and two of the parent's ID | for a list of them, and for sorting it |
-//! | `aliases` | those of the server, once a search has found them | those of these rows | for a list of them, and for sorting it |
-//! | `page` | from the id from which it goes on, once a search has found it, to the one that shows that more come | those of the rows that it lists | for a list of them |
+//! | `children` | those of the parent, once a search has found them | none | for a list of them, and for sorting it |
+//! | `page` | from the id from which it goes on, once a search has found it, to the one that shows that more come | none | for a list of them |
 //! | `unchanged` | those that the mark names, up to the first difference, once a search has found them | none | none |
 //! | `read` | those that the mark names, once a search has found them | those of these rows | for a list of them, and for sorting it |
 //! | `read_after` | the same, and these again for each change | those of these rows, again for each change | for a list of them, again for each change |
@@ -27,6 +26,8 @@
 //!
 //! - [`Version`]: the rows of the book, each with the number of the commit that last wrote it. [`RowCounts`] tells how many there
 //!   are of each kind.
+//! - [`Lent`]: a row that a version lends to whoever asks it; [`owned`] makes copies of such rows, which are kept as long as anyone
+//!   likes.
 //! - [`Mark`]: one thing that a batch can read, such as the entries of a parent, or what is kept under a token; [`MarkKind`]
 //!   says which. [`RowsRead`]: the rows that it reads.
 //! - [`Changes`]: the writes of a batch, in order, which make the next version. Each is a [`RowWrite`]: the [`RowChange`] of one
@@ -38,7 +39,7 @@
 //! places that are put into them in `Written`; the others are for this crate's own contracts. Nothing outside this crate knows how the rows are kept:
 //!
 //! - `store`: the sets of rows of a version; `entries` and `row_shelf`: the shelves of a set; `index` and `key`: how an index is
-//!   kept and ordered; `committed_row`: their rows.
+//!   kept and ordered, and `parent` where the keys of a parent stand in it; `committed_row`: their rows.
 //! - `names`: what all versions of a book have in common.
 //! - `row`: what marks and writes ask of a row; `hits`: which writes hit a mark; `overlay`: what a mark reads after writes; `page`:
 //!   which rows a page lists.
@@ -51,10 +52,12 @@ mod hits;
 mod index;
 mod key;
 pub mod laws;
+mod lent;
 mod mark;
 mod names;
 mod overlay;
 mod page;
+mod parent;
 mod row;
 mod row_shelf;
 mod rows_read;
@@ -62,6 +65,7 @@ mod store;
 mod version;
 
 pub use changes::{Changes, RowChange, RowWrite, TokenWrite};
+pub use lent::{Lent, owned};
 pub use mark::{Mark, MarkKind};
 pub use rows_read::RowsRead;
 pub use version::{RowCounts, Version};

@@ -1,38 +1,31 @@
 //! What do all versions of a book have in common?
 
-use crate::entries::children_between;
-use crate::key::GroupKey;
 use entry_book::{Shared, beside};
 use spiffe_name::{SpiffeId, TrustDomain};
 use std::alloc::{AllocError, Global};
 use std::marker::Model;
 
-/// The trust domain of a book's server, the server's ID, and where its aliases stand, the entries of which it is the parent.
-/// A contract sees the trust domain.
+/// The trust domain of a book's server, and the server's ID. A contract sees the trust domain.
 #[derive(Drop)]
 pub(crate) struct ServerNames {
     domain: TrustDomain,
     server: Shared<SpiffeId>,
-    /// The bounds of the aliases' keys. Made anew by each reader, they would count owners of the one ID that all readers have.
-    aliases: (GroupKey, GroupKey),
 }
 
 impl Model for ServerNames {
     ghost use Rattle.std.specs.Prelude.{◌≡◌, List, ℕ};
     ghost use Rattle.spiffe_name.specs.Id.{server_text};
-    ghost use Rattle.version_book.specs.Index.{AreBoundsOf};
 
     ghost Value = { List ℕ };
 
     ghost view = { λ names. names.domain };
 
-    ghost invariant = { λ names. (names.server ≡ server_text names.domain) × AreBoundsOf (server_text names.domain) names.aliases };
+    ghost invariant = { λ names. names.server ≡ server_text names.domain };
 }
 
 impl ServerNames {
     ghost use Rattle.std.specs.Prelude.{◌≡◌, IfOk};
     ghost use Rattle.spiffe_name.specs.Id.{server_text};
-    ghost use Rattle.version_book.specs.Index.{AreBoundsOf};
 
     /// The names of a trust domain's server. The error is want of memory.
     pub(crate) fn of(alloc: Global, domain: TrustDomain) -> Result<ServerNames, AllocError>
@@ -41,13 +34,7 @@ impl ServerNames {
         let server = SpiffeId::server_of(alloc, &domain);
         let (domain, server) = beside(domain, server)?;
         let (domain, server) = beside(domain, Shared::of(alloc, server))?;
-        let aliases = children_between(&server);
-        let ((domain, server), aliases) = beside((domain, server), aliases)?;
-        Ok(ServerNames {
-            domain,
-            server,
-            aliases,
-        })
+        Ok(ServerNames { domain, server })
     }
 
     /// The trust domain.
@@ -62,12 +49,5 @@ impl ServerNames {
         ensures { result.now ≡ server_text self.now }
     {
         &self.server
-    }
-
-    /// The bounds of the aliases' keys.
-    pub(crate) fn aliases(&self) -> &(GroupKey, GroupKey)
-        ensures { AreBoundsOf (server_text self.now) result.now }
-    {
-        &self.aliases
     }
 }

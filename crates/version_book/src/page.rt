@@ -9,28 +9,32 @@ ghost use Rattle.entry_book.specs.Rows.{Entry as EntryRow};
 ghost use Rattle.version_book.specs.CommittedRows.{row_of};
 
 use crate::committed_row::CommittedRow;
+use crate::lent::Lent;
 use entry_book::{Entry, PageQuery};
 use std::alloc::{AllocError, Global};
 use uuid::Uuid;
 use version_shelf::Range;
 
-/// Puts a copy of the entry behind those listed, and answers its id, which is the last one then. The error is want of memory.
+/// Puts the entry behind those listed, and answers its id, which is the last one then. The error is want of memory.
 #[tactic(auto, using(entry_book::proofs::Pages::last_of))]
-fn push_last(listed: &mut Vec<Entry>, entry: &Entry) -> Result<Option<Uuid>, AllocError>
+fn push_last<'a>(
+    listed: &mut Vec<Lent<'a, Entry>>,
+    entry: &'a Entry,
+) -> Result<Option<Uuid>, AllocError>
     ensures pushed { OnOk result (listed.new.items ≡ listed.old.items ++ entry.now ∷ []) }
     ensures last { IfOk result (λ last. last ≡ last_id listed.new.items) }
 {
-    listed.push(entry.clone()?)?;
+    listed.push(Lent::of(entry))?;
     Ok(Some(*entry.id()))
 }
 
-/// The first of these rows that the page lists, as many as it has room for, and the id after which the next page begins, where
+/// The first of these rows that the page lists, lent, as many as it has room for, and the id after which the next page begins, where
 /// there is one. The error is want of memory.
-pub(crate) fn page_of(
+pub(crate) fn page_of<'a>(
     alloc: Global,
     query: &PageQuery,
-    rows: Range<'_, Uuid, CommittedRow<Entry>>,
-) -> Result<(Vec<Entry>, Option<Uuid>), AllocError>
+    rows: Range<'a, Uuid, CommittedRow<Entry>>,
+) -> Result<(Vec<Lent<'a, Entry>>, Option<Uuid>), AllocError>
     ensures listed { IfOk result (λ page. page.0.items ≡ take query.now.size
         (filter (λ (entry : EntryRow). passes query.now.filter entry && comes_after query.now.from entry) (map row_of (values_of rows.entry)))) }
     ensures next { IfOk result (λ page. page.1 ≡ (

@@ -4,7 +4,7 @@ ghost use Rattle.std.specs.Prelude.{◌≡◌};
 
 use crate::changes::{RowWrite, TokenWrite};
 use crate::entries::Entries;
-use crate::key::GroupKey;
+use crate::lent::Lent;
 use crate::mark::Mark;
 use crate::row_shelf::RowShelf;
 use crate::rows_read::RowsRead;
@@ -45,7 +45,6 @@ impl Store {
     ghost use Rattle.entry_book.specs.Rows.{entry_key, agent_key, bundle_key};
     ghost use Rattle.entry_book.specs.Tokens.{token_key};
     ghost use Rattle.entry_book.specs.Writes.{FitAll, FitsBook};
-    ghost use Rattle.version_book.specs.Index.{AreBoundsOf};
     ghost use Rattle.version_book.specs.Marks.{reads};
     ghost use Rattle.version_book.specs.CommittedRows.{book_of, marked, no_rows, of_row, rows_after, rows_after_write};
     ghost use Rattle.version_book.specs.Room.{RoomAll, RoomFor};
@@ -207,35 +206,24 @@ impl Store {
         self.bundles.get(domain)
     }
 
-    /// The entries of a parent, in the order of their ids. The error is want of memory.
+    /// The entries of a parent, lent, in the order of their ids. The error is want of memory.
     pub(crate) fn children(
         &self,
         alloc: Global,
         parent: &Shared<SpiffeId>,
-    ) -> Result<Vec<Entry>, AllocError>
+    ) -> Result<Vec<Lent<'_, Entry>>, AllocError>
         ensures { IfOk result (λ found. found.items ≡ children_of parent.now (book_of self.now)) }
     {
         self.entries.children(alloc, parent)
     }
 
-    /// The entries of the parent of which these are the bounds, in the order of their ids. The error is want of memory.
-    pub(crate) fn children_within(
-        &self,
-        alloc: Global,
-        bounds: &(GroupKey, GroupKey),
-    ) -> Result<Vec<Entry>, AllocError>
-        ensures { IfOk result (λ found. (parent : List ℕ) → AreBoundsOf parent bounds.now → found.items ≡ children_of parent (book_of self.now)) }
-    {
-        self.entries.children_within(alloc, bounds)
-    }
-
-    /// The entries that a page lists, and the id after which the next page begins, where there is one. The error is want of
-    /// memory.
+    /// The entries that a page lists, lent, and the id after which the next page begins, where there is one. The error is want
+    /// of memory.
     pub(crate) fn page(
         &self,
         alloc: Global,
         query: &PageQuery,
-    ) -> Result<(Vec<Entry>, Option<Uuid>), AllocError>
+    ) -> Result<(Vec<Lent<'_, Entry>>, Option<Uuid>), AllocError>
         ensures listed { IfOk result (λ page. page.0.items ≡ listed query.now (book_of self.now)) }
         ensures next { IfOk result (λ page. page.1 ≡ next_of query.now (book_of self.now)) }
     {

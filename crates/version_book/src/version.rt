@@ -3,6 +3,7 @@
 ghost use Rattle.std.specs.Prelude.{◌≡◌};
 
 use crate::changes::Changes;
+use crate::lent::Lent;
 use crate::mark::Mark;
 use crate::names::ServerNames;
 use crate::overlay::after_changes;
@@ -156,26 +157,20 @@ impl Version {
         self.body.get().store.bundle(domain)
     }
 
-    /// The entries of a parent, in the order of their ids. The error is want of memory.
-    pub fn children(&self, parent: &Shared<SpiffeId>) -> Result<Vec<Entry>, AllocError>
+    /// The entries of a parent, lent, in the order of their ids. No owner is counted, neither of a row nor of the parent's ID.
+    /// The error is want of memory.
+    pub fn children(&self, parent: &Shared<SpiffeId>) -> Result<Vec<Lent<'_, Entry>>, AllocError>
         ensures { IfOk result (λ found. found.items ≡ children_of parent.now (book_of self.now.rows)) }
     {
         self.body.get().store.children(self.alloc, parent)
     }
 
-    /// The node aliases, the entries whose parent is the server, in the order of their ids. It counts no owner of the server's
-    /// ID, which all readers have in common. The error is want of memory.
-    pub fn aliases(&self) -> Result<Vec<Entry>, AllocError>
-        ensures { IfOk result (λ found. found.items ≡ children_of (server_text self.now.domain) (book_of self.now.rows)) }
-    {
-        let body = self.body.get();
-        body.store
-            .children_within(self.alloc, body.names.get().aliases())
-    }
-
-    /// The entries that a page lists, and the id after which the next page begins, where there is one. They are those of this
-    /// version, whatever place the query asks about. The error is want of memory.
-    pub fn page(&self, query: &PageQuery) -> Result<(Vec<Entry>, Option<Uuid>), AllocError>
+    /// The entries that a page lists, lent, and the id after which the next page begins, where there is one. They are those of
+    /// this version, whatever place the query asks about. The error is want of memory.
+    pub fn page(
+        &self,
+        query: &PageQuery,
+    ) -> Result<(Vec<Lent<'_, Entry>>, Option<Uuid>), AllocError>
         ensures listed { IfOk result (λ page. page.0.items ≡ listed query.now (book_of self.now.rows)) }
         ensures next { IfOk result (λ page. page.1 ≡ next_of query.now (book_of self.now.rows)) }
     {

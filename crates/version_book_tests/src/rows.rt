@@ -7,7 +7,7 @@ use entry_book::{Agent, Bundle, Entry, Filter, KeptBatch, PageQuery, Shared};
 use spiffe_name::{SelectorSet, SpiffeId};
 use std::alloc::Global;
 use uuid::Uuid;
-use version_book::{Changes, Mark, MarkKind, RowWrite, RowsRead, TokenWrite, Version};
+use version_book::{Changes, Lent, Mark, MarkKind, RowWrite, RowsRead, TokenWrite, Version, owned};
 
 /// The moments of random batches, in order, as marks.
 const MOMENTS: &str = "|expiring 1|expiring 2|expiring 3|expiring 4|";
@@ -150,13 +150,20 @@ pub fn read_text(alloc: Global, version: &Version, mark: &Mark) -> Result<String
     read_up_to(alloc, version, mark, u64::MAX)
 }
 
-/// The aliases of a version.
+/// Adds entries that are lent.
+fn add_lent(alloc: Global, text: &mut String, entries: Vec<Lent<'_, Entry>>) -> Result<(), Failed> {
+    let copies = owned(alloc, entries.as_slice());
+    drop(entries);
+    let copies = copies?;
+    let added = add_entries(alloc, text, &copies);
+    drop(copies);
+    added
+}
+
+/// The aliases of a version, the children of its server.
 pub fn aliases_text(alloc: Global, version: &Version) -> Result<String, Failed> {
     let mut text = String::new(alloc);
-    let aliases = version.aliases()?;
-    let added = add_entries(alloc, &mut text, &aliases);
-    drop(aliases);
-    added?;
+    add_children(alloc, &mut text, version, version.server())?;
     Ok(text)
 }
 
@@ -166,10 +173,7 @@ fn add_children(
     version: &Version,
     parent: &Shared<SpiffeId>,
 ) -> Result<(), Failed> {
-    let entries = version.children(parent)?;
-    let added = add_entries(alloc, text, &entries);
-    drop(entries);
-    added
+    add_lent(alloc, text, version.children(parent)?)
 }
 
 /// Adds the entries of the page that begins behind this id, and answers the id behind which the next one does.
@@ -180,9 +184,7 @@ fn add_page(
     query: &PageQuery,
 ) -> Result<Option<Uuid>, Failed> {
     let (entries, next) = version.page(query)?;
-    let added = add_entries(alloc, text, &entries);
-    drop(entries);
-    added?;
+    add_lent(alloc, text, entries)?;
     Ok(next)
 }
 

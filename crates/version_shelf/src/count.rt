@@ -1,7 +1,9 @@
 //! How is the work of a call counted?
 
 ghost use Rattle.std.specs.Prelude.{◌≡◌, ◌+◌, ◌<◌, ◌^◌};
+ghost use Rattle.std.specs.Ordering.{is_lt};
 
+use crate::bound::Bound;
 use std::cmp::Ordering;
 use std::marker::Model;
 
@@ -42,7 +44,17 @@ impl Count {
     }
 }
 
-/// How one key stands to the other. Every comparison of keys is made here.
+/// Is the key below the bound? Every comparison of keys is made here, or by `compared`.
+pub(crate) fn is_below<K: Ord, B: Bound<K>>(key: &K, bound: &B, count: &mut Count) -> bool
+    requires { count.old + 1 < 2 ^ 64 }
+    ensures below { result ≡ is_lt (K.cmp key.now (B.place bound.now)) }
+    ensures counted { count.new ≡ count.old + 1 }
+{
+    count.raise(1);
+    bound.is_above(key)
+}
+
+/// How one key stands to the other.
 pub(crate) fn compared<K: Ord>(one: &K, other: &K, count: &mut Count) -> Ordering
     requires { count.old + 1 < 2 ^ 64 }
     ensures order { result ≡ K.cmp one.now other.now }

@@ -4,6 +4,7 @@ ghost use Rattle.std.specs.Prelude.{◌≡◌, ◌++◌, ◌∷◌, ◌+◌, ◌
 ghost use Rattle.std.specs.Option.{option_copied};
 ghost use Rattle.version_shelf.specs.Shelf.{IsInOrder, get, rows_below, rows_above, rows_between, rows_from};
 
+use crate::bound::Bound;
 use crate::count::{Count, compared};
 use crate::page::{append, put};
 use crate::search::{place, place_near};
@@ -18,36 +19,36 @@ pub(crate) struct Parts<'a, K, V> {
     pub(crate) above: &'a [SharedRow<K, V>],
 }
 
-/// The rows below a key, and the others.
-pub(crate) fn split<'a, K: Ord, V>(
+/// The rows below a bound, and the others.
+pub(crate) fn split<'a, K: Ord, V, B: Bound<K>>(
     rows: &'a [SharedRow<K, V>],
-    key: &K,
+    bound: &B,
     count: &mut Count,
 ) -> (&'a [SharedRow<K, V>], &'a [SharedRow<K, V>])
     requires order { IsInOrder K.cmp rows.now }
     requires size { length rows.now ≤ 32 }
     requires room { count.old + 9 < 2 ^ 64 }
-    ensures below { result.0.now ≡ rows_below K.cmp rows.now key.now }
-    ensures others { result.1.now ≡ rows_from K.cmp rows.now key.now }
+    ensures below { result.0.now ≡ rows_below K.cmp rows.now (B.place bound.now) }
+    ensures others { result.1.now ≡ rows_from K.cmp rows.now (B.place bound.now) }
     ensures counted { (count.old ≤ count.new) × (count.new ≤ count.old + 9) }
 {
-    rows.split_at(place(rows, key, count))
+    rows.split_at(place(rows, bound, count))
 }
 
-/// As [`split`], where the key's place is most often the first one.
-fn split_near<'a, K: Ord, V>(
+/// As [`split`], where the bound's place is most often the first one.
+fn split_near<'a, K: Ord, V, B: Bound<K>>(
     rows: &'a [SharedRow<K, V>],
-    key: &K,
+    bound: &B,
     count: &mut Count,
 ) -> (&'a [SharedRow<K, V>], &'a [SharedRow<K, V>])
     requires order { IsInOrder K.cmp rows.now }
     requires size { length rows.now ≤ 32 }
     requires room { count.old + 10 < 2 ^ 64 }
-    ensures below { result.0.now ≡ rows_below K.cmp rows.now key.now }
-    ensures others { result.1.now ≡ rows_from K.cmp rows.now key.now }
+    ensures below { result.0.now ≡ rows_below K.cmp rows.now (B.place bound.now) }
+    ensures others { result.1.now ≡ rows_from K.cmp rows.now (B.place bound.now) }
     ensures counted { (count.old ≤ count.new) × (count.new ≤ count.old + 10) }
 {
-    rows.split_at(place_near(rows, key, count))
+    rows.split_at(place_near(rows, bound, count))
 }
 
 /// Cuts the rows at a key.
@@ -80,16 +81,16 @@ pub(crate) fn part<'a, K: Ord, V>(
 }
 
 /// The rows with `lo <= key < hi`.
-pub(crate) fn between<'a, K: Ord, V>(
+pub(crate) fn between<'a, K: Ord, V, L: Bound<K>, H: Bound<K>>(
     rows: &'a [SharedRow<K, V>],
-    lo: &K,
-    hi: &K,
+    lo: &L,
+    hi: &H,
     count: &mut Count,
 ) -> &'a [SharedRow<K, V>]
     requires order { IsInOrder K.cmp rows.now }
     requires size { length rows.now ≤ 32 }
     requires room { count.old + 19 < 2 ^ 64 }
-    ensures rows { result.now ≡ rows_between K.cmp rows.now lo.now hi.now }
+    ensures rows { result.now ≡ rows_between K.cmp rows.now (L.place lo.now) (H.place hi.now) }
     ensures counted { (count.old ≤ count.new) × (count.new ≤ count.old + 19) }
 {
     let (_, from) = split(rows, lo, count);

@@ -3,7 +3,8 @@
 //! A [`Shelf`] maps keys to values, in the order of its keys. It is never changed: [`Shelf::with`] and
 //! [`Shelf::without`] answer a new shelf, and every older one reads as before. A contract sees a shelf as the list of
 //! its rows, each a key with its value, in strictly ascending order of keys; the words that the contracts use stand in
-//! `specs/Shelf.antt`. [`Range`]: the rows from a bound on, or between two, one after another. [`Count`]: what a call cost.
+//! `specs/Shelf.antt`. [`Range`]: the rows from a key on, or between two bounds, one after another. [`Bound`]: where a range
+//! begins or ends: at a key, or where a key would stand that nobody has to make. [`Count`]: what a call cost.
 //!
 //! A shelf has three fixed levels: its rows stand in leaves, the leaves in middles, and the middles in the shelf's root. A
 //! leaf has at most 32 rows, and at least 16 where it has a neighbour; a middle has at most 64 leaves, and at least 32 where
@@ -38,6 +39,7 @@
 //! no memory have no such answer.
 //!
 //! - `shelf`: the face, what a shelf can be asked and how the next one is made.
+//! - `bound`: where a range begins or ends.
 //! - `range`: the walk over the rows from a bound on, or between two, as callers see it.
 //! - `count`: how the work of a call is counted.
 //! - `path`: where in a shelf a key belongs, and what a change makes of it.
@@ -51,6 +53,7 @@
 //! Nothing outside this crate rests on the pages.
 #![tactic(auto)]
 
+mod bound;
 mod count;
 mod leaf;
 mod page;
@@ -62,6 +65,7 @@ mod shared_row;
 mod shelf;
 mod walk;
 
+pub use bound::Bound;
 pub use count::Count;
 pub use range::Range;
 pub use shelf::Shelf;

@@ -5,6 +5,7 @@ ghost use Rattle.std.specs.Option.{option_copied};
 ghost use Rattle.version_shelf.specs.Shelf.{ClonesEqual, HasRoom, most_rows, IsInOrder, get, count_of, rows_between, rows_from, with_key, without_key, ChangesAt};
 ghost use Rattle.version_shelf.specs.Pages.{ArePages, flatten, least_leaves, least_rows, most_middles};
 
+use crate::bound::Bound;
 use crate::count::Count;
 use crate::leaf::{rows_with, rows_without};
 use crate::page::{Middle, Page};
@@ -88,8 +89,8 @@ impl<K: Ord + Clone, V: Clone> Shelf<K, V> {
 
     /// The rows with `lo <= key < hi`, in ascending order of keys; none where `hi <= lo`. The bounds need not be keys of
     /// the shelf. Takes no memory.
-    pub fn range(&self, lo: &K, hi: &K) -> Range<'_, K, V>
-        ensures rows { result ≡ rows_between K.cmp self.now lo.now hi.now }
+    pub fn range<L: Bound<K>, H: Bound<K>>(&self, lo: &L, hi: &H) -> Range<'_, K, V>
+        ensures rows { result ≡ rows_between K.cmp self.now (L.place lo.now) (H.place hi.now) }
         ensures order { IsInOrder K.cmp result }
         ensures most { length result ≤ most_rows }
     {

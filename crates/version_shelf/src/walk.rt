@@ -4,6 +4,7 @@ ghost use Rattle.std.specs.Prelude.{◌≡◌, ◌++◌, ◌∷◌, ◌+◌, ◌
 ghost use Rattle.version_shelf.specs.Shelf.{IsInOrder, rows_between, rows_from};
 ghost use Rattle.version_shelf.specs.Pages.{AreFull, ArePages, AreWalkPages, flatten, least_leaves, least_rows, most_middles, walk_rows};
 
+use crate::bound::Bound;
 use crate::count::Count;
 use crate::leaf::{between, split};
 use crate::page::{Leaf, Middle};
@@ -67,10 +68,10 @@ fn refill_leaves<K, V>(walk: &mut Walk<'_, K, V>)
 }
 
 /// The walk over the rows of a shelf with `lo <= key < hi`.
-pub(crate) fn walk_between<'a, K: Ord, V>(
+pub(crate) fn walk_between<'a, K: Ord, V, L: Bound<K>, H: Bound<K>>(
     middles: &'a [Middle<K, V>],
-    lo: &K,
-    hi: &K,
+    lo: &L,
+    hi: &H,
     count: &mut Count,
 ) -> Walk<'a, K, V>
     requires order { IsInOrder K.cmp (flatten (flatten middles.now)) }
@@ -79,7 +80,7 @@ pub(crate) fn walk_between<'a, K: Ord, V>(
     requires size { length middles.now ≤ most_middles }
     requires room { count.old + 57 < 2 ^ 64 }
     ensures pages { AreWalkPages result.leaves.now result.middles.now result.last_leaves.now }
-    ensures rows { walk_rows result.rest.now result.leaves.now result.middles.now result.last_leaves.now result.last.now ≡ rows_between K.cmp (flatten (flatten middles.now)) lo.now hi.now }
+    ensures rows { walk_rows result.rest.now result.leaves.now result.middles.now result.last_leaves.now result.last.now ≡ rows_between K.cmp (flatten (flatten middles.now)) (L.place lo.now) (H.place hi.now) }
     ensures counted { (count.old ≤ count.new) × (count.new ≤ count.old + 57) }
 {
     let start = cut_at(middles, lo, count);
@@ -166,10 +167,10 @@ fn walk_after<'a, K, V>(leaves: &'a [Leaf<K, V>], middles: &'a [Middle<K, V>]) -
 }
 
 /// The walk over the rows of one middle with `lo <= key < hi`.
-fn walk_in_middle<'a, K: Ord, V>(
+fn walk_in_middle<'a, K: Ord, V, L: Bound<K>, H: Bound<K>>(
     leaves: &'a [Leaf<K, V>],
-    lo: &K,
-    hi: &K,
+    lo: &L,
+    hi: &H,
     count: &mut Count,
 ) -> Walk<'a, K, V>
     requires order { IsInOrder K.cmp (flatten leaves.now) }
@@ -177,7 +178,7 @@ fn walk_in_middle<'a, K: Ord, V>(
     requires size { length leaves.now ≤ least_leaves + least_leaves }
     requires room { count.old + 38 < 2 ^ 64 }
     ensures pages { AreWalkPages result.leaves.now result.middles.now result.last_leaves.now }
-    ensures rows { walk_rows result.rest.now result.leaves.now result.middles.now result.last_leaves.now result.last.now ≡ rows_between K.cmp (flatten leaves.now) lo.now hi.now }
+    ensures rows { walk_rows result.rest.now result.leaves.now result.middles.now result.last_leaves.now result.last.now ≡ rows_between K.cmp (flatten leaves.now) (L.place lo.now) (H.place hi.now) }
     ensures counted { (count.old ≤ count.new) × (count.new ≤ count.old + 38) }
 {
     let start = cut_at(leaves, lo, count);

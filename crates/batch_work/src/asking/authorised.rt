@@ -6,74 +6,84 @@ ghost use Rattle.spiffe_name.specs.Id.{server_text};
 ghost use Rattle.entry_book.specs.Authorised.{authorised, holds};
 ghost use Rattle.entry_book.specs.Book.{agent_at, children_of};
 ghost use Rattle.entry_book.specs.Ops.{bundles_of, done, for_agent};
+ghost use Rattle.entry_book.specs.declared.reply.OpReply.TheVariants as op_reply;
 ghost use Rattle.batch_work.specs.Questions.{answered, bundles_at, walk_begun};
-ghost use Rattle.batch_work.specs.WalkStates.{first_walk, walked};
+ghost use Rattle.batch_work.specs.Reads.{domains_of};
+ghost use Rattle.batch_work.specs.WalkStates.{walked};
 ghost use Rattle.batch_work.specs.Windows.{book_in};
 
+use crate::asking::walk::LentWalk;
 use crate::domains::domains_of;
-use crate::rows::held;
-use crate::walk::Walk;
-use entry_book::{Agent, Bundle, Entry, OpRefusal, OpReply, Sequence, Shared, beside, both};
+use crate::lent_reply::{LentOpReply, LentRows};
+use crate::rows::holds;
+use entry_book::{Agent, Bundle, Entry, OpRefusal, Sequence, Shared, beside};
 use spiffe_name::{SpiffeId, TrustDomain};
 use std::alloc::{AllocError, Global};
-use version_book::Version;
+use version_book::{Lent, Version, owned};
+
+/// The entries among these that are aliases which the agent holds. The error is want of memory.
+fn held_of<'a>(
+    alloc: Global,
+    server: &SpiffeId,
+    agent: &Agent,
+    entries: Vec<Lent<'a, Entry>>,
+) -> Result<Vec<Lent<'a, Entry>>, AllocError>
+    ensures { IfOk result (λ held. held.items ≡ filter (holds server.now agent.now) entries.entry.items) }
+{
+    let mut held = Vec::new(alloc);
+    for entry in entries {
+        if holds(server, agent, entry.get()) {
+            held.push(entry)?;
+        }
+    }
+    Ok(held)
+}
 
 /// The aliases that the agent holds. The error is want of memory.
-fn held_aliases(alloc: Global, version: &Version, agent: &Agent) -> Result<Vec<Entry>, AllocError>
+fn held_aliases<'a>(
+    alloc: Global,
+    version: &'a Version,
+    agent: &Agent,
+) -> Result<Vec<Lent<'a, Entry>>, AllocError>
     ensures { IfOk result (λ aliases. aliases.items
         ≡ filter (holds (server_text version.now.domain) agent.now) (children_of (server_text version.now.domain) (book_in version.now))) }
 {
-    let aliases = version.aliases()?;
-    let held = held(alloc, version.server().get(), agent, aliases.as_slice());
-    drop(aliases);
-    held
-}
-
-/// A walk that has taken in the entries with which the agent's chains begin. The error is want of memory.
-fn walk_from(
-    alloc: Global,
-    agent: &Agent,
-    aliases: Vec<Entry>,
-    children: Vec<Entry>,
-) -> Result<Walk, AllocError>
-    ensures { IfOk result (λ walk. walk ≡ walked children.items (walked aliases.items (first_walk agent.now))) }
-{
-    let mut walk = Walk::new(alloc, agent.clone()?)?;
-    walk.goes_on(alloc, aliases)?;
-    walk.goes_on(alloc, children)?;
-    Ok(walk)
+    let server = version.server();
+    let aliases = version.children(server)?;
+    held_of(alloc, server.get(), agent, aliases)
 }
 
 /// The walk before its first identity: the aliases that the agent holds and its own children are found. The error is want of
 /// memory.
-fn begun(alloc: Global, version: &Version, agent: &Agent) -> Result<Walk, AllocError>
+fn begun<'a>(
+    alloc: Global,
+    version: &'a Version,
+    agent: &'a Agent,
+) -> Result<LentWalk<'a>, AllocError>
     ensures { IfOk result (λ walk. walk ≡ walk_begun (server_text version.now.domain) agent.now (book_in version.now)) }
 {
-    let aliases = held_aliases(alloc, version, agent);
-    let children = version.children(&agent.id);
-    let (aliases, children) = both(aliases, children)?;
-    walk_from(alloc, agent, aliases, children)
+    let mut walk = LentWalk::new(alloc, agent)?;
+    walk.goes_on(held_aliases(alloc, version, agent)?)?;
+    walk.goes_on(version.children(&agent.id)?)?;
+    Ok(walk)
 }
 
 /// Takes in the children of an identity. The error is want of memory.
-fn read_children(
-    alloc: Global,
-    version: &Version,
-    walk: &mut Walk,
+fn read_children<'a>(
+    version: &'a Version,
+    walk: &mut LentWalk<'a>,
     identity: &Shared<SpiffeId>,
 ) -> Result<(), AllocError>
     ensures { OnOk result (walk.new ≡ walked (children_of identity.now (book_in version.now)) walk.old) }
 {
-    let children = version.children(identity)?;
-    walk.goes_on(alloc, children)
+    walk.goes_on(version.children(identity)?)
 }
 
 /// Reads on until no identity waits. The error is want of memory.
-fn to_end(
-    alloc: Global,
-    version: &Version,
+fn to_end<'a>(
+    version: &'a Version,
     agent: &Agent,
-    walk: &mut Walk,
+    walk: &mut LentWalk<'a>,
 ) -> Result<(), AllocError>
     requires begun { walk.old ≡ walk_begun (server_text version.now.domain) agent.now (book_in version.now) }
     ensures { OnOk result (walk.new.found ≡ authorised (server_text version.now.domain) agent.now (book_in version.now)) }
@@ -83,41 +93,43 @@ fn to_end(
     for _ in 0..version.count().entries {
         match walk.take_least() {
             None => return Ok(()),
-            Some(identity) => {
-                let done = read_children(alloc, version, walk, &identity);
-                drop(identity);
-                done?;
-            }
+            Some(identity) => read_children(version, walk, identity.get())?,
         }
     }
     Ok(())
 }
 
 /// The entries that the agent may hand out. The error is want of memory.
-fn authorised_of(alloc: Global, version: &Version, agent: &Agent) -> Result<Vec<Entry>, AllocError>
+fn authorised_of<'a>(
+    alloc: Global,
+    version: &'a Version,
+    agent: &'a Agent,
+) -> Result<Vec<Lent<'a, Entry>>, AllocError>
     ensures { IfOk result (λ found. found.items ≡ authorised (server_text version.now.domain) agent.now (book_in version.now)) }
 {
     let mut walk = begun(alloc, version, agent)?;
-    let done = to_end(alloc, version, agent, &mut walk);
-    let (walk, ()) = beside(walk, done)?;
+    to_end(version, agent, &mut walk)?;
     Ok(walk.into_found())
 }
 
-/// Puts a copy of the bundle, where there is one, behind those found. The error is want of memory.
-fn push_bundle(found: &mut Vec<Bundle>, bundle: Option<&Bundle>) -> Result<(), AllocError>
+/// Puts the bundle, where there is one, behind those found. The error is want of memory.
+fn push_bundle<'a>(
+    found: &mut Vec<Lent<'a, Bundle>>,
+    bundle: Option<&'a Bundle>,
+) -> Result<(), AllocError>
     ensures { OnOk result (found.new.items ≡ found.old.items ++ option_to_list (option_copied bundle.entry)) }
 {
     if let Some(bundle) = bundle {
-        found.push(bundle.clone()?)?;
+        found.push(Lent::of(bundle))?;
     }
     Ok(())
 }
 
 /// Puts these domains' bundles behind those found. The error is want of memory.
-fn push_bundles(
-    version: &Version,
+fn push_bundles<'a>(
+    version: &'a Version,
     domains: &[Shared<TrustDomain>],
-    found: &mut Vec<Bundle>,
+    found: &mut Vec<Lent<'a, Bundle>>,
 ) -> Result<(), AllocError>
     ensures { OnOk result (found.new.items ≡ found.old.items ++ bundles_at (book_in version.now) domains.now) }
 {
@@ -128,16 +140,29 @@ fn push_bundles(
     Ok(())
 }
 
-/// The bundles that go with these entries. The error is want of memory.
-fn bundles_of(
+/// The domains that lent entries name, each once, in order. The error is want of memory.
+fn domains_of_lent(
     alloc: Global,
-    version: &Version,
-    entries: &[Entry],
-) -> Result<Vec<Bundle>, AllocError>
+    entries: &[Lent<'_, Entry>],
+) -> Result<Vec<Shared<TrustDomain>>, AllocError>
+    ensures { IfOk result (λ set. set.items ≡ domains_of entries.now) }
+{
+    let entries = owned(alloc, entries)?;
+    let domains = domains_of(alloc, entries.as_slice());
+    drop(entries);
+    domains
+}
+
+/// The bundles that go with these entries. The error is want of memory.
+fn bundles_of<'a>(
+    alloc: Global,
+    version: &'a Version,
+    entries: &[Lent<'_, Entry>],
+) -> Result<Vec<Lent<'a, Bundle>>, AllocError>
     ensures { IfOk result (λ found. found.items ≡ bundles_of entries.now (book_in version.now)) }
 {
     let _ = version.number();
-    let domains = domains_of(alloc, entries)?;
+    let domains = domains_of_lent(alloc, entries)?;
     let mut found = Vec::new(alloc);
     let done = push_bundles(version, domains.as_slice(), &mut found);
     drop(domains);
@@ -146,30 +171,31 @@ fn bundles_of(
 }
 
 /// What the question for an agent's authorised entries is replied, or that the agent isn't there. The error is want of memory.
-pub(crate) fn authorised_reply(
+pub(crate) fn authorised_reply<'a>(
     alloc: Global,
-    version: &Version,
+    version: &'a Version,
     agent: &Shared<SpiffeId>,
-) -> Result<Result<OpReply, OpRefusal>, AllocError>
+) -> Result<Result<LentOpReply<'a>, OpRefusal>, AllocError>
     ensures { IfOk result (λ answer. for_agent (agent_at agent.now (book_in version.now))
-        (λ found. done (OpReply.Entries (authorised (server_text version.now.domain) found (book_in version.now))) []) ≡ answered answer) }
+        (λ found. done (op_reply.Entries (authorised (server_text version.now.domain) found (book_in version.now))) []) ≡ answered answer) }
 {
     let Some(agent) = version.agent(agent) else {
         return Ok(Err(OpRefusal::NoAgent));
     };
     let found = authorised_of(alloc, version, agent)?;
-    Ok(Ok(OpReply::Entries(Sequence::of(found))))
+    let rows = LentRows::Entries(Sequence::of(found));
+    Ok(Ok(LentOpReply::of(rows)))
 }
 
 /// What the question for the bundles of an agent's authorised entries is replied, or that the agent isn't there. The error is
 /// want of memory.
-pub(crate) fn trust_reply(
+pub(crate) fn trust_reply<'a>(
     alloc: Global,
-    version: &Version,
+    version: &'a Version,
     agent: &Shared<SpiffeId>,
-) -> Result<Result<OpReply, OpRefusal>, AllocError>
+) -> Result<Result<LentOpReply<'a>, OpRefusal>, AllocError>
     ensures { IfOk result (λ answer. for_agent (agent_at agent.now (book_in version.now))
-        (λ found. done (OpReply.Bundles (bundles_of (authorised (server_text version.now.domain) found (book_in version.now)) (book_in version.now))) []) ≡ answered answer) }
+        (λ found. done (op_reply.Bundles (bundles_of (authorised (server_text version.now.domain) found (book_in version.now)) (book_in version.now))) []) ≡ answered answer) }
 {
     let Some(agent) = version.agent(agent) else {
         return Ok(Err(OpRefusal::NoAgent));
@@ -177,5 +203,6 @@ pub(crate) fn trust_reply(
     let found = authorised_of(alloc, version, agent)?;
     let bundles = bundles_of(alloc, version, found.as_slice());
     drop(found);
-    Ok(Ok(OpReply::Bundles(Sequence::of(bundles?))))
+    let rows = LentRows::Bundles(Sequence::of(bundles?));
+    Ok(Ok(LentOpReply::of(rows)))
 }

@@ -1,13 +1,13 @@
 //! Which line prints the reply to a batch?
 
 ghost use Rattle.std.specs.Prelude.{◌++◌, codes};
-ghost use Rattle.reg_lines.specs.Replies.{conflict_json, detail_member, done_json, dropped_json, op_detail_member, op_reply_json, page_json, refused_json, reply_json, under};
+ghost use Rattle.reg_lines.specs.Replies.{conflict_json, detail_member, done_of, dropped_json, op_detail_member, op_reply_json, page_of, refused_json, reply_json, under};
 ghost use Rattle.line_devices.specs.Stream.{Puts};
 
 use crate::printing::print_json::{PrintJson, print_list, print_number};
 use crate::printing::refusal::put_op;
 use crate::printing::text::print_text;
-use entry_book::{Entry, OpRefusal, OpReply, Outcome, Refusal, Reply};
+use entry_book::{OpRefusal, OpReply, Outcome, Refusal, Reply};
 use line_devices::{Output, Sink};
 use uuid::Uuid;
 
@@ -35,7 +35,7 @@ impl PrintJson for OpReply {
 }
 
 /// Prints an object with one key.
-fn print_under<T: PrintJson, S: Sink>(key: &str, value: &T, output: &mut Output<S>)
+pub(crate) fn print_under<T: PrintJson, S: Sink>(key: &str, value: &T, output: &mut Output<S>)
     ensures { Puts output.old output.new (under key.now (T.text value.now)) }
 {
     output.put(b"{");
@@ -46,8 +46,12 @@ fn print_under<T: PrintJson, S: Sink>(key: &str, value: &T, output: &mut Output<
 }
 
 /// Prints the entries of a page, and the id after which the next one begins.
-fn print_page<S: Sink>(entries: &[Entry], next: &Option<Uuid>, output: &mut Output<S>)
-    ensures { Puts output.old output.new (page_json entries.now next.now) }
+pub(crate) fn print_page<T: PrintJson, S: Sink>(
+    entries: &[T],
+    next: &Option<Uuid>,
+    output: &mut Output<S>,
+)
+    ensures { Puts output.old output.new (page_of T.text entries.now next.now) }
 {
     output.put(b"{\"entries\":");
     print_list(entries, output);
@@ -115,14 +119,14 @@ impl PrintJson for CallReply<'_> {
 }
 
 /// Prints the reply to a batch whose operations were all answered.
-fn print_done<S: Sink>(
+pub(crate) fn print_done<T: PrintJson, S: Sink>(
     call: u64,
     place: u64,
-    replies: &[OpReply],
+    replies: &[T],
     result_word: &str,
     output: &mut Output<S>,
 )
-    ensures { Puts output.old output.new (done_json call place replies.now result_word.now) }
+    ensures { Puts output.old output.new (done_of T.text call place replies.now result_word.now) }
 {
     output.put(b"{\"call\":");
     print_number(call, output);
@@ -136,7 +140,12 @@ fn print_done<S: Sink>(
 }
 
 /// Prints the reply to a batch that was refused.
-fn print_refused<S: Sink>(call: u64, place: u64, refusal: &Refusal, output: &mut Output<S>)
+pub(crate) fn print_refused<S: Sink>(
+    call: u64,
+    place: u64,
+    refusal: &Refusal,
+    output: &mut Output<S>,
+)
     ensures { Puts output.old output.new (refused_json call place refusal.now) }
 {
     output.put(b"{\"call\":");

@@ -1,7 +1,7 @@
-use Rattle.std.proofs.Common.{◌≡◌, ◌^◌, ◌≤◌, false, sym, ◌∙◌, arith}
+use Rattle.std.proofs.Common.{◌≡◌, ◌^◌, ◌≤◌, List, ℕ, false, subst, sym, ◌∙◌, arith}
 use Rattle.std.specs.Prelude.{nat_lt}
 use Rattle.std.proofs.lemmas.Bool.Decides.{nat_tests}
-use Rattle.reg_programs.specs.Sessions.{Session}
+use Rattle.reg_programs.specs.Sessions.{Session, TakesRequestLine}
 use Rattle.reg_programs.proofs.Calling.{call_answered, line_refused, seat_spent}
 use Rattle.reg_programs.proofs.session_engine.take.Goals as goal
 
@@ -10,13 +10,20 @@ returns-in-Err g c =
     let now : Session = record { seat = c.args.seat.now; ids = c.args.ids.now; lines = c.args.lines } in
     let said = c.in-Err.ensures.spelled in
     let heard = rw c.requires.domain at said.1 in
-    record { line = line_refused g.J.Naming.domain now c.args.line.now c.read_request.new.ids c.in-Err.refusal (sym c.in-Err.ensures.kept) heard said.0 }
+    let taken = line_refused g.J.Naming.domain now c.args.line.now c.read_request.new.ids c.in-Err.refusal (sym c.in-Err.ensures.kept) heard said.0 in
+    record {
+      asked = tt;
+      line = λ text t. subst (λ (x : List ℕ). TakesRequestLine g.J.Naming.domain now c.args.line.now x now.seat c.read_request.new.ids) (sym t) taken;
+    }
 
 pub returns-then-has_calls : goal.returns-then-has_calls
 returns-then-has_calls g c =
     let now : Session = record { seat = c.args.seat.now; ids = c.args.ids.now; lines = c.args.lines } in
     let e = rw c.requires.domain at c.in-Ok.ensures.spelled in
-    record { line = call_answered g.J.Naming.domain now c.args.line.now _ _ _ c.in-Ok.request e c.call.ensures.answers }
+    record {
+      asked = c.call.ensures.asked;
+      line = λ text t. call_answered g.J.Naming.domain now c.args.line.now text _ _ c.in-Ok.request e (c.call.ensures.answers text t);
+    }
 
 pub returns-else-has_calls : goal.returns-else-has_calls
 returns-else-has_calls g c =
@@ -24,4 +31,8 @@ returns-else-has_calls g c =
     let e = rw c.requires.domain at c.in-Ok.ensures.spelled in
     let none : nat_lt now.seat.calls (2 ^ 48) ≡ false = sym c.has_calls.ensures ∙ c.if-has_calls.false in
     let spent : 2 ^ 48 ≤ now.seat.calls = grind (arith, nat_tests) in
-    record { line = seat_spent g.J.Naming.domain now c.args.line.now _ c.in-Ok.request e spent }
+    let taken = seat_spent g.J.Naming.domain now c.args.line.now _ c.in-Ok.request e spent in
+    record {
+      asked = tt;
+      line = λ text t. subst (λ (x : List ℕ). TakesRequestLine g.J.Naming.domain now c.args.line.now x now.seat c.read_request.new.ids) (sym t) taken;
+    }

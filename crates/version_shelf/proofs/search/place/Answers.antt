@@ -13,7 +13,7 @@ loop-from-init g c = record {
 
 pub loop-from-preserved-then-is_below : goal.loop-from-preserved-then-is_below
 loop-from-preserved-then-is_below g c =
-    let passes = g.T.Sought.below c.args.key.now in
+    let passes = g.T.Sought.below (g.B.Bound.place c.args.bound.now) in
     let inside : c.loop-from.from + (c.loop-from.until - c.loop-from.from) / 2 < length c.args.parts.now = omega arith in
     record {
       inside = (omega arith, omega arith);
@@ -25,7 +25,7 @@ loop-from-preserved-then-is_below g c =
 
 pub loop-from-preserved : goal.loop-from-preserved
 loop-from-preserved g c =
-    let passes = g.T.Sought.below c.args.key.now in
+    let passes = g.T.Sought.below (g.B.Bound.place c.args.bound.now) in
     let inside : c.loop-from.from + (c.loop-from.until - c.loop-from.from) / 2 < length c.args.parts.now = omega arith in
     record {
       inside = (omega arith, omega arith);

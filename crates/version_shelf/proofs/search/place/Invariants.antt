@@ -7,8 +7,8 @@ use Rattle.version_shelf.proofs.search.place.Given as goal
 abbrev pub invariant-loop-from : goal.invariant-loop-from
 invariant-loop-from g l = record {
   inside : (l.from ≤ l.until) × (l.until ≤ length l.parts);
-  before : 0 < l.from → ends (g.T.Sought.below l.key) (take l.from l.parts) ≡ true;
-  behind : starts (g.T.Sought.below l.key) (drop l.until l.parts) ≡ false;
+  before : 0 < l.from → ends (g.T.Sought.below (g.B.Bound.place l.bound)) (take l.from l.parts) ≡ true;
+  behind : starts (g.T.Sought.below (g.B.Bound.place l.bound)) (drop l.until l.parts) ≡ false;
   counted : l.initial.count ≤ l.count;
   finds : Finds (l.until - l.from) l.count (l.initial.count + 9);
 }

@@ -1,0 +1,6 @@
+use Rattle.std.proofs.Common.{◌∙◌}
+use Rattle.batch_work.proofs.Places.{put_missing}
+use Rattle.batch_work.proofs.asking.walk.put_met.Goals as goal
+
+pub returns-else-branch-clause-met : goal.returns-else-branch-clause-met
+returns-else-branch-clause-met c = c.in_ok-put_identity.ensures.put ∙ put_missing c.args.identity.now c.args.met.now.items c.requires.met_order

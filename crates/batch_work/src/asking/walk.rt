@@ -1,0 +1,174 @@
+//! How far has the walk to an agent's authorised entries come, over entries that a version lends?
+
+ghost use Rattle.std.specs.Prelude.{◌≡◌, IfOk, OnOk, Some, not};
+ghost use Rattle.entry_book.specs.Order.{Ascending, with_row};
+ghost use Rattle.entry_book.specs.Rows.{entry_key};
+ghost use Rattle.batch_work.specs.Places.{IsPlace};
+ghost use Rattle.batch_work.specs.Reads.{is_one_of};
+ghost use Rattle.batch_work.specs.WalkStates.{met_when, with_text};
+
+use entry_book::{Agent, Entry, Shared};
+use spiffe_name::SpiffeId;
+use std::alloc::{AllocError, Global};
+use std::marker::Model;
+use uuid::Uuid;
+use version_book::Lent;
+
+/// An identity of an entry that is lent.
+type LentId<'a> = Lent<'a, Shared<SpiffeId>>;
+
+/// The walk of a work, all of whose rows are lent, so that it counts no owner of any.
+#[derive(Drop)]
+pub(crate) struct LentWalk<'a> {
+    agent: &'a Agent,
+    /// The identities met, the agent's own ID among them, in order.
+    met: Vec<LentId<'a>>,
+    /// Those of them whose children are still to be read, in order.
+    waiting: Vec<LentId<'a>>,
+    /// The entries found, in the order of their ids.
+    found: Vec<Lent<'a, Entry>>,
+}
+
+impl<'a> Model for LentWalk<'a> {
+    ghost use Rattle.entry_book.specs.Order.{Ascending};
+    ghost use Rattle.entry_book.specs.Rows.{entry_key};
+    ghost use Rattle.batch_work.specs.WalkStates.{WalkState};
+
+    ghost Value = { WalkState };
+
+    ghost view = { λ walk. record {
+      agent = walk.agent.now;
+      met = walk.met.items;
+      waiting = walk.waiting.items;
+      found = walk.found.items;
+    } };
+
+    ghost invariant = { λ walk.
+        Ascending (λ id. id) walk.met.items
+        × Ascending (λ id. id) walk.waiting.items
+        × Ascending entry_key walk.found.items };
+}
+
+impl<'a> LentWalk<'a> {
+    ghost use Rattle.std.specs.Prelude.{◌≡◌, [], ◌∷◌, IfOk, IfNone, IfSome, OnOk};
+    ghost use Rattle.batch_work.specs.WalkStates.{first_walk, walked, with_found};
+
+    /// The walk before its first entry. The error is want of memory.
+    pub(crate) fn new(alloc: Global, agent: &'a Agent) -> Result<LentWalk<'a>, AllocError>
+        ensures { IfOk result (λ walk. walk ≡ first_walk agent.now) }
+    {
+        let mut met = Vec::new(alloc);
+        met.push(Lent::of(&agent.id))?;
+        Ok(LentWalk {
+            agent,
+            met,
+            waiting: Vec::new(alloc),
+            found: Vec::new(alloc),
+        })
+    }
+
+    /// Takes in an entry. The error is want of memory.
+    fn takes_in(&mut self, entry: Lent<'a, Entry>) -> Result<(), AllocError>
+        ensures { OnOk result (self.new ≡ with_found entry.entry self.old) }
+    {
+        put_met(&mut self.met, &mut self.waiting, entry.get().identity())?;
+        put_entry(&mut self.found, entry)
+    }
+
+    /// Takes in the entries of a read, one after another. The error is want of memory.
+    pub(crate) fn goes_on(&mut self, entries: Vec<Lent<'a, Entry>>) -> Result<(), AllocError>
+        ensures { OnOk result (self.new ≡ walked entries.entry.items self.old) }
+    {
+        for entry in entries {
+            self.takes_in(entry)?;
+        }
+        Ok(())
+    }
+
+    /// The least identity that waits, which doesn't wait any more. Takes no memory.
+    pub(crate) fn take_least(&mut self) -> Option<LentId<'a>>
+        ensures none { IfNone result ((self.old.waiting ≡ []) × (self.new ≡ self.old)) }
+        ensures some { IfSome result (λ least.
+            (self.old.waiting ≡ least ∷ self.new.waiting)
+            × (self.new ≡ record self.old { waiting = self.new.waiting })) }
+    {
+        if self.waiting.is_empty() {
+            return None;
+        }
+        Some(self.waiting.remove(0))
+    }
+
+    /// The entries found, in the order of their ids. Takes no memory.
+    pub(crate) fn into_found(self) -> Vec<Lent<'a, Entry>>
+        ensures { result.items ≡ self.entry.found }
+    {
+        self.found
+    }
+}
+
+/// Where the identity stands in the set, or where it would.
+fn identity_place<'a>(set: &[LentId<'a>], identity: &LentId<'a>) -> Result<usize, usize>
+    requires order { Ascending (λ id. id) set.now }
+    ensures { IsPlace (λ id. id) set.now identity.now result }
+{
+    set.binary_search(identity)
+}
+
+/// Where the entry of the id stands in the set, or where it would.
+fn entry_place(set: &[Lent<'_, Entry>], id: &Uuid) -> Result<usize, usize>
+    requires order { Ascending entry_key set.now }
+    ensures { IsPlace entry_key set.now id.now result }
+{
+    set.binary_search_by_key(id, |entry| *entry.get().id())
+}
+
+/// Puts the identity into the set, and answers whether it was missing there. The error is want of memory.
+fn put_identity<'a>(
+    set: &mut Vec<LentId<'a>>,
+    identity: &'a Shared<SpiffeId>,
+) -> Result<bool, AllocError>
+    requires order { Ascending (λ id. id) set.old.items }
+    ensures is_new { IfOk result (λ is_new. is_new ≡ not (is_one_of identity.now set.old.items)) }
+    ensures put { OnOk result (set.new.items ≡ with_text identity.now set.old.items) }
+    ensures order { Ascending (λ id. id) set.new.items }
+{
+    let identity = Lent::of(identity);
+    match identity_place(set.as_slice(), &identity) {
+        Ok(_) => Ok(false),
+        Err(index) => {
+            set.insert(index, identity)?;
+            Ok(true)
+        }
+    }
+}
+
+/// Puts the identity, where it wasn't met yet, among those met and those that wait. The error is want of memory.
+fn put_met<'a>(
+    met: &mut Vec<LentId<'a>>,
+    waiting: &mut Vec<LentId<'a>>,
+    identity: &'a Shared<SpiffeId>,
+) -> Result<(), AllocError>
+    requires met_order { Ascending (λ id. id) met.old.items }
+    requires waiting_order { Ascending (λ id. id) waiting.old.items }
+    ensures met { OnOk result (met.new.items ≡ met_when (is_one_of identity.now met.old.items) identity.now met.old.items) }
+    ensures waiting { OnOk result (waiting.new.items ≡ met_when (is_one_of identity.now met.old.items) identity.now waiting.old.items) }
+    ensures order { Ascending (λ id. id) met.new.items × Ascending (λ id. id) waiting.new.items }
+{
+    if put_identity(met, identity)? {
+        put_identity(waiting, identity)?;
+    }
+    Ok(())
+}
+
+/// Puts the entry into the set, in the place of the one of its id. The error is want of memory.
+fn put_entry<'a>(set: &mut Vec<Lent<'a, Entry>>, entry: Lent<'a, Entry>) -> Result<(), AllocError>
+    requires order { Ascending entry_key set.old.items }
+    ensures put { OnOk result (set.new.items ≡ with_row entry_key entry.entry.id (Some entry.entry) set.old.items) }
+    ensures order { Ascending entry_key set.new.items }
+{
+    match entry_place(set.as_slice(), entry.get().id()) {
+        Ok(index) => set[index] = entry,
+        Err(index) => set.insert(index, entry)?,
+    }
+    Ok(())
+}

@@ -1,0 +1,174 @@
+//! What is a batch that only asks answered, with rows that a version lends?
+
+ghost use Rattle.std.specs.Prelude.{◌≡◌, IfOk};
+ghost use Rattle.std.specs.Option.{option_copied};
+ghost use Rattle.batch_work.specs.LentReplies.{op_reply_of, outcome_of};
+
+use entry_book::{Agent, Bundle, Entry, OpReply, Outcome, Refusal, Reply, Sequence, Shared};
+use std::alloc::{AllocError, Global};
+use std::marker::Model;
+use uuid::Uuid;
+use version_book::{Lent, owned};
+
+/// The rows that an operation asked for.
+#[derive(Drop)]
+pub enum LentRows<'a> {
+    /// The entry that was asked for, where there is one.
+    Entry(Option<Lent<'a, Entry>>),
+    /// The entries that were asked for, in the order of their ids.
+    Entries(Sequence<Lent<'a, Entry>>),
+    /// The entries of a page, in the order of their ids, and the id after which the next page begins, where there is one.
+    Page(Sequence<Lent<'a, Entry>>, Option<Uuid>),
+    /// The agent that was asked for, where there is one.
+    Agent(Option<Lent<'a, Agent>>),
+    /// The bundle that was asked for, where there is one.
+    Bundle(Option<Lent<'a, Bundle>>),
+    /// The bundles that were asked for, in the order of their domains.
+    Bundles(Sequence<Lent<'a, Bundle>>),
+}
+
+/// The reply to an operation that only asks. A contract sees the reply.
+#[derive(Drop)]
+pub struct LentOpReply<'a> {
+    rows: LentRows<'a>,
+}
+
+impl<'a> Model for LentOpReply<'a> {
+    ghost use Rattle.entry_book.specs.declared.reply.OpReply.{OpReply};
+    ghost use Rattle.batch_work.specs.LentReplies.{op_reply_of};
+
+    ghost Value = { OpReply };
+
+    ghost view = { λ reply. op_reply_of reply.rows };
+}
+
+impl<'a> LentOpReply<'a> {
+    ghost use Rattle.std.specs.Prelude.{◌≡◌, IfOk};
+    ghost use Rattle.batch_work.specs.LentReplies.{op_reply_of};
+
+    /// The reply that gives these rows.
+    pub(crate) fn of(rows: LentRows<'a>) -> LentOpReply<'a>
+        ensures { result ≡ op_reply_of rows.entry }
+    {
+        LentOpReply { rows }
+    }
+
+    /// The rows.
+    pub fn rows(&self) -> &LentRows<'a>
+        ensures { op_reply_of result.now ≡ self.now }
+    {
+        &self.rows
+    }
+
+    /// The same reply with copies of the rows. The error is want of memory.
+    fn kept(&self, alloc: Global) -> Result<OpReply, AllocError>
+        ensures { IfOk result (λ reply. reply ≡ self.now) }
+    {
+        Ok(match &self.rows {
+            LentRows::Entry(entry) => OpReply::EntryShown(copied(entry)?),
+            LentRows::Entries(entries) => {
+                OpReply::Entries(Sequence::of(owned(alloc, entries.as_slice())?))
+            }
+            LentRows::Page(entries, next) => {
+                OpReply::Page(Sequence::of(owned(alloc, entries.as_slice())?), *next)
+            }
+            LentRows::Agent(agent) => OpReply::AgentShown(copied(agent)?),
+            LentRows::Bundle(bundle) => OpReply::BundleShown(copied(bundle)?),
+            LentRows::Bundles(bundles) => {
+                OpReply::Bundles(Sequence::of(owned(alloc, bundles.as_slice())?))
+            }
+        })
+    }
+}
+
+/// The replies to the operations of a batch that only asks, or why it is refused.
+pub type LentOutcome<'a> = Result<Sequence<LentOpReply<'a>>, Refusal>;
+
+/// The reply to a batch that only asks, whose rows are lent by the version that was asked. A contract sees the reply.
+#[derive(Drop)]
+pub struct LentReply<'a> {
+    place: u64,
+    outcome: LentOutcome<'a>,
+}
+
+impl<'a> Model for LentReply<'a> {
+    ghost use Rattle.entry_book.specs.declared.reply.Reply.{Reply};
+    ghost use Rattle.batch_work.specs.LentReplies.{outcome_of};
+
+    ghost Value = { Reply };
+
+    ghost view = { λ reply. record { place = reply.place; outcome = outcome_of reply.outcome } };
+}
+
+impl<'a> LentReply<'a> {
+    ghost use Rattle.std.specs.Prelude.{◌≡◌, IfOk};
+    ghost use Rattle.batch_work.specs.LentReplies.{outcome_of};
+
+    /// The reply at this place, with what became of the batch.
+    pub(crate) fn of(place: u64, outcome: LentOutcome<'a>) -> LentReply<'a>
+        ensures { result ≡ record { place = place; outcome = outcome_of outcome.entry } }
+    {
+        LentReply { place, outcome }
+    }
+
+    /// The number of the last book.
+    pub fn place(&self) -> u64
+        ensures { result ≡ self.now.place }
+    {
+        self.place
+    }
+
+    /// The replies to the operations, or why the batch is refused.
+    pub fn outcome(&self) -> &LentOutcome<'a>
+        ensures { outcome_of result.now ≡ self.now.outcome }
+    {
+        &self.outcome
+    }
+
+    /// The same reply with copies of the rows, to be kept as long as anyone likes. The error is want of memory.
+    pub fn kept(&self, alloc: Global) -> Result<Shared<Reply>, AllocError>
+        ensures { IfOk result (λ reply. reply ≡ self.now) }
+    {
+        let outcome = match &self.outcome {
+            Ok(replies) => Outcome::Answered(Shared::of(
+                alloc,
+                kept_replies(alloc, replies.as_slice())?,
+            )?),
+            Err(refusal) => Outcome::Refused(refusal.clone()?),
+        };
+        let place = self.place;
+        Shared::of(alloc, Reply { place, outcome })
+    }
+}
+
+/// The row, lent, where there is one.
+pub(crate) fn lent<'a, T>(row: Option<&'a T>) -> Option<Lent<'a, T>>
+    ensures { result ≡ option_copied row.entry }
+{
+    match row {
+        Some(row) => Some(Lent::of(row)),
+        None => None,
+    }
+}
+
+/// A copy of the row, where there is one. The error is that no more owners can be counted.
+fn copied<T: Clone>(row: &Option<Lent<'_, T>>) -> Result<Option<T>, AllocError>
+    requires clones { (one copy : T) → T.is_clone one copy → copy ≡ one }
+    ensures { IfOk result (λ copy. copy ≡ row.now) }
+{
+    match row {
+        Some(row) => Ok(Some(row.get().clone()?)),
+        None => Ok(None),
+    }
+}
+
+/// The same replies with copies of the rows. The error is want of memory.
+fn kept_replies(alloc: Global, replies: &[LentOpReply<'_>]) -> Result<Sequence<OpReply>, AllocError>
+    ensures { IfOk result (λ kept. kept ≡ replies.now) }
+{
+    let mut kept = Sequence::empty(alloc);
+    for reply in replies {
+        kept.push(reply.kept(alloc)?)?;
+    }
+    Ok(kept)
+}

@@ -1,0 +1,55 @@
+//! Which line prints the reply to a batch that only asks, where the rows are lent?
+
+ghost use Rattle.reg_lines.specs.Replies.{op_reply_json, reply_json};
+
+use crate::printing::print_json::PrintJson;
+use crate::printing::replies::{print_done, print_page, print_refused, print_under};
+use batch_work::{LentOpReply, LentReply, LentRows};
+use line_devices::{Output, Sink};
+use version_book::Lent;
+
+/// As the value is printed.
+impl<T: PrintJson> PrintJson for Lent<'_, T> {
+    ghost text = { T.text };
+
+    fn print_to<S: Sink>(&self, output: &mut Output<S>) {
+        self.get().print_to(output);
+    }
+}
+
+/// An object whose first key says what kind of reply it is. A row that isn't there is `null`.
+impl PrintJson for LentOpReply<'_> {
+    ghost text = { op_reply_json };
+
+    fn print_to<S: Sink>(&self, output: &mut Output<S>) {
+        match self.rows() {
+            LentRows::Entry(entry) => print_under("entry", entry, output),
+            LentRows::Entries(entries) => print_under("entries", entries, output),
+            LentRows::Page(entries, next) => print_page(entries.as_slice(), next, output),
+            LentRows::Agent(agent) => print_under("agent", agent, output),
+            LentRows::Bundle(bundle) => print_under("bundle", bundle, output),
+            LentRows::Bundles(bundles) => print_under("bundles", bundles, output),
+        }
+    }
+}
+
+/// The reply to a batch that only asks with the number of its call, as a reply line has them.
+#[derive(Drop)]
+pub struct LentCallReply<'a> {
+    /// The number of the call that asked.
+    pub call: u64,
+    /// The reply to the batch.
+    pub reply: LentReply<'a>,
+}
+
+impl PrintJson for LentCallReply<'_> {
+    ghost text = { λ r. reply_json r.call r.reply };
+
+    fn print_to<S: Sink>(&self, output: &mut Output<S>) {
+        let place = self.reply.place();
+        match self.reply.outcome() {
+            Ok(replies) => print_done(self.call, place, replies.as_slice(), "answered", output),
+            Err(refusal) => print_refused(self.call, place, refusal, output),
+        }
+    }
+}

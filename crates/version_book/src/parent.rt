@@ -1,0 +1,56 @@
+//! Where do the keys of a parent's entries begin, and where do they end?
+
+ghost use Rattle.std.specs.Prelude.{◌≡◌};
+
+use crate::key::{GroupKey, KeyPart};
+use entry_book::Shared;
+use spiffe_name::SpiffeId;
+use std::cmp::Ordering;
+use version_shelf::Bound;
+
+/// Before the keys of a parent's entries. No key is made, so no owner of the parent's ID is counted.
+#[derive(Drop)]
+pub(crate) struct ParentStart<'a> {
+    pub(crate) parent: &'a Shared<SpiffeId>,
+}
+
+/// Behind the keys of a parent's entries.
+#[derive(Drop)]
+pub(crate) struct ParentEnd<'a> {
+    pub(crate) parent: &'a Shared<SpiffeId>,
+}
+
+impl Bound<GroupKey> for ParentStart<'_> {
+    ghost use Rattle.version_book.specs.declared.key.KeyPart.TheVariants.{Start, At};
+
+    ghost place = { λ start. (At start.parent.now, Start, Start) };
+
+    fn is_above(&self, key: &GroupKey) -> bool {
+        match &key.0 {
+            KeyPart::Start => true,
+            KeyPart::At(parent) => parent.cmp(self.parent).is_lt(),
+            KeyPart::End => false,
+        }
+    }
+}
+
+impl Bound<GroupKey> for ParentEnd<'_> {
+    ghost use Rattle.version_book.specs.declared.key.KeyPart.TheVariants.{At, End};
+
+    ghost place = { λ end. (At end.parent.now, End, End) };
+
+    fn is_above(&self, key: &GroupKey) -> bool {
+        match &key.0 {
+            KeyPart::Start => true,
+            KeyPart::At(parent) => match parent.cmp(self.parent) {
+                Ordering::Less => true,
+                Ordering::Equal => {
+                    let identity = key.1.cmp(&KeyPart::End);
+                    identity.then(key.2.cmp(&KeyPart::End)).is_lt()
+                }
+                Ordering::Greater => false,
+            },
+            KeyPart::End => false,
+        }
+    }
+}
