@@ -2,7 +2,7 @@
 //!
 //! Nothing commits on what it reads, so it keeps no marks and makes no steps, and its rows are lent.
 
-ghost use Rattle.std.specs.Prelude.{◌≡◌, ◌++◌, ◌∷◌, [], IfOk, IfSome, true, ℕ};
+ghost use Rattle.std.specs.Prelude.{◌≡◌, IfOk, IfSome, true, ℕ};
 ghost use Rattle.std.specs.Option.{option_copied};
 ghost use Rattle.entry_book.specs.Batches.{Batch as BatchRow, is_query, is_question, past_place};
 ghost use Rattle.entry_book.specs.History.{reply_with, verdict_run};

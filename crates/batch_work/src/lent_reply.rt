@@ -2,7 +2,6 @@
 
 ghost use Rattle.std.specs.Prelude.{◌≡◌, IfOk};
 ghost use Rattle.std.specs.Option.{option_copied};
-ghost use Rattle.batch_work.specs.LentReplies.{op_reply_of, outcome_of};
 
 use entry_book::{Agent, Bundle, Entry, OpReply, Outcome, Refusal, Reply, Sequence, Shared};
 use std::alloc::{AllocError, Global};

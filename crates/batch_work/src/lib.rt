@@ -8,7 +8,7 @@
 //! - [`Work`]: a batch on its way. It begins on a window, makes a read with each step, and is then ready for its commit, or
 //!   settled; [`Status`] says which.
 //! - [`answer`]: the reply to a batch that only asks, at once: nothing commits on what it reads, so there are no steps and no marks.
-//! - [`LentReply`]: such a reply, whose rows are lent by the version that was asked, so that no owner of a row is counted; it is made
+//! - [`LentReply`]: such a reply, whose rows are lent by the version that was asked, so that it counts no owner of them; it is made
 //!   of a [`LentOpReply`] for each operation, which has its [`LentRows`].
 //! - [`Window`]: the last 64 versions of one history. A batch reads the newest, or for the page of an earlier book that one.
 //! - [`laws`]: what is read decides what a batch comes to; what becomes of it at a commit; how many reads it makes, and which;

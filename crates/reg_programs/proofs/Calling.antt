@@ -16,10 +16,32 @@ use Rattle.line_reading.specs.declared.refusal.LineRefusal.{LineRefusal}
 use Rattle.reg_lines.specs.declared.printing.seats.SeatRefusal.TheVariants.{Spent}
 use Rattle.line_reading.specs.declared.request.Request.{Request}
 use Rattle.line_reading.proofs.Kept.{kept_spells}
-use Rattle.shared_registry.specs.Seated.{Seated}
+use mathlib.Core.List.{IsPrefix}
+use Rattle.shared_registry.specs.Seated.{Entered, MaySee, Seated, Stays}
+use Rattle.commit_head.specs.declared.item.Item.{Item}
 use Rattle.line_engines.specs.Answers.{as_line}
 use Rattle.line_engines.specs.Driver.{AnswersKept}
 use Rattle.reg_programs.specs.Sessions.{AnswersCall, AnswersRequest, Session, TakesRequestLine, answered, asked, not_read, passed, refused, spent}
+
+-- ---- a seat that has seen what it found
+
+pub entered : (domain : Bytes) (s u t : Seated) → Stays domain s u → MaySee domain u → t ≡ record u { seen = u.found } → Entered domain s t
+entered domain s u t stays may is =
+    let along = stays.along in
+    let seen : IsPrefix s.seen u.found = subst (λ (l : List Item). IsPrefix l u.found) stays.same may.seen in
+    let told : IsPrefix s.told u.found = subst (λ (l : List Item). IsPrefix l u.found) along.told may.told in
+    subst (Entered domain s) (sym is) (record {
+      along = record {
+        number = along.number;
+        calls = along.calls;
+        fresh = along.fresh;
+        lawful = may.lawful;
+        seen = seen;
+        told = along.told;
+        own = may.own;
+      };
+      heard = told;
+    })
 
 -- ---- one line
 
@@ -60,6 +82,10 @@ call_answered domain now line text seat ids request e a = record {
   ids_is = refl;
   lines_is = refl;
 }
+
+-- what was printed is what was told, and the seat is as it was
+pub printed : (domain : Bytes) (now : Session) (line told text : List ℕ) (seat t : Seated) (ids : ChaCha) → t ≡ seat → text ≡ told → TakesRequestLine domain now line told seat ids → TakesRequestLine domain now line text t ids
+printed domain now line told text seat t ids s e taken = subst (λ (u : Seated). TakesRequestLine domain now line text u ids) (sym s) (subst (λ (x : List ℕ). TakesRequestLine domain now line x seat ids) (sym e) taken)
 
 -- ---- the line of which bytes are kept
 

@@ -4,7 +4,7 @@ use Rattle.entry_book.specs.Rows.{Bytes}
 use Rattle.line_reading.specs.declared.request.Request.{Request}
 use Rattle.shared_registry.specs.Seated.{Along, Seated}
 use Rattle.shared_registry.proofs.Prefixes.{prefix_self, prefix_trans}
-use Rattle.reg_programs.specs.Sessions.{AnswersCall, AnswersRequest, Grew, Session, SessionsGrow, answered, asked, no_reply, not_read, passed, refused, replied, spent, submitted, unanswered}
+use Rattle.reg_programs.specs.Sessions.{AnswersCall, AnswersRequest, Grew, Session, SessionsGrow, answered, asked, no_reply, not_read, passed, refused, replied, spent, submitted}
 
 pub grew_same : (domain : Bytes) (s : Seated) → Grew domain s s
 grew_same domain s = record {
@@ -36,7 +36,6 @@ grew_along domain s t a = record {
 grew_by_call : (domain : Bytes) (s t : Seated) (request : Request) (line : ℕ) (text : List ℕ) → AnswersCall domain s request line t text → Grew domain s t
 grew_by_call domain s t request line text (replied q e o r) = grew_along domain s t e.along
 grew_by_call domain s t request line text (no_reply why q e o r) = grew_along domain s t e.along
-grew_by_call domain s t request line text (unanswered q e o r) = grew_along domain s t e.along
 grew_by_call domain s t request line text (submitted outcome q a h i r) = grew_along domain s t a
 
 grew_to : (domain : Bytes) (s : Seated) (made next : Session) → next ≡ made → Grew domain s made.seat → Grew domain s next.seat

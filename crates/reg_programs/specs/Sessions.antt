@@ -1,7 +1,7 @@
 -- What the engine `session` answers, line by line.
 use Rattle.std.specs.Prelude.{◌≡◌, ◌⊎◌, ◌≤◌, ◌^◌, ⊤, ℕ, ◌+◌, true, false, List, [], Result, Ok, Err, refl}
 use Rattle.rand_chacha.specs.ChaCha.{ChaCha}
-use Rattle.entry_book.specs.Batches.{is_query}
+use Rattle.entry_book.specs.Batches.{Batch, is_query}
 use Rattle.entry_book.specs.History.{books_of, reply_to}
 use Rattle.entry_book.specs.Rows.{Bytes}
 use Rattle.entry_book.specs.declared.reply.Outcome.TheVariants.{Committed as WasCommitted, Repeated as WasRepeated}
@@ -17,7 +17,7 @@ use Rattle.line_reading.specs.declared.fault.Fault.{Fault}
 use Rattle.reg_lines.specs.declared.printing.seats.SeatRefusal.TheVariants.{Spent, NoEntry as WasNotLetIn}
 use Rattle.line_reading.specs.declared.request.Request.{Request}
 use Rattle.shared_registry.specs.Outcomes.{HasHeard, IsSubmitted}
-use Rattle.shared_registry.specs.Seated.{Along, Entered, Seated, Stays}
+use Rattle.shared_registry.specs.Seated.{Along, Entered, MaySee, Seated, Stays}
 use Rattle.shared_registry.specs.declared.outcome.Outcome.{Outcome}
 use Rattle.shared_registry.specs.declared.outcome.Outcome.TheVariants.{Committed, Repeated, Refused, Conflict, NoMemory, NoEntry}
 use Rattle.shared_registry.specs.declared.seat.NoAnswer.{NoAnswer}
@@ -64,11 +64,10 @@ outcome_json call line NoEntry = seat_refusal_json line WasNotLetIn
 
 -- ---- a call of the seat, and its answer
 
--- What a seat is answered to a request, as it is printed, and what the seat is then. A question has the plain book's reply on the books of what the seat has then seen; where memory is wanting for that reply alone, the seat has seen these books all the same. A batch of changes is answered as the registry promises it, with the tries that the request gives.
+-- What a seat is answered to a request, as it is printed, and what the seat is then. A question has the plain book's reply on the books of what the seat has then seen. A batch of changes is answered as the registry promises it, with the tries that the request gives.
 pub data AnswersCall (domain : Bytes) (s : Seated) (request : Request) (line : ℕ) (t : Seated) (text : List ℕ) : Type 0 where
   replied : is_query request.batch.ops ≡ true → Entered domain s t → t.own ≡ s.own → text ≡ reply_json t.calls (reply_to request.batch (books_of (batches_of t.seen))) → AnswersCall domain s request line t text
   no_reply : (why : NoAnswer) → is_query request.batch.ops ≡ true → Stays domain s t → t.own ≡ s.own → text ≡ no_answer_json line why → AnswersCall domain s request line t text
-  unanswered : is_query request.batch.ops ≡ true → Entered domain s t → t.own ≡ s.own → text ≡ no_memory_json line → AnswersCall domain s request line t text
   submitted : (outcome : Outcome) → is_query request.batch.ops ≡ false → Along domain s t → HasHeard s t outcome → IsSubmitted s t request.batch request.tries outcome → text ≡ outcome_json t.calls line outcome → AnswersCall domain s request line t text
 
 -- ---- a line, and its answer
@@ -106,12 +105,16 @@ line_answer_json (NotRead r) = refusal_json r
 -- A question is the seat's to answer: the seat has just looked at what is published.
 abbrev pub IsToAnswer : Bytes → Seated → Taken → Type 0
 IsToAnswer domain seat (Answered a) = ⊤
-IsToAnswer domain seat (Asked line batch) = (seat.found ≡ seat.seen) × (is_query batch.ops ≡ true) × (batch.domain ≡ domain)
+IsToAnswer domain seat (Asked line batch) = MaySee domain seat × (is_query batch.ops ≡ true) × (batch.domain ≡ domain)
 
--- What is printed of a line that was taken: what it is answered, or the reply to a question on the books of what the seat has seen, or that memory is wanting for it.
-abbrev pub IsTextOf : Seated → Taken → List ℕ → Type 0
-IsTextOf seat (Answered a) text = text ≡ line_answer_json a
-IsTextOf seat (Asked line batch) text = (text ≡ reply_json seat.calls (reply_to batch (books_of (batches_of seat.seen)))) ⊎ (text ≡ no_memory_json line)
+-- the reply to a question on what the seat found, with the number of its call
+abbrev pub found_json : Seated → Batch → List ℕ
+found_json seat batch = reply_json seat.calls (reply_to batch (books_of (batches_of seat.found)))
+
+-- What is printed of a line that was taken, and what the seat is then: what the line is answered; or the reply to a question on what the seat found, which it has then seen; or that memory is wanting for that reply.
+abbrev pub IsPrinted : Seated → Taken → Seated → List ℕ → Type 0
+IsPrinted s (Answered a) t text = (t ≡ s) × (text ≡ line_answer_json a)
+IsPrinted s (Asked line batch) t text = ((t ≡ record s { seen = s.found }) × (text ≡ found_json s batch)) ⊎ ((t ≡ s) × (text ≡ no_memory_json line))
 
 -- One line was taken: its reply has this text, and this is where it left the seat and the ids.
 pub record TakesRequestLine (domain : Bytes) (now : Session) (line : List ℕ) (text : List ℕ) (seat : Seated) (ids : ChaCha) : Type 0 where

@@ -1,10 +1,12 @@
 //! How is an input of request lines answered through a seat of a shared registry?
 
-ghost use Rattle.std.specs.Prelude.{◌≡◌, ◌+◌, ◌<◌, ◌^◌, [], List, true, false, ℕ};
+ghost use Rattle.std.specs.Prelude.{◌≡◌, ◌+◌, ◌<◌, ◌^◌, [], List, MatchBool, true, false, ℕ};
+ghost use Rattle.entry_book.specs.Batches.{is_query};
 ghost use Rattle.reg_lines.specs.Refusals.{no_memory_json, refusal_json};
 ghost use Rattle.reg_lines.specs.Stream.{Puts};
 ghost use Rattle.line_engines.specs.Answers.{as_line};
-ghost use Rattle.reg_programs.specs.Sessions.{AnswersCall, Grew, IsTextOf, IsToAnswer, RunsSession, Session, SessionsGrow, TakesRequestLine, line_answer_json, no_answer_json, outcome_json};
+ghost use Rattle.shared_registry.specs.Seated.{Seated};
+ghost use Rattle.reg_programs.specs.Sessions.{AnswersCall, Grew, IsPrinted, IsToAnswer, RunsSession, Session, SessionsGrow, TakesRequestLine, found_json, line_answer_json, no_answer_json, outcome_json};
 
 use entry_book::{Batch, Outcome as BatchOutcome, Reply, Shared};
 use line_engines::{Answerer, RunFault, run_lines};
@@ -123,7 +125,7 @@ impl<'a, J: Naming, R: Wait> Answerer for SessionRun<'a, J, R> {
             line,
         );
         self.lines += 1;
-        print_taken(&self.seat, &taken, output);
+        print_taken(&mut self.seat, &taken, output);
         true
     }
 
@@ -178,20 +180,36 @@ pub(crate) enum Taken {
     Asked(u64, Batch),
 }
 
-/// Prints the reply to a line that was taken. The seat lends the rows of its answer.
-fn print_taken<J: Naming, K: Sink>(seat: &Seat<J>, taken: &Taken, output: &mut Output<K>)
-    requires { IsToAnswer J.domain seat.now taken.now }
-    ensures { (text : List ℕ) × IsTextOf seat.now taken.now text × Puts output.old output.new (as_line text) }
+/// Prints the seat's answer to a question that it has looked for, whose rows it lends, or nothing where memory is wanting for it.
+fn print_found<J: Naming, K: Sink>(seat: &Seat<J>, batch: &Batch, output: &mut Output<K>) -> bool
+    requires query { is_query batch.now.ops ≡ true }
+    requires domain { batch.now.domain ≡ J.domain }
+    ensures { MatchBool result (Puts output.old output.new (as_line (found_json seat.now batch.now))) (output.new ≡ output.old) }
+{
+    match seat.answer(batch) {
+        Ok(reply) => {
+            let call = seat.calls();
+            print_line(&LentCallReply { call, reply }, output);
+            true
+        }
+        Err(AllocError) => false,
+    }
+}
+
+/// Prints the reply to a line that was taken. What the seat was answered on it has then seen.
+fn print_taken<J: Naming, K: Sink>(seat: &mut Seat<J>, taken: &Taken, output: &mut Output<K>)
+    requires { IsToAnswer J.domain seat.old taken.now }
+    ensures { (text : List ℕ) × IsPrinted seat.old taken.now seat.new text × Puts output.old output.new (as_line text) }
 {
     match taken {
         Taken::Answered(answer) => print_line(answer, output),
-        Taken::Asked(line, batch) => match seat.answer(batch) {
-            Ok(reply) => {
-                let call = seat.calls();
-                print_line(&LentCallReply { call, reply }, output);
+        Taken::Asked(line, batch) => {
+            if print_found(seat, batch, output) {
+                seat.see_found();
+            } else {
+                print_line(&no_memory(*line), output);
             }
-            Err(AllocError) => print_line(&no_memory(*line), output),
-        },
+        }
     }
 }
 
@@ -209,8 +227,8 @@ fn take<J: Naming, R: Wait>(
     requires domain { domain.now ≡ J.domain }
     requires lines { lines + 1 < 2 ^ 64 }
     ensures asked { IsToAnswer J.domain seat.new result }
-    ensures line { (text : List ℕ) → IsTextOf seat.new result text
-        → TakesRequestLine J.domain (record { seat = seat.old; ids = ids.old; lines = lines }) line.now text seat.new ids.new }
+    ensures line { (printed : Seated) (text : List ℕ) → IsPrinted seat.new result printed text
+        → TakesRequestLine J.domain (record { seat = seat.old; ids = ids.old; lines = lines }) line.now text printed ids.new }
 {
     match read_request(alloc, domain, ids, line, lines + 1) {
         Err(refusal) => Taken::Answered(LineAnswer::NotRead(refusal)),
@@ -238,7 +256,8 @@ fn call<J: Naming, R: Wait>(
     requires domain { request.batch.domain ≡ J.domain }
     requires calls { seat.old.calls < 2 ^ 48 }
     ensures asked { IsToAnswer J.domain seat.new result }
-    ensures answers { (text : List ℕ) → IsTextOf seat.new result text → AnswersCall J.domain seat.old request line seat.new text }
+    ensures answers { (printed : Seated) (text : List ℕ) → IsPrinted seat.new result printed text
+        → AnswersCall J.domain seat.old request line printed text }
 {
     let Request { batch, tries } = request;
     if batch.is_query() {

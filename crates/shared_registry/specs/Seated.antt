@@ -6,7 +6,7 @@ use Rattle.commit_head.specs.declared.item.Item.{Item}
 use Rattle.commit_head.specs.Journals.{IsLawfulJournal}
 use Rattle.shared_registry.specs.Seats.{AllBelow, calls_of}
 
--- The seat's number, how many calls it has made, the journal that it has seen, the longest that it was told of, the numbers of its own committed calls, and the journal that it found published when it last looked.
+-- The seat's number, how many calls it has made, the journal that it has seen, the longest that it was told of, the numbers of its own committed calls, and the journal that it found published when it last looked, or was made.
 pub record Seated : Type 0 where
   pub number : ℕ
   pub calls : ℕ
@@ -34,6 +34,13 @@ pub record Entered (domain : Bytes) (s t : Seated) : Type 0 where
 pub record Stays (domain : Bytes) (s t : Seated) : Type 0 where
   pub along : Along domain s t
   pub same : t.seen ≡ s.seen
+
+-- What the seat found can be seen: it is a lawful journal, which begins with all that the seat has seen and was told of, and its items under this seat are the seat's own calls.
+pub record MaySee (domain : Bytes) (s : Seated) : Type 0 where
+  pub lawful : IsLawfulJournal domain s.found
+  pub seen : IsPrefix s.seen s.found
+  pub told : IsPrefix s.told s.found
+  pub own : calls_of s.number s.found ≡ s.own
 
 -- What holds of a seat whatever it finds under the lock.
 pub record Goes (s t : Seated) : Type 0 where

@@ -7,7 +7,7 @@ ghost use Rattle.entry_book.specs.History.{books_of, reply_to};
 ghost use Rattle.commit_head.specs.Heads.{IsJournal};
 ghost use Rattle.commit_head.specs.Journals.{IsLawfulJournal, batches_of};
 ghost use Rattle.shared_registry.specs.Seats.{calls_of, AllBelow};
-ghost use Rattle.shared_registry.specs.Seated.{Along, Entered, Goes, Stays};
+ghost use Rattle.shared_registry.specs.Seated.{Along, Entered, Goes, MaySee, Stays};
 ghost use Rattle.shared_registry.specs.Shown.{IsOf, whole_head};
 
 use crate::gate::{Gate, Point};
@@ -243,11 +243,12 @@ impl<J: Naming> Seat<J> {
         }
     }
 
-    /// Looks at what is published, for a query, which is one call. The seat has then seen it. It waits for nobody.
+    /// Looks at what is published, for a query, which is one call. What it has then found can be answered on, and seen. It waits for
+    /// nobody.
     pub fn look(&mut self) -> Result<(), NoAnswer>
         requires has_calls { self.old.calls < 2 ^ 48 }
-        ensures found { IfOk result (λ _. self.new.found ≡ self.new.seen) }
-        ensures entered { MatchResult result (λ _. Entered J.domain self.old self.new) (λ _. Stays J.domain self.old self.new) }
+        ensures found { IfOk result (λ _. MaySee J.domain self.new) }
+        ensures stays { Stays J.domain self.old self.new }
         ensures own { self.new.own ≡ self.old.own }
     {
         let _before = self.seen.len();
@@ -260,25 +261,32 @@ impl<J: Naming> Seat<J> {
             self.number,
             self.count,
         );
-        let front = match found {
-            Ok(front) => front,
-            Err(why) => return Err(why),
-        };
-        let _after = front.len();
-        self.seen = front;
-        Ok(())
+        match found {
+            Ok(front) => {
+                let _after = front.len();
+                Ok(())
+            }
+            Err(why) => Err(why),
+        }
     }
 
-    /// The answer to a query, on the books of what the seat has seen, which it has just looked at. The seat lends its rows, so that
-    /// no owner of a row is counted. It waits for nobody. The error is want of memory.
+    /// The answer to a query, on the books of what the seat has found. The seat lends its rows. It waits for nobody. The error is want
+    /// of memory.
     pub fn answer(&self, batch: &Batch) -> Result<LentReply<'_>, AllocError>
-        requires found { self.now.found ≡ self.now.seen }
         requires query { is_query batch.now.ops ≡ true }
         requires domain { batch.now.domain ≡ J.domain }
-        ensures answer { IfOk result (λ reply. reply ≡ reply_to batch.now (books_of (batches_of self.now.seen))) }
-        ensures place { IfOk result (λ reply. reply.place ≡ length self.now.seen) }
+        ensures answer { IfOk result (λ reply. reply ≡ reply_to batch.now (books_of (batches_of self.now.found))) }
+        ensures place { IfOk result (λ reply. reply.place ≡ length self.now.found) }
     {
         lent_answer(self.alloc, &self.page, batch)
+    }
+
+    /// Has seen what it found. Takes no memory.
+    pub fn see_found(&mut self)
+        requires found { MaySee J.domain self.old }
+        ensures { self.new ≡ record self.old { seen = self.old.found } }
+    {
+        self.seen = self.page.front();
     }
 
     /// The answer to a query, on the books of what is then seen, with rows of its own. It waits for nobody.
@@ -321,7 +329,7 @@ impl<J: Naming> Seat<J> {
     /// Later queries and submits begin with what the receipt's seat had seen. It waits for nobody and takes no memory.
     pub fn learn(&mut self, receipt: &Receipt<J>)
         ensures told { IsPrefix receipt.now self.new.told × IsPrefix self.old.told self.new.told }
-        ensures seen { (self.new.seen ≡ self.old.seen) × (self.new.own ≡ self.old.own) × (self.new.number ≡ self.old.number) × (self.new.calls ≡ self.old.calls) }
+        ensures seen { (self.new.seen ≡ self.old.seen) × (self.new.own ≡ self.old.own) × (self.new.number ≡ self.old.number) × (self.new.calls ≡ self.old.calls) × (self.new.found ≡ self.old.found) }
     {
         self.told = self.told.longer(&receipt.seen);
     }

@@ -52,7 +52,7 @@ pub fn without_tries(text: &str) -> &str {
     text.split_once("; ").unwrap_or((text, "")).1
 }
 
-/// The answer to a query, with rows of its own, or with rows that the seat lends, at each other call. There is nothing here to wait
+/// The answer to a query, with rows that the seat lends, or with rows of its own, at each other call. There is nothing here to wait
 /// with.
 fn query<J: Naming>(
     registry: &Registry<J>,
@@ -66,7 +66,7 @@ fn query<J: Naming>(
     if batch.domain() != own || !batch.is_query() || !seat.has_calls() {
         return Err(Failed("a batch isn't for a query"));
     }
-    if seat.calls().is_multiple_of(2) {
+    if !seat.calls().is_multiple_of(2) {
         return Ok(registry.query(seat, batch)?);
     }
     seat.look()?;
@@ -74,6 +74,7 @@ fn query<J: Naming>(
     let reply = lent.kept(alloc);
     drop(lent);
     drop(batch);
+    seat.see_found();
     Ok(reply?)
 }
 

@@ -83,7 +83,7 @@ fn expiry_keys(alloc: Global, entry: &Entry) -> Result<Vec<ExpiryKey>, AllocErro
 }
 
 impl Entries {
-    ghost use Rattle.std.specs.Prelude.{◌≡◌, ◌&&◌, ◌+◌, ◌≤◌, [], IfOk, IfSome, IsTrue, List, Some, None, bytes_eq, filter, length, map, nat_lt, option_map, take, if◌then◌else◌, ℕ};
+    ghost use Rattle.std.specs.Prelude.{◌≡◌, ◌&&◌, ◌+◌, ◌≤◌, [], IfOk, IfSome, IsTrue, Some, None, bytes_eq, filter, length, map, nat_lt, option_map, take, if◌then◌else◌};
     ghost use Rattle.std.specs.Option.{option_copied};
     ghost use Rattle.entry_book.specs.Order.{Ascending, Within, first, with_row};
     ghost use Rattle.entry_book.specs.Pages.{comes_after, last_id, passes};

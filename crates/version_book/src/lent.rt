@@ -1,6 +1,6 @@
 //! How is a row lent to a reader?
 
-ghost use Rattle.std.specs.Prelude.{◌≡◌, ◌++◌, IfOk};
+ghost use Rattle.std.specs.Prelude.{◌≡◌, IfOk};
 ghost use Rattle.version_shelf.specs.Shelf.{ClonesEqual};
 
 use std::alloc::{AllocError, Global};

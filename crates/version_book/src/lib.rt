@@ -17,7 +17,7 @@
 //! | `children` | those of the parent, once a search has found them | none | for a list of them, and for sorting it |
 //! | `page` | from the id from which it goes on, once a search has found it, to the one that shows that more come | none | for a list of them |
 //! | `unchanged` | those that the mark names, up to the first difference, once a search has found them | none | none |
-//! | `read` | those that the mark names, once a search has found them | those of these rows | for a list of them, and for sorting it |
+//! | `read` | those that the mark names, once a search has found them | those of these rows | for two lists of them, and for sorting one |
 //! | `read_after` | the same, and these again for each change | those of these rows, again for each change | for a list of them, again for each change |
 //! | `apply` | for each key of a row that goes or comes, those that a search compares | one of each part of the pages made anew; one of each other shelf, and one of the server's names | for these pages, and for a row that comes, once for each of its keys |
 //!

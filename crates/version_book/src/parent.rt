@@ -1,7 +1,5 @@
 //! Where do the keys of a parent's entries begin, and where do they end?
 
-ghost use Rattle.std.specs.Prelude.{◌≡◌};
-
 use crate::key::{GroupKey, KeyPart};
 use entry_book::Shared;
 use spiffe_name::SpiffeId;

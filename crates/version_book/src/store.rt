@@ -37,7 +37,7 @@ impl Model for Store {
 }
 
 impl Store {
-    ghost use Rattle.std.specs.Prelude.{◌≡◌, IfOk, IsTrue, List, Ok, map, length, ℕ};
+    ghost use Rattle.std.specs.Prelude.{◌≡◌, IfOk, IsTrue, Ok, map, length};
     ghost use Rattle.std.specs.Option.{option_copied};
     ghost use Rattle.entry_book.specs.Book.{agent_at, bundle_at, children_of, entry_at};
     ghost use Rattle.entry_book.specs.Order.{Ascending};

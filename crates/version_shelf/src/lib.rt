@@ -28,7 +28,7 @@
 //! | `without`, `without_counted` | as `get` | none | for 1,024 rows and pages put into new pages; none where no row has the key |
 //!
 //! The contracts of `find`, `with_counted` and `without_counted` say it by a [`Count`], with 32 comparisons; all
-//! comparisons of keys are made by `count::compared`, and rows and pages are put into new pages by `page::put`,
+//! comparisons of keys are made by `count::compared` and `count::is_below`, one for each question to a bound, and rows and pages are put into new pages by `page::put`,
 //! `page::append` and the cut into halves, where each is counted.
 //!
 //! What sharing means: a row that a shelf has from an older one is the same key and value in memory, which are let go with
@@ -40,11 +40,11 @@
 //!
 //! - `shelf`: the face, what a shelf can be asked and how the next one is made.
 //! - `bound`: where a range begins or ends.
-//! - `range`: the walk over the rows from a bound on, or between two, as callers see it.
+//! - `range`: the walk over the rows from a key on, or between two, as callers see it.
 //! - `count`: how the work of a call is counted.
 //! - `path`: where in a shelf a key belongs, and what a change makes of it.
 //! - `rebuilt`: pages, of which one has other parts than before.
-//! - `search`: where among parts in order a key belongs.
+//! - `search`: where among parts in order a bound belongs.
 //! - `walk`: a walk that steps from page to page.
 //! - `leaf`: the rows of one leaf.
 //! - `page`: parts that several shelves hold.

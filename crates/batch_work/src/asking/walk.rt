@@ -17,7 +17,7 @@ use version_book::Lent;
 /// An identity of an entry that is lent.
 type LentId<'a> = Lent<'a, Shared<SpiffeId>>;
 
-/// The walk of a work, all of whose rows are lent, so that it counts no owner of any.
+/// The walk of a question: as that of a work, but all of its rows are lent, so that it counts no owner of any.
 #[derive(Drop)]
 pub(crate) struct LentWalk<'a> {
     agent: &'a Agent,

@@ -1,34 +1,53 @@
 use Rattle.std.proofs.Common.{ℕ, ⊎_elim, ap, subst, sym, ◌∙◌}
-use Rattle.reg_programs.specs.Sessions.{no_reply, outcome_json, replied, submitted, unanswered}
+use Rattle.entry_book.specs.History.{books_of, reply_to}
+use Rattle.commit_head.specs.Journals.{batches_of}
+use Rattle.reg_lines.specs.Replies.{reply_json}
 use Rattle.shared_registry.specs.Outcomes.{IsSubmitted}
+use Rattle.shared_registry.specs.Seated.{Seated}
+use Rattle.shared_registry.specs.declared.seat.NoAnswer.TheVariants as no
+use Rattle.reg_programs.specs.Sessions.{AnswersCall, no_reply, outcome_json, replied, submitted}
+use Rattle.reg_programs.proofs.Calling.{entered}
 use Rattle.reg_programs.proofs.session_engine.call.Goals as goal
 
 -- the seat has looked, and the question is its to answer
 
 pub returns-in-Ok : goal.returns-in-Ok
 returns-in-Ok g c =
+    let domain = g.J.Naming.domain in
     let query = sym c.is_query.ensures.query ∙ c.if-is_query.true in
-    let seen = c.in-Ok.ensures in
+    let looked = c.in-Ok.ensures in
+    let u = c.look.new.self in
     record {
-      asked = (seen.found, query, c.requires.domain);
-      answers = λ text t. ⊎_elim (λ e. replied query seen.entered seen.own e) (λ e. unanswered query seen.entered seen.own e) t;
+      asked = (looked.found, query, c.requires.domain);
+      answers = λ t text p. ⊎_elim
+          (λ a. replied query (entered domain c.args.seat.now u t looked.stays looked.found a.0) (ap (λ (s : Seated). s.own) a.0 ∙ looked.own)
+          (a.1 ∙ sym (ap (λ (s : Seated). reply_json s.calls (reply_to c.args.request.batch (books_of (batches_of s.seen)))) a.0)))
+          (λ a. subst (λ (s : Seated). AnswersCall domain c.args.seat.now c.args.request c.args.line s text) (sym a.0) (no_reply no.NoMemory query looked.stays looked.own a.1))
+          p;
     }
 
 -- it has not
 
 pub returns-in-Err : goal.returns-in-Err
-returns-in-Err g c = record {
-  asked = tt;
-  answers = λ text t. no_reply c.in-Err.why (sym c.is_query.ensures.query ∙ c.if-is_query.true) c.in-Err.ensures.entered c.in-Err.ensures.own (t ∙ c.not_answered.ensures);
-}
+returns-in-Err g c =
+    let domain = g.J.Naming.domain in
+    let looked = c.look.ensures in
+    let query = sym c.is_query.ensures.query ∙ c.if-is_query.true in
+    record {
+      asked = tt;
+      answers = λ t text p. subst (λ (s : Seated). AnswersCall domain c.args.seat.now c.args.request c.args.line s text) (sym p.0)
+          (no_reply c.in-Err.why query looked.stays looked.own (p.1 ∙ c.not_answered.ensures));
+    }
 
 -- a batch of changes was handed in
 
 pub returns-else-is_query : goal.returns-else-is_query
 returns-else-is_query g c =
+    let domain = g.J.Naming.domain in
     let told = c.outcome_of.ensures ∙ ap (λ (n : ℕ). outcome_json n c.args.line c.submit-outcome.result) c.calls.ensures in
     let made = subst (λ (n : ℕ). IsSubmitted c.args.seat.now c.submit-outcome.new.seat c.args.request.batch n c.submit-outcome.result) c.count.ensures.value c.submit-outcome.ensures.answer in
     record {
       asked = tt;
-      answers = λ text t. submitted c.submit-outcome.result (sym c.is_query.ensures.query ∙ c.if-is_query.false) c.submit-outcome.ensures.along c.submit-outcome.ensures.heard made (t ∙ told);
+      answers = λ t text p. subst (λ (s : Seated). AnswersCall domain c.args.seat.now c.args.request c.args.line s text) (sym p.0)
+          (submitted c.submit-outcome.result (sym c.is_query.ensures.query ∙ c.if-is_query.false) c.submit-outcome.ensures.along c.submit-outcome.ensures.heard made (p.1 ∙ told));
     }

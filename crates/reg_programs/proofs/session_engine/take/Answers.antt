@@ -1,8 +1,8 @@
-use Rattle.std.proofs.Common.{◌≡◌, ◌^◌, ◌≤◌, List, ℕ, false, subst, sym, ◌∙◌, arith}
+use Rattle.std.proofs.Common.{◌≡◌, ◌^◌, ◌≤◌, false, sym, ◌∙◌, arith}
 use Rattle.std.specs.Prelude.{nat_lt}
 use Rattle.std.proofs.lemmas.Bool.Decides.{nat_tests}
-use Rattle.reg_programs.specs.Sessions.{Session, TakesRequestLine}
-use Rattle.reg_programs.proofs.Calling.{call_answered, line_refused, seat_spent}
+use Rattle.reg_programs.specs.Sessions.{Session}
+use Rattle.reg_programs.proofs.Calling.{call_answered, line_refused, printed, seat_spent}
 use Rattle.reg_programs.proofs.session_engine.take.Goals as goal
 
 pub returns-in-Err : goal.returns-in-Err
@@ -13,7 +13,7 @@ returns-in-Err g c =
     let taken = line_refused g.J.Naming.domain now c.args.line.now c.read_request.new.ids c.in-Err.refusal (sym c.in-Err.ensures.kept) heard said.0 in
     record {
       asked = tt;
-      line = λ text t. subst (λ (x : List ℕ). TakesRequestLine g.J.Naming.domain now c.args.line.now x now.seat c.read_request.new.ids) (sym t) taken;
+      line = λ t text p. printed g.J.Naming.domain now c.args.line.now _ text now.seat t c.read_request.new.ids p.0 p.1 taken;
     }
 
 pub returns-then-has_calls : goal.returns-then-has_calls
@@ -22,7 +22,7 @@ returns-then-has_calls g c =
     let e = rw c.requires.domain at c.in-Ok.ensures.spelled in
     record {
       asked = c.call.ensures.asked;
-      line = λ text t. call_answered g.J.Naming.domain now c.args.line.now text _ _ c.in-Ok.request e (c.call.ensures.answers text t);
+      line = λ t text p. call_answered g.J.Naming.domain now c.args.line.now text t _ c.in-Ok.request e (c.call.ensures.answers t text p);
     }
 
 pub returns-else-has_calls : goal.returns-else-has_calls
@@ -34,5 +34,5 @@ returns-else-has_calls g c =
     let taken = seat_spent g.J.Naming.domain now c.args.line.now _ c.in-Ok.request e spent in
     record {
       asked = tt;
-      line = λ text t. subst (λ (x : List ℕ). TakesRequestLine g.J.Naming.domain now c.args.line.now x now.seat c.read_request.new.ids) (sym t) taken;
+      line = λ t text p. printed g.J.Naming.domain now c.args.line.now _ text now.seat t c.read_request.new.ids p.0 p.1 taken;
     }

@@ -11,14 +11,14 @@ returns-clause-answered g c =
     let run = c.self.inside in
     let domain = g.J.Naming.domain in
     let before : Session = record { seat = run.seat; ids = run.ids; lines = run.lines } in
-    let after : Session = record { seat = c.take-taken.new.seat; ids = c.take-taken.new.ids; lines = run.lines + 1 } in
+    let after : Session = record { seat = c.print_taken.new.seat; ids = c.take-taken.new.ids; lines = run.lines + 1 } in
     let P : Session → Type 0 = λ k. (now : Session) → now ≡ k → AnswersKept (AnswersRequest domain) (λ _. false) (λ s. s ≡ after) now c.args.line.now c.args.output.now c.print_taken.new.output true in
-    subst P c.self.view_is (taken domain before after c.args.line.now c.print_taken.ensures.0 c.args.output.now c.print_taken.new.output (c.take-taken.ensures.line c.print_taken.ensures.0 c.print_taken.ensures.1) refl c.print_taken.ensures.2)
+    subst P c.self.view_is (taken domain before after c.args.line.now c.print_taken.ensures.0 c.args.output.now c.print_taken.new.output (c.take-taken.ensures.line c.print_taken.new.seat c.print_taken.ensures.0 c.print_taken.ensures.1) refl c.print_taken.ensures.2)
 
 pub returns-clause-keeps : goal.returns-clause-keeps
 returns-clause-keeps g c = λ first k.
     let domain = g.J.Naming.domain in
-    let took = c.take-taken.ensures.line c.print_taken.ensures.0 c.print_taken.ensures.1 in
+    let took = c.take-taken.ensures.line c.print_taken.new.seat c.print_taken.ensures.0 c.print_taken.ensures.1 in
     let now = subst (λ (s : Session). Grew domain first.seat s.seat) (sym c.self.view_is) k in
     let line = subst (λ (s : Seated). Grew domain c.self.inside.seat s) took.seat_is (grew_by_line domain _ _ _ _ took.answers) in
-    grew_on domain first.seat c.self.inside.seat c.take-taken.new.seat now line
+    grew_on domain first.seat c.self.inside.seat c.print_taken.new.seat now line

@@ -1,18 +1,21 @@
-use Rattle.std.proofs.Common.{◌+◌, ◌∙◌, sym, ap, refl, subst, arith}
+use Rattle.std.proofs.Common.{◌≡◌, ◌+◌, ◌∙◌, IfOk, sym, ap, refl, subst, arith}
 use mathlib.Core.List.{IsPrefix}
-use Rattle.shared_registry.specs.Seats.{AllBelow}
+use Rattle.commit_head.specs.Journals.{IsLawfulJournal}
+use Rattle.shared_registry.specs.Seated.{MaySee, Seated}
+use Rattle.shared_registry.specs.Seats.{AllBelow, calls_of}
 use Rattle.shared_registry.proofs.Calls.{calls_same, below_more}
 use Rattle.shared_registry.proofs.Prefixes.{prefix_self}
-use Rattle.shared_registry.proofs.Results.{ok_of}
+use Rattle.shared_registry.proofs.Results.{ok_any, ok_of}
 use Rattle.shared_registry.proofs.seat.Seat.look.Goals as goal
+use Rattle.shared_registry.proofs.seat.Seat.look.Goals.{in-Ok, in-Err}
 
 pub invariant_of-self : goal.invariant_of-self
 invariant_of-self g c =
     let i = c.self.invariant in
     (i.0, i.1, below_more _ _ _ (omega arith) i.2, c.find-found.ensures.reader, c.find-found.ensures.page)
 
-pub returns-in-Err-clause-entered : goal.returns-in-Err-clause-entered
-returns-in-Err-clause-entered g c =
+pub returns-clause-stays : goal.returns-clause-stays
+returns-clause-stays g c =
     let is = c.self.view_is in
     record {
       along = record {
@@ -27,16 +30,25 @@ returns-in-Err-clause-entered g c =
       same = ap (λ s. s.seen) is;
     }
 
-pub invariant_of-self-2 : goal.invariant_of-self-2
-invariant_of-self-2 g c =
-    let i = c.self.invariant in
-    let count = ok_of _ _ _ c.in-Ok.is c.find-found.ensures.count in
-    let more : IsPrefix c.self.inside.seen c.in-Ok.front = ok_of _ _ _ c.in-Ok.is c.find-found.ensures.seen in
-    let same = calls_same c.self.inside.number _ _ more (sym (count ∙ i.1)) in
-    (i.0, sym count, rw same (below_more _ _ _ (omega arith) i.2), c.find-found.ensures.reader, c.find-found.ensures.page)
-
-pub returns-clause-own : goal.returns-clause-own
-returns-clause-own g c =
-    let count = ok_of _ _ _ c.in-Ok.is c.find-found.ensures.count in
-    let more : IsPrefix c.self.inside.seen c.in-Ok.front = ok_of _ _ _ c.in-Ok.is c.find-found.ensures.seen in
-    calls_same c.self.inside.number _ _ more (sym (count ∙ c.self.invariant.1)) ∙ ap (λ s. s.own) c.self.view_is
+pub returns-clause-found : goal.returns-clause-found
+returns-clause-found g c =
+    let run = c.self.inside in
+    let looked = c.find-found.ensures in
+    let domain = g.J.Naming.domain in
+    let journal = c.find-found.new.page.journal in
+    let new : Seated = record { number = run.number; calls = run.calls + 1; seen = run.seen; told = run.told; own = calls_of run.number run.seen; found = journal } in
+    elim c.match-found.branch [
+      | in-Ok w ↦
+          let same : w.in-Ok.front ≡ journal = ok_of _ _ _ w.in-Ok.is looked.found in
+          let more : IsPrefix run.seen w.in-Ok.front = ok_of _ _ _ w.in-Ok.is looked.seen in
+          let told : IsPrefix run.told w.in-Ok.front = ok_of _ _ _ w.in-Ok.is looked.told in
+          let count = ok_of _ _ _ w.in-Ok.is looked.count in
+          let may : MaySee domain new = record {
+            lawful = subst (IsLawfulJournal domain) same w.len-after.ensures.lawful;
+            seen = subst (IsPrefix run.seen) same more;
+            told = subst (IsPrefix run.told) same told;
+            own = ap (calls_of run.number) (sym same) ∙ calls_same run.number _ _ more (sym (count ∙ c.self.invariant.1));
+          } in
+          ok_any _ c.match-found.result may
+      | in-Err w ↦ subst (λ r. IfOk r (λ _. MaySee domain new)) (sym w.result-is) tt
+    ]
