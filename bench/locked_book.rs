@@ -2,9 +2,9 @@
 //! `bench/registry` holds the shared registry against. It keeps the same book, with the same indexes, under one
 //! `std::sync::RwLock`: a query holds it for reading while it walks the chains of parents, and a change for writing.
 //!
-//!     rustc -O bench/locked_book.rs && ./locked_book READERS WRITER SAME MILLISECONDS
+//!     rustc -O bench/locked_book.rs && ./locked_book READERS WRITER SAME MILLISECONDS AGENTS
 //!
-//! Its words and what it prints are those of `bench/registry.rattle`.
+//! Its words, but for the last one there, and what it prints are those of `bench/registry.rattle`.
 
 use std::collections::{BTreeMap, BTreeSet, HashSet};
 use std::sync::atomic::{AtomicBool, Ordering};
@@ -13,7 +13,6 @@ use std::thread;
 use std::time::{Duration, Instant};
 
 const OWN: &str = "ex.org";
-const AGENTS: u64 = 32;
 const ENTRIES: u64 = 10;
 /// Readers with an agent each ask for each ninth one.
 const APART: u64 = 9;
@@ -138,9 +137,9 @@ fn selectors(number: u64) -> BTreeSet<Arc<str>> {
     [format!("unix:uid:{number}").into()].into()
 }
 
-fn filled() -> Book {
+fn filled(agents: u64) -> Book {
     let mut book = Book::default();
-    for agent in 0..AGENTS {
+    for agent in 0..agents {
         book.set_agent(&agent_id(agent), &selectors(agent));
         for number in 0..ENTRIES {
             book.create(Entry {
@@ -156,8 +155,8 @@ fn filled() -> Book {
 
 fn main() {
     let words: Vec<u64> = std::env::args().skip(1).map(|word| word.parse().expect("a number")).collect();
-    let [readers, writer, same, millis] = words[..] else { panic!("four numbers are wanted") };
-    let book = RwLock::new(filled());
+    let [readers, writer, same, millis, agents] = words[..] else { panic!("five numbers are wanted") };
+    let book = RwLock::new(filled(agents));
     let stop = AtomicBool::new(false);
     let server: Arc<str> = format!("spiffe://{OWN}/spire/server").into();
     let (mut queries, mut commits) = (Times::new(), Times::new());
@@ -165,7 +164,7 @@ fn main() {
         let (book, stop, server) = (&book, &stop, &server);
         let asking: Vec<_> = (0..readers)
             .map(|reader| {
-                let agent = agent_id(if same > 0 { 0 } else { reader * APART % AGENTS });
+                let agent = agent_id(if same > 0 { 0 } else { reader * APART });
                 scope.spawn(move || {
                     Times::of(stop, || {
                         let (_, entries) = book.read().unwrap().authorised(&agent, server);
@@ -175,7 +174,7 @@ fn main() {
             })
             .collect();
         let changing = (writer > 0).then(|| {
-            let (agent, selectors) = (agent_id(AGENTS), selectors(AGENTS));
+            let (agent, selectors) = (agent_id(agents), selectors(agents));
             scope.spawn(move || Times::of(stop, || book.write().unwrap().set_agent(&agent, &selectors)))
         });
         thread::sleep(Duration::from_millis(millis));
