@@ -15,8 +15,8 @@
 //!   what a window shows of the list of all books.
 //!
 //! The definitions stand in `specs/`: the table of reads and the footprint of a batch in `Reads`, what a work is in `Working`,
-//! what a window shows in `Windows`, what rows that are lent reply in `LentReplies`, the laws in `Laws`, `Bounds` and `Walked`; the others are for this crate's own contracts.
-//! Nothing outside this crate knows how a work keeps its course:
+//! what a window shows in `Windows`, what rows that are lent reply in `LentReplies`, the laws in `Laws`, `Bounds` and `Walked`; the
+//! others are for this crate's own contracts. Nothing outside this crate knows how a work keeps its course:
 //!
 //! - `begin`: what a batch begins on; `look`: what its next read shows; `take`: what becomes of it then; `stage`: where it stands
 //!   between two steps.

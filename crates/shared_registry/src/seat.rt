@@ -299,31 +299,32 @@ impl<J: Naming> Seat<J> {
         ensures entered { MatchResult result (λ _. Entered J.domain self.old self.new) (λ _. Stays J.domain self.old self.new) }
         ensures own { self.new.own ≡ self.old.own }
     {
-        let _seen = self.seen.len();
-        self.calls += 1;
-        let found = find(
-            &mut self.reader,
-            &mut self.page,
-            &self.seen,
-            &self.told,
-            self.number,
-            self.count,
-        );
-        let front = match found {
-            Ok(front) => front,
-            Err(why) => {
-                drop(batch);
-                return Err(why);
-            }
-        };
-        let _place = front.len();
-        match answered(self.alloc, &self.page, batch) {
+        if let Err(why) = self.look() {
+            drop(batch);
+            return Err(why);
+        }
+        let reply = self.kept_answer(&batch);
+        drop(batch);
+        match reply {
             Ok(reply) => {
-                self.seen = front;
+                self.see_found();
                 Ok(reply)
             }
             Err(AllocError) => Err(NoAnswer::NoMemory),
         }
+    }
+
+    /// The answer to a query, on the books of what the seat has found, with rows of its own. The error is want of memory.
+    fn kept_answer(&self, batch: &Batch) -> Result<Shared<Reply>, AllocError>
+        requires query { is_query batch.now.ops ≡ true }
+        requires domain { batch.now.domain ≡ J.domain }
+        ensures answer { IfOk result (λ reply. reply ≡ reply_to batch.now (books_of (batches_of self.now.found))) }
+        ensures place { IfOk result (λ reply. reply.place ≡ length self.now.found) }
+    {
+        let lent = self.answer(batch)?;
+        let reply = lent.kept(self.alloc);
+        drop(lent);
+        reply
     }
 
     /// Later queries and submits begin with what the receipt's seat had seen. It waits for nobody and takes no memory.
@@ -418,18 +419,4 @@ fn lent_answer<'a>(
 {
     let _ = batch.ops();
     answer(alloc, batch, page.window())
-}
-
-/// What a query is answered on what is published, with rows of its own. The error is want of memory.
-fn answered(alloc: Global, page: &Published, batch: Batch) -> Result<Shared<Reply>, AllocError>
-    requires query { is_query batch.ops ≡ true }
-    requires domain { batch.domain ≡ page.now.window.newest.domain }
-    ensures answer { IfOk result (λ reply. reply ≡ reply_to batch (books_of (batches_of page.now.journal))) }
-    ensures place { IfOk result (λ reply. reply.place ≡ length page.now.journal) }
-{
-    let lent = lent_answer(alloc, page, &batch)?;
-    let reply = lent.kept(alloc);
-    drop(lent);
-    drop(batch);
-    reply
 }

@@ -27,9 +27,9 @@
 //! | `with`, `with_counted` | as `get` | none | for the row, and for 1,024 rows and pages put into new pages; each that stays counts one more owner |
 //! | `without`, `without_counted` | as `get` | none | for 1,024 rows and pages put into new pages; none where no row has the key |
 //!
-//! The contracts of `find`, `with_counted` and `without_counted` say it by a [`Count`], with 32 comparisons; all
-//! comparisons of keys are made by `count::compared` and `count::is_below`, one for each question to a bound, and rows and pages are put into new pages by `page::put`,
-//! `page::append` and the cut into halves, where each is counted.
+//! The contracts of `find`, `with_counted` and `without_counted` say it by a [`Count`], with 32 comparisons; all comparisons
+//! of keys are made by `count::compared` and `count::is_below`, one for each question to a bound, and rows and pages are put
+//! into new pages by `page::put`, `page::append` and the cut into halves, where each is counted.
 //!
 //! What sharing means: a row that a shelf has from an older one is the same key and value in memory, which are let go with
 //! the last shelf that has them, and so is a page that stays. A shelf that is let go touches its root, and below it only

@@ -16,7 +16,7 @@ use crate::asking::walk::LentWalk;
 use crate::domains::domains_of;
 use crate::lent_reply::{LentOpReply, LentRows};
 use crate::rows::holds;
-use entry_book::{Agent, Bundle, Entry, OpRefusal, Sequence, Shared, beside};
+use entry_book::{Agent, Bundle, Entry, OpRefusal, Sequence, Shared};
 use spiffe_name::{SpiffeId, TrustDomain};
 use std::alloc::{AllocError, Global};
 use version_book::{Lent, Version, owned};
@@ -164,9 +164,7 @@ fn bundles_of<'a>(
     let _ = version.number();
     let domains = domains_of_lent(alloc, entries)?;
     let mut found = Vec::new(alloc);
-    let done = push_bundles(version, domains.as_slice(), &mut found);
-    drop(domains);
-    let (found, ()) = beside(found, done)?;
+    push_bundles(version, domains.as_slice(), &mut found)?;
     Ok(found)
 }
 
