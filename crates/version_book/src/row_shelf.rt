@@ -1,7 +1,7 @@
 //! How are the rows of a set kept that marks name one at a time?
 
 ghost use Rattle.std.specs.Prelude.{◌≡◌, ◌≤◌, ◌+◌, IfOk, IfSome, length, option_map};
-ghost use Rattle.version_shelf.specs.Shelf.{ClonesEqual, without_key, most_rows};
+ghost use Rattle.version_shelf.specs.Shelf.{ClonesEqual, with_key, without_key, most_rows};
 ghost use Rattle.version_book.specs.CommittedRows.{numbered};
 ghost use Rattle.version_book.specs.Stores.{shelf_after};
 
@@ -113,19 +113,22 @@ impl<K: Ord + Clone + Drop, T: KeyedRow<K> + Clone> RowShelf<K, T> {
     }
 }
 
-/// The shelf without the row of a key, if there is one. The error is want of memory.
-fn rest_of<K: Ord + Clone + Drop, T: Clone + Drop>(
+/// The shelf with a row under a key, in the place of the one that it has there. A shelf that is full has room once that one is
+/// gone. The error is want of memory.
+fn put_row<K: Ord + Clone + Drop, T: Clone + Drop>(
     shelf: &Shelf<K, CommittedRow<T>>,
-    key: &K,
+    key: K,
+    row: CommittedRow<T>,
 ) -> Result<Shelf<K, CommittedRow<T>>, AllocError>
     requires keys { ClonesEqual K.is_clone }
     requires rows { ClonesEqual T.is_clone }
-    ensures { IfOk result (λ rest. rest ≡ without_key K.cmp shelf.now key.now) }
+    requires room { length (without_key K.cmp shelf.now key) + 1 ≤ most_rows }
+    ensures { IfOk result (λ more. more ≡ with_key K.cmp shelf.now key row) }
 {
-    match shelf.get(key) {
-        Some(_) => Ok(shelf.without(key)?),
-        None => Ok(shelf.clone()?),
+    if shelf.has_room() {
+        return shelf.with(key, row);
     }
+    shelf.without(&key)?.with(key, row)
 }
 
 /// The shelf after a change of one row, by this commit. The error is want of memory.
@@ -139,12 +142,11 @@ fn after_change<K: Ord + Clone + Drop, T: Clone + Drop>(
     requires room { IfSome change.now.new (λ new. length (without_key K.cmp shelf.now change.now.key) + 1 ≤ most_rows) }
     ensures { IfOk result (λ after. after ≡ shelf_after K.cmp change.now.key (option_map (numbered commit) change.now.new) shelf.now) }
 {
-    let rest = rest_of(shelf, &change.key)?;
     match &change.new {
         Some(new) => {
             let row = new.clone()?;
-            Ok(rest.with(change.key.clone()?, CommittedRow { row, commit })?)
+            put_row(shelf, change.key.clone()?, CommittedRow { row, commit })
         }
-        None => Ok(rest),
+        None => shelf.without(&change.key),
     }
 }
