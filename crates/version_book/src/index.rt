@@ -17,6 +17,9 @@ use entry_book::Entry;
 use std::alloc::{AllocError, Global};
 use version_shelf::{Bound, Shelf};
 
+/// There is room for so many entries of a range from the first one on. Most parents have no more.
+const FEW: usize = 16;
+
 /// The index without these keys: those of a row that is taken away. The error is want of memory.
 pub(crate) fn without_keys<K: Ord + Clone + Drop>(
     index: &Shelf<K, CommittedRow<Entry>>,
@@ -76,6 +79,9 @@ pub(crate) fn lent_between<'a, K: Ord + Clone, L: Bound<K>, H: Bound<K>>(
 {
     let mut found = Vec::new(alloc);
     for (_, row) in index.range(lo, hi) {
+        if found.is_empty() {
+            found.reserve(FEW)?;
+        }
         found.push(Lent::of(&row.row))?;
     }
     found.sort_by_key(|entry| *entry.get().id())?;

@@ -14,6 +14,9 @@ use std::marker::Model;
 use uuid::Uuid;
 use version_book::Lent;
 
+/// There is room for so many entries and identities from the beginning on. Most agents have no more.
+const FEW: usize = 16;
+
 /// An identity of an entry that is lent.
 type LentId<'a> = Lent<'a, Shared<SpiffeId>>;
 
@@ -57,13 +60,13 @@ impl<'a> LentWalk<'a> {
     pub(crate) fn new(alloc: Global, agent: &'a Agent) -> Result<LentWalk<'a>, AllocError>
         ensures { IfOk result (λ walk. walk ≡ first_walk agent.now) }
     {
-        let mut met = Vec::new(alloc);
+        let mut met = Vec::with_capacity(alloc, FEW)?;
         met.push(Lent::of(&agent.id))?;
         Ok(LentWalk {
             agent,
             met,
-            waiting: Vec::new(alloc),
-            found: Vec::new(alloc),
+            waiting: Vec::with_capacity(alloc, FEW)?,
+            found: Vec::with_capacity(alloc, FEW)?,
         })
     }
 
