@@ -70,12 +70,13 @@ impl<J: Naming> Core<J> {
         let head = Head::new(alloc, domain)?;
         let first = opening(alloc, &front, &head)?;
         let second = first.again()?;
+        let recent = Recent::none(alloc)?;
         let writer = WindowWriter::<J>::new(alloc, first, second, 32)?;
         Ok(Core {
             alloc,
             head,
             writer: Some(writer),
-            recent: Recent::none(),
+            recent,
             seats: 0,
             start: front.again(),
             last: front,

@@ -87,11 +87,6 @@ impl Published {
         self.board.get().counts[seat]
     }
 
-    /// How many items the journal has.
-    pub(crate) fn items(&self) -> u64 {
-        self.items
-    }
-
     /// The board, with one more owner. The error is that no more owners can be counted.
     pub(crate) fn board(&self) -> Result<Shared<Board>, AllocError> {
         self.board.clone()

@@ -2,40 +2,40 @@
 
 use crate::published::{Board, Published};
 use entry_book::Shared;
-use std::mem::replace;
+use std::alloc::{AllocError, Global};
+use std::collections::VecDeque;
 
 /// How many boards are kept.
-const MOST: u64 = 16;
+const MOST: usize = 64;
 
 /// The boards that were published last. Whoever lets the last copy of a board go lets go of its window, and of each version that
 /// no other window has. While a board is kept here that is no reader's work, but that of whoever makes the next commit that needs its
 /// place, once the lock is given back.
 #[derive(Drop)]
 pub(crate) struct Recent {
-    boards: [Option<Shared<Board>>; 16],
+    boards: VecDeque<Shared<Board>>,
 }
 
 impl Recent {
-    /// No boards.
-    pub(crate) fn none() -> Recent {
-        Recent {
-            boards: [
-                None, None, None, None, None, None, None, None, None, None, None, None, None, None,
-                None, None,
-            ],
-        }
+    /// No boards, and room for all that are kept. The error is want of memory.
+    pub(crate) fn none(alloc: Global) -> Result<Recent, AllocError> {
+        Ok(Recent {
+            boards: VecDeque::with_capacity(alloc, MOST)?,
+        })
     }
 
-    /// Keeps the board of what is published, in the place of one before it, which is handed out, to be let go where nobody waits for
+    /// Keeps the board of what is published, in the place of the oldest one, which is handed out, to be let go where nobody waits for
     /// that. Where no more owners can be counted, it isn't kept.
     pub(crate) fn keep(&mut self, published: &Published) -> Option<Shared<Board>> {
         let Ok(board) = published.board() else {
             return None;
         };
-        let place = (published.items() % MOST) as usize;
-        match self.boards.get_mut(place) {
-            Some(kept) => replace(kept, Some(board)),
-            None => None,
-        }
+        let passed = if self.boards.len() < MOST {
+            None
+        } else {
+            self.boards.pop_front()
+        };
+        let _ = self.boards.push_back(board);
+        passed
     }
 }
