@@ -55,7 +55,7 @@ impl<J: Naming> Model for Core<J> {
 }
 
 impl<J: Naming> Core<J> {
-    ghost use Rattle.std.specs.Prelude.{◌≡◌, ◌≤◌, [], IfOk, length};
+    ghost use Rattle.std.specs.Prelude.{◌≡◌, ◌≤◌, [], IfOk};
 
     /// An empty book of the trust domain. The error is want of memory.
     pub(crate) fn new(

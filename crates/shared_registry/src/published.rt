@@ -3,7 +3,6 @@
 ghost use Rattle.std.specs.Prelude.{◌≡◌, ◌+◌, ◌≤◌, ◌<◌, ◌^◌, ◌++◌, ◌∷◌, [], length, IfOk, IfSome};
 ghost use Rattle.batch_work.specs.Windows.{Window};
 ghost use Rattle.commit_head.specs.Heads.{IsJournal};
-ghost use Rattle.commit_head.specs.Journals.{IsLawfulJournal};
 ghost use Rattle.shared_registry.specs.Seats.{calls_of, IsCounted};
 ghost use Rattle.shared_registry.specs.Shown.{IsOf, Shows};
 

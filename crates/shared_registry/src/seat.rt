@@ -1,14 +1,13 @@
 //! What has one caller seen, and what is it answered?
 
-ghost use Rattle.std.specs.Prelude.{◌≡◌, ◌≤◌, ◌<◌, ◌+◌, ◌++◌, ◌∷◌, ◌^◌, [], length, IfOk, IfSome, IsSome, IsTrue, MatchResult, true};
+ghost use Rattle.std.specs.Prelude.{◌≡◌, ◌<◌, ◌+◌, ◌++◌, ◌∷◌, ◌^◌, [], length, IfOk, IfSome, IsSome, IsTrue, MatchResult, true};
 ghost use mathlib.Core.List.{IsPrefix};
 ghost use Rattle.entry_book.specs.Batches.{is_query};
 ghost use Rattle.entry_book.specs.History.{books_of, reply_to};
-ghost use Rattle.commit_head.specs.Heads.{IsJournal};
 ghost use Rattle.commit_head.specs.Journals.{IsLawfulJournal, batches_of};
 ghost use Rattle.shared_registry.specs.Seats.{calls_of, AllBelow};
-ghost use Rattle.shared_registry.specs.Seated.{Along, Entered, Goes, MaySee, Stays};
-ghost use Rattle.shared_registry.specs.Shown.{IsOf, whole_head};
+ghost use Rattle.shared_registry.specs.Seated.{Entered, Goes, MaySee, Stays};
+ghost use Rattle.shared_registry.specs.Shown.{IsOf};
 
 use crate::gate::{Gate, Point};
 use crate::history::{Front, Naming};
