@@ -50,8 +50,13 @@ fn next_stream<R: Wait + Clock>(rt: &R, listener: &TcpListener) -> Result<TcpStr
     unreachable!()
 }
 
-/// Does a failed accept say nothing of the listener? The connection may have ended while it waited (ECONNABORTED), and the
-/// process or the machine may have no descriptor (EMFILE, ENFILE) or no memory (ENOMEM, ENOBUFS) for it just now.
+/// Does a failed accept say nothing of the listener? The connection may have ended while it waited (ECONNABORTED), or what its
+/// network told of it may come in its place, as accept(2) of Linux says (ENONET, EPROTO, ENOPROTOOPT, EOPNOTSUPP, ENETDOWN,
+/// ENETUNREACH, EHOSTDOWN, EHOSTUNREACH, and EPERM of a firewall). And the process or the machine may have no descriptor (EMFILE,
+/// ENFILE) or no memory (ENOMEM, ENOBUFS) for it just now.
 fn is_passing(error: &io::Error) -> bool {
-    matches!(error.raw_os_error(), Some(12 | 23 | 24 | 103 | 105))
+    matches!(
+        error.raw_os_error(),
+        Some(1 | 12 | 23 | 24 | 64 | 71 | 92 | 95 | 100 | 101 | 103 | 105 | 112 | 113)
+    )
 }

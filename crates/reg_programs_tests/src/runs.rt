@@ -93,17 +93,19 @@ fn each_failing_write_ends_the_run(rt: HostRuntime) -> Result<(), Fail> {
     Ok(())
 }
 
-/// A run of every operation at this pace makes so many reads, so many calls of the writer, and so many flushes among them.
+/// A run of every operation by this engine at this pace makes so many reads, so many calls of the writer, and so many flushes among
+/// them.
 fn is_counted(
     rt: &(impl Abort + Wait),
     alloc: Global,
+    engine: Engine,
     from: Pace,
     (reads, calls, flushes): (u64, u64, u64),
 ) -> Result<(), Fail> {
     let table = Table::of(alloc, EVERY_OPERATION)?;
     let mut taker = Taker::new(alloc, Pace::All, Trouble::NONE);
     let mut giver = Giver::new(&table.asked, from, Trouble::NONE);
-    let ended = run(rt, alloc, Engine::Plain, &mut giver, &mut taker)?;
+    let ended = run(rt, alloc, engine, &mut giver, &mut taker)?;
     holds(rt, ended.is_ok(), "a run");
     holds(rt, giver.calls == reads, "reads");
     holds(rt, taker.calls == calls, "calls of the writer");
@@ -113,8 +115,11 @@ fn is_counted(
 
 #[test]
 fn replies_are_out_before_the_next_read_and_not_line_by_line(rt: HostRuntime) -> Result<(), Fail> {
-    // a terminal gives a line at a time, and gets a flush before each read: there are four lines and the end
-    is_counted(&rt, rt.alloc(), Pace::Line, (5, 10, 6))?;
-    // a file gives all lines at once, and gets their replies at once
-    is_counted(&rt, rt.alloc(), Pace::All, (2, 4, 3))
+    for engine in [Engine::Plain, Engine::Session] {
+        // a terminal gives a line at a time, and gets a flush before each read: there are four lines and the end
+        is_counted(&rt, rt.alloc(), engine, Pace::Line, (5, 10, 6))?;
+        // a file gives all lines at once, and gets their replies at once
+        is_counted(&rt, rt.alloc(), engine, Pace::All, (2, 4, 3))?;
+    }
+    Ok(())
 }

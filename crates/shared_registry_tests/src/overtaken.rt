@@ -57,7 +57,7 @@ const UNDER_THE_LOCK: &str = "\
 NEW
 NEW
 HOLD under the lock: create 1 n1 /web u:1 0
-0 show 1 => answered at 0; none
+0 TIMES 2 show 1 => answered at 0; none
 DONE => 1; committed at 1; entry 1.0
 0 SEND 1 => sent at 1
 0 show 1 => answered at 1; shown 1.0

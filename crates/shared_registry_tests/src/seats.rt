@@ -19,7 +19,8 @@ KEPT => 2
 ";
 
 /// Seats that were there before a commit see it, whichever way each comes to it: seat 0 asks, seat 1 hears of it and tells others,
-/// and seat 2 has learnt of it, which makes it see nothing before its query. Seat 3 has learnt of it, and hears of it, too.
+/// and seat 2 has learnt of it, which makes it see nothing before its query. Seat 3 has learnt of it, and hears of it, too. Two more are
+/// taken behind it: seat 5 asks, and seat 6 hears of it.
 const NEW_SEATS: &str = "\
 NEW
 NEW
@@ -43,6 +44,12 @@ NEW
 3 SEAT => number 3; place 0; calls 0
 3 SEND 0 => sent at 1
 3 SEAT => number 3; place 1; calls 0
+NEW => number 5; place 0; calls 0
+5 show 1 => answered at 1; shown 1.0
+5 SEAT => number 5; place 1; calls 1
+NEW => number 6; place 0; calls 0
+6 SEND 0 => sent at 1
+6 SEAT => number 6; place 1; calls 0
 ";
 
 /// All seats of a registry, and one more, which isn't there after they are gone, either.

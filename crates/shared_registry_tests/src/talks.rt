@@ -11,7 +11,7 @@ const ROUNDS: u64 = 20;
 /// What the threads do.
 #[derive(Clone, Copy)]
 pub enum Talk {
-    /// Each creates a hundred entries, and asks for each of them.
+    /// Each creates a hundred entries, and asks for each of them, in both ways in which a site asks.
     Creates,
     /// All hand in the same batch with a token, with tries to spare.
     Token,
@@ -26,6 +26,9 @@ pub enum Talk {
 const CREATE: &str = "create # n# /web u:# 0 => entry #.0\n";
 
 const SHOW: &str = "show # => shown #.0\n";
+
+/// Of two calls that follow one another one is answered with rows that are lent, and the other with rows of its own.
+const SHOW_TWICE: &str = "show # => shown #.0\nshow # => shown #.0\n";
 
 /// Sends a letter to a thread, and takes one.
 const LETTERS: &str = "SEND #\nTAKE\n";
@@ -48,7 +51,7 @@ fn creates(alloc: Global, thread: u64) -> Result<String, Failed> {
     for number in 1..101_u64 {
         let entry = first.wrapping_add(number);
         add(alloc, &mut lines, CREATE, entry)?;
-        add(alloc, &mut lines, SHOW, entry)?;
+        add(alloc, &mut lines, SHOW_TWICE, entry)?;
     }
     Ok(lines)
 }

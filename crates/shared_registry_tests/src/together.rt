@@ -6,7 +6,7 @@ use std::test::Fail;
 
 #[test]
 fn creates_of_eight_threads_are_all_committed_and_seen(rt: HostRuntime) -> Result<(), Fail> {
-    let counts = "committed 800; repeated 0; refused 0; conflict 0; answered 800; begun 800";
+    let counts = "committed 800; repeated 0; refused 0; conflict 0; answered 1600; begun 800";
     talks(&rt, rt.alloc(), Talk::Creates, counts)
 }
 
