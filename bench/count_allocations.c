@@ -1,4 +1,4 @@
-/* Counts the calls that take memory, and tells the count on standard error at the end: preloaded by bench/work. */
+/* Counts the calls that take memory, and tells the count on standard error at the end: preloaded by bench/work and bench/allocations. */
 #define _GNU_SOURCE
 #include <stdio.h>
 #include <stdlib.h>
