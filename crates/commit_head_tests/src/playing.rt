@@ -5,7 +5,7 @@ use crate::telling::{commit_text, item_text};
 use crate::wanted::is_text;
 use batch_texts::{batch, number, trust_domain, word, words};
 use commit_head::Commit;
-use std::alloc::Global;
+use std::alloc::{AllocError, Global};
 use std::process::Abort;
 use std::test::Fail;
 
@@ -40,6 +40,7 @@ fn goes_on(alloc: Global, desk: &mut Desk, text: &str) -> Result<(), Fail> {
     let last = desk.waiting().wrapping_sub(1);
     match commit_at(desk, last, 0, desk.head().place())? {
         Commit::Committed(_) => Ok(()),
+        Commit::NoMemory => Err(Fail::from(AllocError)),
         _ => Err(Fail::from("not committed")),
     }
 }
