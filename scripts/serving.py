@@ -26,16 +26,18 @@ def program():
 
 
 class Server:
-    """A server of ex.org on a port of its own, for so many connections. Leaving its block ends it, if it still runs."""
+    """A server of ex.org on a port of its own, for so many connections, with these variables beside those of this process. Leaving its
+    block ends it, if it still runs."""
 
-    def __init__(self, workers, connections, words=(), descriptors=None):
+    def __init__(self, workers, connections, words=(), descriptors=None, variables=None):
         self.words = [program(), "serve", "--domain", "ex.org", "--listen", "127.0.0.1:0"]
         self.words += ["--workers", str(workers), "--connections", str(connections), *words]
         self.workers, self.connections, self.descriptors = workers, connections, descriptors
+        self.variables = os.environ | (variables or {})
         self.opened = 0
 
     def __enter__(self):
-        self.process = subprocess.Popen(self.words, stdout=subprocess.PIPE, preexec_fn=self._limit)
+        self.process = subprocess.Popen(self.words, stdout=subprocess.PIPE, preexec_fn=self._limit, env=self.variables)
         line = self.process.stdout.readline()
         if not line:
             raise RuntimeError(f"the server ended with status {self.process.wait()} before it listened")
