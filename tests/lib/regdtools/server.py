@@ -1,7 +1,4 @@
-"""How the scripts beside this one find the program, and start a server of it.
-
-The program is the one that the variable REGD names, and else ./regd, proved and built by scripts/prove.
-"""
+"""Starts `regd serve` and connects to it."""
 
 import json
 import os
@@ -9,25 +6,16 @@ import pathlib
 import resource
 import socket
 import subprocess
-import sys
 
-ROOT = pathlib.Path(__file__).resolve().parent.parent
-
-
-def program():
-    """The program's path; where there is none, the script ends with status 2."""
-    if os.environ.get("REGD"):
-        return pathlib.Path(os.environ["REGD"]).resolve()
-    if subprocess.run([ROOT / "scripts/is-built"]).returncode:
-        name = pathlib.Path(sys.argv[0]).name
-        print(f"{name}: regd isn't proved and built, or its sources changed since: run scripts/prove first", file=sys.stderr)
-        sys.exit(2)
-    return ROOT / "crates/regd/out/regd"
+from regdtools.program import program
 
 
 class Server:
-    """A server of ex.org on a port of its own, for so many connections, with these variables beside those of this process. Leaving its
-    block ends it, if it still runs."""
+    """A server of ex.org on a port that the system chooses. Leaving its `with` block kills it if it still runs.
+
+    `workers` and `connections` are the options of those names, `words` further options, `descriptors` the limit on open files, and
+    `variables` additions to its environment.
+    """
 
     def __init__(self, workers, connections, words=(), descriptors=None, variables=None):
         self.words = [program(), "serve", "--domain", "ex.org", "--listen", "127.0.0.1:0"]
@@ -56,8 +44,10 @@ class Server:
             resource.setrlimit(resource.RLIMIT_NOFILE, (self.descriptors, self.descriptors))
 
     def connect(self, timeout=20.0, buffer=None):
-        """The next connection, a socket, of which the system keeps so many bytes each way. Its worker is `opened` before it, modulo
-        `workers`."""
+        """Returns the socket of the next connection. Its worker is `opened` modulo `workers`.
+
+        `timeout` is in seconds; `buffer` is the size in bytes of the system's buffers each way, by default the system's own.
+        """
         connection = socket.socket()
         if buffer:
             connection.setsockopt(socket.SOL_SOCKET, socket.SO_RCVBUF, buffer)
@@ -69,7 +59,7 @@ class Server:
         return connection
 
     def memory(self):
-        """The kilobytes of memory that the server has just now, or None where it has ended."""
+        """Returns the resident memory of the server in kilobytes, or None if it has ended."""
         try:
             status = pathlib.Path(f"/proc/{self.process.pid}/status").read_text()
         except FileNotFoundError:
@@ -77,7 +67,7 @@ class Server:
         return next((int(line.split()[1]) for line in status.splitlines() if line.startswith("VmRSS:")), None)
 
     def end(self, timeout=20.0):
-        """Waits for the server's own end, and answers its status; None where it doesn't come."""
+        """Waits for the server to end by itself and returns its status, or None after `timeout` seconds."""
         try:
             return self.process.wait(timeout)
         except subprocess.TimeoutExpired:
