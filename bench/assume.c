@@ -1,8 +1,9 @@
-/* What a program of bench/ asks of C: leave to make its calls (measured.py says why), and how much memory is in use. */
+/* The C functions of the drivers under bench/drivers: `assumed` does nothing, and its false contract lets a driver make its calls
+   without a proof (tests/lib/regdtools/drivers.py says why); `bytes_in_use` returns the memory that is allocated. */
 #include <malloc.h>
 #include <stdint.h>
-void granted(void) {}
+void assumed(void) {}
 uint64_t bytes_in_use(void) {
-  struct mallinfo2 told = mallinfo2();
-  return told.uordblks + told.hblkhd;
+  struct mallinfo2 info = mallinfo2();
+  return info.uordblks + info.hblkhd;
 }

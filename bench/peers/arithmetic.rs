@@ -1,8 +1,8 @@
-//! Threads that share nothing: how much of its processors does a machine give to so many at a time? `std` alone, for `bench/registry`.
+//! Threads that share nothing: how much processor time does a machine give to the given number of them? A peer of `bench/registry`.
 //!
-//!     rustc -O bench/arithmetic.rs && ./arithmetic THREADS MILLISECONDS
+//!     rustc --edition 2021 -O bench/peers/arithmetic.rs && ./arithmetic THREADS MILLISECONDS
 //!
-//! Each thread steps a number of its own from one to the next. Prints how many thousands of steps all of them made.
+//! Each thread steps a number of its own to the next. Prints how many thousands of steps all of them made.
 
 use std::hint::black_box;
 use std::sync::Barrier;

@@ -1,8 +1,8 @@
-//! What an ordinary, unverified Rust program does with the same request lines: the measure that `bench/run` holds `regd`
-//! against. It has the same lists as the plain book (entries and agents as vectors of rows in order, linear scans, no
-//! index), reads any JSON text and writes the same bytes.
+//! An ordinary, unverified Rust program that answers the same request lines as `regd plain`: the peer of `bench/plain`. It has the
+//! same lists as the reference implementation (entries and agents as sorted vectors of rows, linear scans, no index), reads any JSON
+//! text and writes the same bytes.
 //!
-//!     rustc -O bench/baseline.rs && ./baseline plain --domain ex.org < requests > replies
+//!     rustc --edition 2021 -O bench/peers/baseline.rs && ./baseline plain --domain ex.org < requests > replies
 
 use std::collections::BTreeMap;
 use std::io::{self, BufRead, BufReader, BufWriter, Write};

@@ -1,13 +1,13 @@
-//! A load on a server over TCP: the requests of a file, again and again, on some connections at a time. It speaks the lines of
-//! `regd serve` and the protocol of Redis, so that both are measured by the same client. `std` alone, for `bench/serve`.
+//! A load generator: sends the requests of a file repeatedly over TCP, on several connections at a time. It speaks the lines of `regd
+//! serve` and the protocol of Redis, so that one client measures both. For `bench/serve`.
 //!
-//!     rustc -O bench/load.rs && ./load lines|redis HOST:PORT CONNECTIONS DEPTH SECONDS PID < requests
+//!     rustc --edition 2021 -O bench/peers/load.rs && ./load lines|redis HOST:PORT CONNECTIONS DEPTH SECONDS PID < requests
 //!
-//! A request is a line of the input; for Redis its words are parted by single spaces. Each connection has a thread, which sends as
-//! many requests at once as DEPTH says and then waits for all their replies. After a fifth of a second to warm up it measures, and
+//! A request is a line of the input; for Redis its words are separated by single spaces. Each connection has a thread, which sends
+//! DEPTH requests together and then waits for all their replies. After a warm-up of a fifth of a second it measures, and
 //! prints a line of numbers: requests, seconds, the latencies at the 50th, the 99th and the 99.9th percentile (nanoseconds from the send
-//! of a request to the read that brought the end of its reply), the processor time of the server of that PID and of this program
-//! (nanoseconds), bytes of replies, and how many replies weren't a good one.
+//! of a request to the read that completed its reply), the processor time of the server with that PID and of this program
+//! (nanoseconds), bytes of replies, and the number of error replies.
 
 use std::io::{self, BufRead, Read, Write};
 use std::net::TcpStream;
@@ -181,7 +181,7 @@ fn processor_time(pid: &str) -> u64 {
     tasks.flatten().filter_map(of_task).sum()
 }
 
-/// What stands at a moment.
+/// The state at a moment.
 struct Moment {
     at: Instant,
     server: u64,

@@ -1,10 +1,10 @@
-//! What an ordinary, unverified Rust program does where many threads ask one book and change it: the measure that
-//! `bench/registry` holds the shared registry against. It keeps the same book, with the same indexes, under one
-//! `std::sync::RwLock`: a query holds it for reading while it walks the chains of parents, and a change for writing.
+//! An ordinary, unverified Rust program in which many threads query one book and change it: the peer of `bench/registry`. It has
+//! the same book, with the same indexes, under one `std::sync::RwLock`: a query holds it for reading while it follows the chains
+//! of parents, and a change holds it for writing.
 //!
-//!     rustc -O bench/locked_book.rs && ./locked_book READERS WRITER SAME MILLISECONDS AGENTS
+//!     rustc --edition 2021 -O bench/peers/locked_book.rs && ./locked_book READERS WRITER SAME MILLISECONDS AGENTS
 //!
-//! Its words, but for the last one there, and what it prints are those of `bench/registry.rattle`.
+//! Its command line, without the last word of that one, and its output are those of bench/drivers/registry.rattle.
 
 use std::collections::{BTreeMap, BTreeSet, HashSet};
 use std::sync::atomic::{AtomicBool, Ordering};
@@ -16,7 +16,7 @@ const OWN: &str = "ex.org";
 const ENTRIES: u64 = 10;
 /// Readers with an agent each ask for each ninth one.
 const APART: u64 = 9;
-/// A time is told in steps of so many nanoseconds, up to so many steps.
+/// Times are recorded in steps of STEP nanoseconds, up to STEPS steps.
 const STEP: u64 = 50;
 const STEPS: usize = 200_000;
 
@@ -86,7 +86,7 @@ impl Times {
         Times { count: 0, nanos: 0, steps: vec![0; STEPS] }
     }
 
-    /// Calls until it is told to stop.
+    /// Calls until the stop flag is set.
     fn of(stop: &AtomicBool, mut call: impl FnMut()) -> Times {
         let mut times = Times::new();
         let first = Instant::now();
@@ -111,7 +111,7 @@ impl Times {
         }
     }
 
-    /// The nanoseconds below which so many of a thousand ended.
+    /// Returns the nanoseconds within which the given number of a thousand ended.
     fn quantile(&self, of_thousand: u64) -> u64 {
         let mut seen = 0;
         for (step, count) in self.steps.iter().enumerate() {

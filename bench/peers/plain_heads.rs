@@ -1,7 +1,7 @@
-//! The commits that bench/head.rattle times, as an ordinary, unverified Rust program makes them, over the versions of
+//! The commits that bench/drivers/head.rattle measures, made by an ordinary, unverified Rust program over the versions of
 //! plain_versions.rs.
 //!
-//! A head keeps the last 64 versions, and of each commit its batch. Nothing is checked, since no other commit comes between.
+//! A head retains the last 64 versions, and the batch of each commit. It checks nothing, since no other commit comes between.
 
 use super::{Entry, Job, Version, entry_of, id_of, processor_time, started};
 use std::collections::VecDeque;
@@ -77,7 +77,7 @@ fn time_commits(job: &Job, head: &mut Head, numbers: Range<u64>) {
     println!("commit-{count} 0 {} {} {}", job.times, wall.as_micros(), processor.as_micros());
 }
 
-/// Times commits that bring a head to so many entries, which name no trust domain.
+/// Times commits that bring a head to the given number of entries, which name no trust domain.
 pub fn measure(entries: u64) {
     let job = Job {
         entries: entries.saturating_sub(64),

@@ -1,9 +1,9 @@
-//! What bench/versions.rattle does, as an ordinary, unverified Rust program does it: `std` alone, for bench/versions.
+//! An ordinary, unverified Rust program that does what bench/drivers/versions.rattle does: the peer of `bench/versions`.
 //!
-//! A version has four ordered maps, whose rows stand in trees of sorted pages. Versions share rows and pages; a page that no
-//! other version has is changed in place. The words and the lines that are printed are those of bench/versions.rattle, but that
-//! nothing is asked about what is unchanged, nor about agents, bundles and tokens. With a number of entries alone as its word
-//! it commits as bench/head.rattle does (plain_heads.rs), for bench/head.
+//! A version has four ordered maps, whose rows are in trees of sorted pages. Versions share rows and pages; a page that no
+//! other version shares is changed in place. The command line and the output are those of bench/drivers/versions.rattle, except that
+//! it does not ask what is unchanged, nor for agents, bundles and tokens. If the command line is only a number of entries, it commits as
+//! bench/drivers/head.rattle does (plain_heads.rs), for `bench/head`.
 
 mod plain_heads;
 
@@ -381,7 +381,7 @@ fn measure(job: &Job) {
     time_reads(job, &version);
 }
 
-// ---- what the C library tells
+// ---- clock and memory, from the C library
 
 #[repr(C)]
 struct TimeSpec {

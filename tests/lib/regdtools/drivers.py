@@ -1,22 +1,36 @@
-"""A program over the proved crates, made in a folder outside the repository, as a crate of a repository of its own.
+"""Builds programs over the verified crates, runs them, and reads what they measured.
 
-What such a program asks of the calls that it measures is right by construction, but isn't proved: it takes leave for it from
-a C function (granted.c) whose contract is false. So the executable is what the compiler makes of the proved crates, and says
-nothing else.
+A driver is a program bench/drivers/NAME.rattle. It is not part of the repository's crates: it is built in another folder, as a
+crate of a repository of its own. A driver satisfies the conditions of the calls that it measures by construction, but that is
+not proved: it assumes them by calling the C function `assumed` (bench/assume.c), whose contract is false. The compiler's output
+for the verified crates is not affected. A driver proves nothing.
+
+A peer is an ordinary Rust program bench/peers/NAME.rs that does the same work with the standard library alone.
 """
 
 import os
-import pathlib
 import shutil
 import statistics
 import subprocess
 import sys
 
-ROOT = pathlib.Path(__file__).resolve().parent.parent
+from regdtools.program import ROOT
+
+DRIVERS, PEERS = ROOT / "bench/drivers", ROOT / "bench/peers"
+
+
+def peer(name, folder):
+    """Compiles a peer into a folder and returns the path of the program."""
+    program = folder / name
+    subprocess.run(["rustc", "--edition", "2021", "-O", "-o", program, PEERS / f"{name}.rs"], check=True)
+    return program
 
 
 def lay_out(folder, name, crates, uses, root=ROOT):
-    """The crates of a checkout, built, and this one's program bench/NAME.rattle, which uses some of them and these libraries."""
+    """Builds the crates of a checkout, and lays out a repository in `folder` that has them and the driver `name`.
+
+    `uses` are the crates and libraries that the driver uses, separated by spaces.
+    """
     for crate in crates:
         subprocess.run(["rt", "lib"], cwd=root / "crates" / crate, stdout=sys.stderr, check=True)
     lines = (root / "crates.txt").read_text().splitlines()
@@ -26,24 +40,27 @@ def lay_out(folder, name, crates, uses, root=ROOT):
         for part in ["src", "specs", "proofs", "out/rlib"]:
             if (root / "crates" / crate / part).exists():
                 shutil.copytree(root / "crates" / crate / part, folder / "crates" / crate / part)
-    made, source = folder / "crates" / name, ROOT / "bench" / f"{name}.rattle"
+    made, source = folder / "crates" / name, DRIVERS / f"{name}.rattle"
     (made / "src").mkdir(parents=True)
     shutil.copy(source, made / "src/main.rt")
-    if "fn granted()" in source.read_text():
+    if "fn assumed()" in source.read_text():
         (made / "c").mkdir()
-        shutil.copy(ROOT / "bench/granted.c", made / "c/granted.c")
+        shutil.copy(ROOT / "bench/assume.c", made / "c/assume.c")
 
 
 def built(folder, name, words):
-    """The program; a first run with these words, on little, is part of its build."""
+    """Builds the driver `name` of such a repository and returns the path of the program.
+
+    The build includes a first run, with these words: choose them so that it is short.
+    """
     crate = folder / "crates" / name
-    leave = os.environ | {"RT_ALLOW_C": name}
-    subprocess.run(["rt", "run", "--", *words], cwd=crate, env=leave, stdout=sys.stderr, check=True)
+    permitted = os.environ | {"RT_ALLOW_C": name}
+    subprocess.run(["rt", "run", "--", *words], cwd=crate, env=permitted, stdout=sys.stderr, check=True)
     return crate / "out" / name
 
 
 def run(program, words):
-    """What the program printed, and what the whole run used."""
+    """Runs a program and returns the lines that it printed and its resource usage."""
     child = subprocess.Popen([program, *words], stdout=subprocess.PIPE, text=True)
     text = child.stdout.read()
     _, status, usage = os.wait4(child.pid, 0)
@@ -53,8 +70,10 @@ def run(program, words):
 
 
 def measures(lines):
-    """What a program measured, each with its heading and its count: the microseconds of one time, by the clock on the wall and
-    by the processor's."""
+    """Reads the lines `NAME COUNT TIMES WALL PROCESSOR` of a program, and its headings, which begin with `==`.
+
+    Returns for each heading, name and count the wall time and the processor time of one repetition, in microseconds.
+    """
     heading, found = "", {}
     for line in lines:
         if line.startswith("=="):
@@ -66,8 +85,10 @@ def measures(lines):
 
 
 def in_turn(runs, jobs):
-    """What each job measured, by its name, in each of the runs. The jobs take turns, so that what else the machine does falls
-    on each."""
+    """Runs the jobs `runs` times and returns for each name its measures, one for each run.
+
+    A job is a program and its words. The jobs take turns, so that other work of the machine slows each of them equally.
+    """
     found = {name: [] for name in jobs}
     for _ in range(runs):
         for name, (program, words) in jobs.items():
@@ -75,28 +96,12 @@ def in_turn(runs, jobs):
     return found
 
 
-def spent(runs, key):
-    """The smallest and the median of these runs, in microseconds of processor; nothing where no such thing was measured."""
+def processor_times(runs, key):
+    """Returns the smallest and the median processor time of a measure, in microseconds. Both are None if it was not measured."""
     times = [run[key][1] for run in runs if key in run]
-    return [min(times), statistics.median(times)] if times else []
+    return [min(times), statistics.median(times)] if times else [None, None]
 
 
-def table_line(cells):
-    return f"| {' | '.join(map(str, cells))} |"
-
-
-def table_head(titles, names=(), pairs=()):
-    """The first lines of a table as the documents have it: these titles, the names of what is measured, and pairs of names."""
-    titles = [*titles, *names, *(f"{one} / {other}" for one, other in pairs)]
-    return f"{table_line(titles)}\n{'|---' * len(titles)}|"
-
-
-def table_row(cells, found, pairs=()):
-    """A line of such a table: these cells, the numbers found for each name, and for each pair of names their ratios."""
-    numbers = [", ".join(map(told, found[name])) for name in found]
-    ratios = [", ".join(f"{one / other:.2f}" for one, other in zip(found[first], found[second]) if other) for first, second in pairs]
-    return table_line([*cells, *numbers, *ratios])
-
-
-def told(number):
-    return f"{number:,.0f}" if number >= 100 else f"{number:.1f}" if number >= 10 else f"{number:.2f}"
+def ratios(times, others):
+    """Returns the ratios of two lists of times, item by item, and None where one is missing."""
+    return [time / other if time and other else None for time, other in zip(times, others)]

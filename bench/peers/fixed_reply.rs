@@ -1,7 +1,7 @@
-//! The least that a server of lines can do: it answers each line with one and the same reply, which it read before. `std` alone, for
-//! `bench/serve`, which tells by it how many requests a second the load program, loopback and this machine let any server answer.
+//! The least that a server of lines can do: it answers each line with the same fixed reply, which it read at the start. For `bench/serve`,
+//! which measures by it how many requests a second the load generator, loopback and the machine allow any server to answer.
 //!
-//!     rustc -O bench/kept_reply.rs && ./kept_reply < reply
+//!     rustc --edition 2021 -O bench/peers/fixed_reply.rs && ./fixed_reply < reply
 //!
 //! It prints its address, and serves until it is killed, each connection on a thread of its own: a read of up to 64 KB, and a write of a
 //! reply for each LF among these bytes.

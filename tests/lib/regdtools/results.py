@@ -1,0 +1,144 @@
+"""Writes and reads results of benches and tests: tables of tab-separated values in bench/results/YYYY-MM-DD-WHAT.tsv.
+
+A file has one block for each table that was written on that day. A block begins with comment lines (`# commit`, `# kit`,
+`# machine`, then notes), followed by a line with the names of the columns and one line for each row. An empty line ends it. Units
+are in the names of the columns; numbers have no separators.
+"""
+
+import argparse
+import collections
+import datetime
+import os
+import pathlib
+import subprocess
+
+from regdtools.program import ROOT
+
+FOLDER = ROOT / "bench/results"
+LOAD_AT_START = os.getloadavg()[0]
+
+Table = collections.namedtuple("Table", "comments columns rows")
+
+
+# ---- writing
+
+
+def _output(words):
+    """Returns what a command prints, or "" if it fails or does not exist."""
+    try:
+        return subprocess.run(words, cwd=ROOT, capture_output=True, text=True, check=True).stdout.strip()
+    except (OSError, subprocess.CalledProcessError):
+        return ""
+
+
+def commit():
+    """Returns the short hash of the commit, with `+changes` if the checkout has changes outside bench/results."""
+    changes = _output(["git", "status", "--porcelain", "--", ".", ":!bench/results"])
+    return (_output(["git", "rev-parse", "--short", "HEAD"]) or "unknown") + ("+changes" if changes else "")
+
+
+def kit():
+    """Returns the version of the Rattle toolchain."""
+    return _output(["rt", "version"]).partition("\n")[0] or "unknown"
+
+
+def _value(path, key):
+    """Returns the first value of a key in a file of `key: value` lines, or "" if there is none."""
+    try:
+        pairs = [line.split(":", 1) for line in pathlib.Path(path).read_text().splitlines() if ":" in line]
+    except OSError:
+        return ""
+    return next((value.strip() for name, value in pairs if name.strip() == key), "")
+
+
+def machine():
+    """Returns the number of processors, their model, the memory, and the load when the script started and now."""
+    model = _value("/proc/cpuinfo", "model name") or "unknown model"
+    kilobytes = int((_value("/proc/meminfo", "MemTotal") or "0").split()[0])
+    load = f"load {LOAD_AT_START:.1f} at the start, {os.getloadavg()[0]:.1f} at the end"
+    return f"{os.cpu_count()} processors, {model}, {kilobytes // 2**20} GB, {load}"
+
+
+def cell(value):
+    """Returns the text of a value in a table. A float has three digits or more, up to three after the point; None has no text."""
+    if value is None:
+        return ""
+    if isinstance(value, float):
+        places = 0 if value >= 100 else 1 if value >= 10 else 2 if value >= 1 else 3
+        return f"{value:.{places}f}"
+    return str(value)
+
+
+def write(what, columns, rows, folder=FOLDER, notes=()):
+    """Appends a table to the day's file of `what`, which is created if it does not exist, and returns its path.
+
+    `rows` are lists of values in the order of `columns`; `notes` are further comment lines.
+    """
+    path = pathlib.Path(folder) / f"{datetime.date.today().isoformat()}-{what}.tsv"
+    path.parent.mkdir(parents=True, exist_ok=True)
+    comments = [f"commit {commit()}", f"kit {kit()}", f"machine {machine()}", *notes]
+    lines = [*(f"# {comment}" for comment in comments), *("\t".join(map(cell, row)) for row in [columns, *rows])]
+    with open(path, "a") as file:
+        file.write(("\n" if file.tell() else "") + "\n".join(lines) + "\n")
+    return path
+
+
+# ---- reading
+
+
+def read(path):
+    """Returns the tables of a file, in order. A row is a dictionary from the names of the columns to texts."""
+    tables = []
+    for block in pathlib.Path(path).read_text().split("\n\n"):
+        lines = block.strip("\n").split("\n")
+        comments = [line.removeprefix("# ") for line in lines if line.startswith("#")]
+        head, *rows = [line.split("\t") for line in lines if line and not line.startswith("#")] or [[]]
+        tables.append(Table(comments, head, [dict(zip(head, row)) for row in rows]))
+    return tables
+
+
+def files(what, folder=FOLDER):
+    """Returns the files of `what`, the newest first."""
+    return sorted(pathlib.Path(folder).glob(f"????-??-??-{what}.tsv"), reverse=True)
+
+
+def latest(what, where, folder=FOLDER):
+    """Returns the newest row that has the values of `where` in these columns, and the file that has the row."""
+    for path in files(what, folder):
+        for table in reversed(read(path)):
+            for row in reversed(table.rows):
+                if where.items() <= row.items():
+                    return row, path
+    raise LookupError(f"no result of {what} with {where}")
+
+
+# ---- the common part of the scripts
+
+
+def show(columns, rows, notes=()):
+    """Prints the notes and the table, in aligned columns."""
+    for note in notes:
+        print(note)
+    texts = [[cell(value) for value in row] for row in [columns, *rows]]
+    widths = [max(map(len, column)) for column in zip(*texts)]
+    for row in texts:
+        print("  ".join(text.ljust(width) for text, width in zip(row, widths)).rstrip(), flush=True)
+    print()
+
+
+def parser(text, runs=None):
+    """Returns a parser of the command line with `--out`, and with `--runs` if a number of runs is given. `text` is its help."""
+    made = argparse.ArgumentParser(description=text, formatter_class=argparse.RawDescriptionHelpFormatter)
+    if runs:
+        made.add_argument("--runs", type=int, default=runs, metavar="N", help=f"how often each program runs (default {runs})")
+    made.add_argument("--out", nargs="?", type=pathlib.Path, const=FOLDER, metavar="FOLDER",
+                      help="also write the results into this folder (without a name: bench/results)")
+    return made
+
+
+def report(settings, what, columns, rows, notes=(), shown=()):
+    """Prints a table, and writes it if the command line has `--out`. If columns are `shown`, only those are printed."""
+    places = [columns.index(name) for name in shown or columns]
+    show([columns[place] for place in places], [[row[place] for place in places] for row in rows], notes)
+    if settings.out:
+        print(f"written to {write(what, columns, rows, settings.out, notes)}\n")
