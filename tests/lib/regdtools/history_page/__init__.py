@@ -1,1 +1,1 @@
-"""Draws a recorded run as a page: what scripts/history is made of, a module for each question."""
+"""Draws a recorded run as an HTML page: used by scripts/render-history."""

@@ -1,7 +1,7 @@
-"""Where on a drawing does an event stand? By its number, but for gaps in which none of the drawn calls has an event.
+"""Maps event numbers to positions on a drawing.
 
-A gap of more than MOST_GAP events is drawn as wide as one of MOST_GAP, so that neither a long batch nor a changed stamp leaves the
-rest of a drawing without room. Positions are percentages of the drawing's width.
+A gap of more than MOST_GAP numbers without an event of a drawn call is drawn as wide as MOST_GAP numbers. So neither a long batch nor a
+changed stamp squeezes the rest of a drawing. Positions are percentages of the drawing's width.
 """
 import bisect
 
@@ -11,7 +11,7 @@ MARGIN, OPEN_MARGIN = 1.5, 9
 
 
 class Axis:
-    """The axis of a drawing with these events; `has_open` leaves room behind the last one."""
+    """The axis of a drawing with these events. With `has_open` it leaves room after the last one."""
 
     def __init__(self, stamps, has_open=False):
         self.room = 100 - MARGIN - (OPEN_MARGIN if has_open else MARGIN)
@@ -22,7 +22,7 @@ class Axis:
         self.width = self.sums[-1] or 1
 
     def at(self, stamp):
-        """The position of one of the events; of one outside, that of the nearer end."""
+        """Returns the position of an event; for one outside of the drawing, that of the nearer end."""
         index = min(bisect.bisect_left(self.stamps, stamp), len(self.stamps) - 1)
         return self._position(self.sums[index])
 
@@ -30,7 +30,7 @@ class Axis:
         return round(MARGIN + self.room * units / self.width, 3)
 
     def gaps(self):
-        """The positions of the middles of gaps that are drawn narrower than they are."""
+        """Returns the positions of the middles of shortened gaps."""
         middles = []
         for index, stamp in enumerate(self.stamps[1:]):
             if stamp - self.stamps[index] > MOST_GAP:
@@ -38,11 +38,11 @@ class Axis:
         return middles
 
     def ticks(self):
-        """Numbers with their positions: round ones, and the first one behind each gap where there is room."""
+        """Returns numbers with their positions: round ones, and the first one after each gap, if there is room."""
         step = self._step()
         ticks, last = [], None
-        for number, units, is_behind_gap in self._numbers():
-            if number % step and not is_behind_gap:
+        for number, units, is_after_gap in self._numbers():
+            if number % step and not is_after_gap:
                 continue
             if last is None or units - last >= self.width / (MOST_TICKS + 2):
                 ticks.append((number, self._position(units)))
@@ -50,7 +50,7 @@ class Axis:
         return ticks
 
     def _step(self):
-        """The least of 1, 2, 5, 10, 20, 50, .. that makes few enough ticks."""
+        """Returns the smallest of 1, 2, 5, 10, 20, 50, .. that makes few enough ticks."""
         step, factors = 1, (2, 2.5, 2)
         turn = 0
         while self.width / step > MOST_TICKS:
@@ -58,12 +58,12 @@ class Axis:
         return step
 
     def _numbers(self):
-        """Every number that isn't in a narrowed gap, with its units, and whether it is the first one or the first behind a gap."""
+        """Yields every number outside of shortened gaps, with its units, and whether it is the first one or follows a gap."""
         yield self.stamps[0], 0, True
         for index, stamp in enumerate(self.stamps[1:]):
             before, units = self.stamps[index], self.sums[index]
             if stamp - before > MOST_GAP:
                 yield stamp, self.sums[index + 1], True
                 continue
-            for more in range(1, stamp - before + 1):
-                yield before + more, units + more, False
+            for offset in range(1, stamp - before + 1):
+                yield before + offset, units + offset, False

@@ -1,30 +1,30 @@
-"""How does a text get into the page? Through `tag` alone, which escapes every text that it didn't make itself."""
+"""Builds HTML. Every text enters the page through `tag`, which escapes what isn't markup."""
 import html
 import unicodedata
 
-# Controls, marks that turn the direction of writing or take no room, halves of characters, and what no character stands for.
+# Control characters, marks of direction or of no width, surrogates, private and unassigned characters, line separators.
 HIDDEN = {"Cc", "Cf", "Cs", "Cn", "Co", "Zl", "Zp"}
 EMPTY_TAGS = {"meta"}
 
 
 class Markup(str):
-    """A text that is HTML already."""
+    """A text that is already HTML."""
 
 
-def spelled(character):
+def escape_of(character):
     return f"\\u{ord(character):04x}" if ord(character) < 0x10000 else f"\\U{ord(character):08x}"
 
 
 def shown(text):
-    """A text in which each character that can't be seen is spelled out."""
+    """Returns a text with an escape for each invisible character."""
     text = str(text)
     if text.isascii() and text.isprintable():
         return text
-    return "".join(spelled(it) if unicodedata.category(it) in HIDDEN else it for it in text)
+    return "".join(escape_of(it) if unicodedata.category(it) in HIDDEN else it for it in text)
 
 
 def escaped(part):
-    """A part of a page: markup as it is, any other text escaped, nothing for None, lists part by part."""
+    """Returns the HTML of a part: markup unchanged, any other text escaped, nothing for None, lists item by item."""
     if part is None:
         return ""
     if isinstance(part, Markup):
@@ -35,7 +35,7 @@ def escaped(part):
 
 
 def tag(name, /, *parts, **attributes):
-    """An element. Of an attribute's name a last `_` is left out, and any other one is a hyphen; None leaves it out."""
+    """Returns an element. In an attribute's name a final `_` is dropped, any other one becomes a hyphen. None omits the attribute."""
     words = "".join(
         f' {key.rstrip("_").replace("_", "-")}="{html.escape(shown(value))}"'
         for key, value in attributes.items()

@@ -1,4 +1,4 @@
-"""What stands on the page: what came of the run, how it is read, and the calls in parts, each part with an axis of its own."""
+"""Builds the page: the summary of the run, the legend, and the calls in parts, each with an axis of its own."""
 import os
 
 from . import legend, timeline, wording
@@ -10,19 +10,19 @@ MOST_HIGH_ROWS = 12
 MOST_NAMED = 12
 MOST_OPS = 4
 MOST_MARKS = 64
-COLUMNS = ("line", "call", "place", "result", "what was asked → what came of it")
+COLUMNS = ("line", "call", "place", "result", "operations → results")
 POLICY = "default-src 'none'; style-src 'unsafe-inline'; base-uri 'none'; form-action 'none'"
 
 
 class Page:
-    """The page of a run: its rows, and what is needed to tell them shortly."""
+    """The page of a run: its rows and the short names of what they contain."""
 
     def __init__(self, name, records, answers, verdict):
         self.name, self.records, self.answers, self.verdict = name, records, answers, verdict
         self.rows = rows_of(records, answers)
         notes_of(self.rows, answers)
         self.names = wording.Names(self.rows)
-        self.makers = {row.told.commit_place: row for row in self.rows if row.told and row.told.commit == "committed"}
+        self.makers = {row.report.commit_place: row for row in self.rows if row.report and row.report.commit == "committed"}
         self.parts = parts_of(self.rows)
         self.is_high = len(self.rows) <= MOST_HIGH_ROWS
 
@@ -41,42 +41,42 @@ class Page:
         return "<!doctype html>\n" + tag("html", joined([head, body]), lang="en") + "\n"
 
     def summary(self):
-        """What came of the run, the verdict, and what is seen of the rows."""
+        """Returns the counts of the run, the verdict, and what is noticed in the rows."""
         counts = [
             tag("span", swatch(kind), f"{count} {wording.KINDS[kind]}", class_="count")
             for kind, count in counts_of(self.rows).items()
         ]
-        return tag("section", tag("p", counts), tag("p", "; ".join(self.about()) + "."), self.verdict_told(), self.seen())
+        return tag("section", tag("p", counts), tag("p", "; ".join(self.about()) + "."), self.verdict_shown(), self.noticed())
 
     def about(self):
-        """What is told of the run as a whole, and of what isn't known here."""
-        yield plural(sum(row.kind == "committed" for row in self.rows), "book was made", "books were made")
+        """Yields facts about the run as a whole, and what the page can't show."""
+        yield plural(sum(row.kind == "committed" for row in self.rows), "state was created", "states were created")
         if self.names.domain:
-            yield f"names without a domain are of {wording.cut(self.names.domain, 120)}"
+            yield f"names without a domain belong to {wording.cut(self.names.domain, 120)}"
         if self.answers is None:
-            yield "conflicts are recorded nowhere, and aren't shown without the schedule's answers"
+            yield "the records have no conflicts; the page shows conflicts only with the answers of the schedule"
         elif self.answers.refused:
             yield refused_lines(self.answers.refused)
 
-    def verdict_told(self):
+    def verdict_shown(self):
         if self.verdict is None:
             return tag("p", "No verdict of ", tag("code", "regd audit"), " was given.", class_="verdict")
         if self.verdict.line is None:
-            said = [tag("b", "yes"), ": the records are a history that the plain book confirms."]
+            said = [tag("b", "yes"), ": the reference implementation confirms the records."]
             return tag("p", "The audit says ", said, class_="verdict yes")
         place = tag("a", f"line {self.verdict.line}", href=f"#line-{self.verdict.line}")
         said = [tag("b", "no"), ", at ", place, ": ", cause(self.verdict.why)]
-        return tag("p", "The audit says ", said, " Of the lines behind it, faded here, it says nothing.", class_="verdict no")
+        return tag("p", "The audit says ", said, " It doesn't judge the later lines, which are faded here.", class_="verdict no")
 
-    def seen(self):
-        """The first rows of which something is seen."""
+    def noticed(self):
+        """Returns the first rows with notes."""
         noted = [row for row in self.rows if row.notes]
         if not noted:
             return None
         items = [tag("li", self.link(row, row_name(row)), ": ", "; ".join(row.notes), ".") for row in noted[:MOST_NAMED]]
         if len(noted) > MOST_NAMED:
-            items.append(tag("li", f"and of {plural(len(noted) - MOST_NAMED, 'more call', 'more calls')}"))
-        return tag("div", tag("p", "Seen without running a batch:"), tag("ul", items), class_="seen")
+            items.append(tag("li", f"and in {plural(len(noted) - MOST_NAMED, 'more call', 'more calls')}"))
+        return tag("div", tag("p", "Noticed without running any batch:"), tag("ul", items), class_="seen")
 
     def legend(self):
         items = [[tag("dt", sample), tag("dd", text)] for sample, text in legend.items(self.rows, self.parts, self.answers)]
@@ -97,7 +97,7 @@ class Page:
         return joined(sections)
 
     def part(self, number, part, above):
-        """Some rows under their axis; `above` is the moment of the row above the first."""
+        """Returns some rows under their axis. `above` is the moment of the row above the first one."""
         drawing = timeline.Drawing(part, number, timeline.HIGH_ROW if self.is_high else timeline.LOW_ROW)
         head = tag("div", [tag("span", it) for it in COLUMNS], drawing.head(), class_="row head")
         rows = []
@@ -108,7 +108,7 @@ class Page:
         return tag("section", title, head, tag("ol", joined(rows)), id=f"part-{number}", class_="part high" if self.is_high else "part")
 
     def row(self, row, drawn):
-        """A call in one row, which opens to all that is known of it."""
+        """Returns the row of a call, which opens to show all that is known about it."""
         cells = [
             tag("span", row.line() or "–", class_="number"),
             tag("span", row.call, class_="number", title=row.call),
@@ -131,7 +131,7 @@ class Page:
             yield "unread"
 
     def is_fault(self, row):
-        """Is this the line that the audit names?"""
+        """Returns true if the audit names the line of this row."""
         return self.verdict is not None and row.record is not None and row.line() == self.verdict.line
 
     def result(self, row):
@@ -143,63 +143,63 @@ class Page:
         return " ".join([wording.KINDS[row.kind], wording.cut(code or "", 20)])
 
     def what(self, row):
-        """What was asked, operation by operation, and what came of it; of a conflict whose batch isn't known, what it read."""
+        """Returns the operations and their results; for a conflict whose batch isn't known, its read set."""
         if row.batch() is None:
-            return tag("em", f"read {self.marks(row, MOST_OPS)}" if row.told.reads else "its batch isn't known")
-        told = [self.op_told(row, index, op) for index, op in enumerate(row.batch()["ops"][:MOST_OPS])]
+            return tag("em", f"read {self.marks(row, MOST_OPS)}" if row.report.reads else "the batch isn't known")
+        ops = [self.op_shown(row, index, op) for index, op in enumerate(row.batch()["ops"][:MOST_OPS])]
         more = len(row.batch()["ops"]) - MOST_OPS
-        return [joined(told, " · "), f" · and {more} more" if more > 0 else None]
+        return [joined(ops, " · "), f" · and {more} more" if more > 0 else None]
 
-    def op_told(self, row, index, op):
-        came = wording.came_of(op, wording.replies_of(row)[index])
+    def op_shown(self, row, index, op):
+        result = wording.result_of(op, wording.replies_of(row)[index])
         if index == wording.refused_op(row):
-            came = tag("strong", wording.refusal(row, self.names))
+            result = tag("strong", wording.refusal(row, self.names))
         name = tag("b", wording.cut(op["op"], 40))
-        return tag("span", name, f" {wording.asked(op, self.names)}", [" → ", came] if came else None)
+        return tag("span", name, f" {wording.request_of(op, self.names)}", [" → ", result] if result else None)
 
     def marks(self, row, most):
-        return ", ".join(self.names.mark(wording.cut(it, 200)) for it in row.told.reads[:most])
+        return ", ".join(self.names.mark(wording.cut(it, 200)) for it in row.report.reads[:most])
 
     def between(self, row):
-        """Which calls were committed between a conflict's begin and its commit: one of them wrote what it had read."""
-        places = range((row.told.base or 0) + 1, row.told.commit_place + 1)
+        """Returns the calls that committed between the begin and the commit of a conflict. One of them wrote what it had read."""
+        places = range((row.report.base or 0) + 1, row.report.commit_place + 1)
         return [maker for place, maker in self.makers.items() if place in places]
 
     def lost(self, row):
-        """Why a call is a conflict."""
+        """Returns the reason of a conflict."""
         if row.kind != "conflict" or not (between := self.between(row)):
             return None
-        who = "this call" if len(between) == 1 else "one of these calls"
+        writer = "this call" if len(between) == 1 else "one of these calls"
         links = joined([self.link(maker, maker.call) for maker in between[:MOST_NAMED]], ", ")
         more = f" and {len(between) - MOST_NAMED} more" if len(between) > MOST_NAMED else None
-        return tag("p", f"Between its begin and its commit {who} wrote what it had read: ", links, more, ".")
+        return tag("p", f"Between its begin and its commit {writer} wrote something that it had read: ", links, more, ".")
 
     def link(self, row, text):
         return tag("a", text, href=f"#{row_id(row)}")
 
     def full(self, row):
-        """All that is known of a row."""
-        told = [tag("p", it, ".", class_="note") for it in row.notes]
+        """Returns all that is known about a row."""
+        notes = [tag("p", it, ".", class_="note") for it in row.notes]
         if self.is_fault(row):
-            told.insert(0, tag("p", "The audit's first fault: ", cause(self.verdict.why), class_="note"))
+            notes.insert(0, tag("p", "The first fault of the audit: ", cause(self.verdict.why), class_="note"))
         if code := wording.code_of(row):
-            told.append(tag("p", f"{wording.cut(code, 40)}: {wording.CODES.get(code, 'a code that no reply has')}."))
-        return tag("div", tag("p", self.facts(row)), told, self.lost(row), exchange(row), class_="full")
+            notes.append(tag("p", f"{wording.cut(code, 40)}: {wording.CODES.get(code, 'no reply can have this code')}."))
+        return tag("div", tag("p", self.facts(row)), notes, self.lost(row), exchange(row), class_="full")
 
     def facts(self, row):
-        """The numbers of a call in one sentence."""
+        """Returns the numbers of a call in one sentence."""
         facts = [timeline.spoken(row)]
-        if row.told and row.told.base is not None:
-            facts.append(f"begun on book {row.told.base}")
+        if row.report and row.report.base is not None:
+            facts.append(f"begun on the state of commit {row.report.base}")
         batch = row.batch() or {}
         facts += [f"{key} {wording.cut(wording.compact(batch[key]), 80)}" for key in ("after", "token") if batch.get(key)]
-        if row.told and row.told.reads:
+        if row.report and row.report.reads:
             facts.append(f"read {self.marks(row, MOST_MARKS)}")
         return "; ".join(facts) + "."
 
 
 def style_sheet():
-    """The style of the page, which stands beside this file and is part of the program."""
+    """Returns the style sheet, from the file next to this one."""
     with open(os.path.join(os.path.dirname(__file__), "style.css"), encoding="utf-8") as file:
         return Markup(file.read())
 
@@ -213,8 +213,8 @@ def plural(count, one, many):
 
 
 def cause(why):
-    """A cause of the audit in words."""
-    known = wording.CAUSES.get(why, "the line spells no record (docs/CODES.md)")
+    """Returns a cause of the audit in words."""
+    known = wording.CAUSES.get(why, "the line is not a valid record (docs/CODES.md)")
     return [tag("code", wording.cut(why, 40)), f": {known}."]
 
 
@@ -225,7 +225,7 @@ def refused_lines(refused):
 
 
 def parts_of(rows):
-    """The rows in parts of about equal length, none over MOST_ROWS."""
+    """Returns the rows in parts of about equal length, none of more than MOST_ROWS."""
     count = -(-len(rows) // MOST_ROWS)
     ends = [len(rows) * number // count for number in range(count + 1)] if count else [0]
     return [rows[start:end] for start, end in zip(ends, ends[1:])]
@@ -233,7 +233,7 @@ def parts_of(rows):
 
 def part_name(part):
     lines = [row.line() for row in part if row.record]
-    return f" lines {lines[0]} to {lines[-1]}" if lines else " calls that aren't recorded"
+    return f" lines {lines[0]} to {lines[-1]}" if lines else " calls that are not recorded"
 
 
 def row_id(row):
@@ -245,21 +245,21 @@ def row_name(row):
 
 
 def place(row):
-    """The book that a call read, or with an arrow that it made."""
-    number = row.told.commit_place if row.kind == "conflict" else row.reply.get("place")
+    """Returns the commit number of the state that a call read, or, with an arrow, of the state that it created."""
+    number = row.report.commit_place if row.kind == "conflict" else row.reply.get("place")
     text = "–" if number is None else wording.cut(wording.compact(number), 24)
     return f"→ {text}" if row.kind == "committed" else text
 
 
 def exchange(row):
-    """Each operation and its reply, as they stand in the record; without replies the whole reply."""
+    """Returns each operation with its result, as the record has them; without results the whole reply."""
     ops, replies = (row.batch() or {}).get("ops", []), wording.replies_of(row)
     lines = []
     for op, reply in zip(ops, replies):
-        lines.append(["asked", op])
+        lines.append(["operation", op])
         if reply is not None:
-            lines.append(["came", reply])
+            lines.append(["result", reply])
     if row.reply and (not ops or replies[0] is None):
         lines.append(["reply", row.reply])
-    pairs = [[tag("dt", what), tag("dd", wording.cut(wording.compact(value)))] for what, value in lines]
+    pairs = [[tag("dt", name), tag("dd", wording.cut(wording.compact(value)))] for name, value in lines]
     return tag("dl", pairs) if pairs else None

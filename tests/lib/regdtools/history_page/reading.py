@@ -1,6 +1,6 @@
-"""What do the lines of a file spell? Records, the answers and the events of a schedule, and the verdict of an audit.
+"""Parses the lines of a file: the records, answers and events of a schedule, and the verdict of an audit.
 
-Whatever a line holds, it is read as what it is, or named as malformed in words of this module alone: no byte of it is told.
+A malformed line gets a message with fixed words of this module: no byte of the line gets into a message.
 """
 import dataclasses
 import json
@@ -10,7 +10,7 @@ MOST_WHOLE = 2**64 - 1
 
 
 class Number(str):
-    """A number that is no whole number of these lines, as it is written."""
+    """A number that isn't a valid whole number, as the line has it."""
 
 
 class Fault(Exception):
@@ -38,10 +38,10 @@ class Record:
 
 
 @dataclasses.dataclass
-class Told:
-    """What the answers of a schedule tell of a call. The numbers of events are those of accepted ones, from 1."""
+class Report:
+    """What the answers of a schedule report about a call. Only accepted events have numbers, from 1."""
 
-    line: int  # of its invoke among the events, which is that of the answer, too
+    line: int  # the line of its invoke in the events, and of the answer in the answers
     invoked: int
     batch: dict | None = None
     begun: int | None = None
@@ -54,7 +54,7 @@ class Told:
     reply: dict | None = None
 
     def decided(self):
-        """The number of the event that gave the call its place: its commit, or for all that never came to one its begin."""
+        """Returns the number of the event that determined the commit number: its commit, or its begin if it had no commit."""
         return self.begun if self.commit is None else self.committed_at
 
     def is_conflict(self):
@@ -63,7 +63,7 @@ class Told:
 
 @dataclasses.dataclass
 class Answers:
-    """The answers of a schedule: what they tell of each call, the order line, and the refused lines."""
+    """The answers of a schedule: what they report about each call, the order, and the refused lines."""
 
     calls: dict = dataclasses.field(default_factory=dict)
     accepted: int = 0
@@ -73,21 +73,21 @@ class Answers:
 
 @dataclasses.dataclass
 class Verdict:
-    """What an audit said: yes where `line` is None, else the first line with a fault, and why."""
+    """The verdict of an audit: yes if `line` is None, otherwise the first line with a fault, and its cause."""
 
     line: int | None
     why: str | None
 
 
 def lines_of(data):
-    """The lines of a file, and whether the last one has its line feed."""
+    """Returns the lines of a file, and whether the last one ends with a line feed."""
     lines = data.split(b"\n")
     is_whole = lines[-1] == b""
     return (lines[:-1] if is_whole else lines), is_whole
 
 
 def written_number(text):
-    """A whole number of these lines, or else the number as it is written."""
+    """Returns a valid whole number, or any other number as the line has it."""
     if text.startswith("-") or len(text) > 20 or int(text) > MOST_WHOLE:
         return Number(text)
     return int(text)
@@ -98,7 +98,7 @@ def no_constant(_text):
 
 
 def is_deeper(value, most):
-    """Do lists and objects lie in each other more than so deep?"""
+    """Returns true if lists and objects are nested deeper than `most` levels."""
     level = [value]
     for _ in range(most + 1):
         level = [it for holder in level if isinstance(holder, (dict, list)) for it in inside(holder)]
@@ -112,7 +112,7 @@ def inside(holder):
 
 
 def value_of(line):
-    """The object that a line spells."""
+    """Returns the object of a line."""
     try:
         text = line.decode("utf-8")
     except UnicodeDecodeError:
@@ -126,18 +126,18 @@ def value_of(line):
     if is_deeper(value, MOST_DEEP):
         raise Fault("too deep")
     if not isinstance(value, dict):
-        raise Fault("no object")
+        raise Fault("not an object")
     return value
 
 
 def read_lines(name, data, read_one):
-    """What each line spells, by its number and its object. Raises Malformed with every line that spells nothing."""
+    """Returns what `read_one` makes of each line, from its number and its object. Raises Malformed with every malformed line."""
     lines, is_whole = lines_of(data)
     values, faults = [], []
     for number, line in enumerate(lines, 1):
         try:
             if number == len(lines) and not is_whole:
-                raise Fault("no line feed at its end, so it may be cut off")
+                raise Fault("no line feed at its end, so it may be incomplete")
             values.append(read_one(number, value_of(line)))
         except Fault as fault:
             faults.append((number, str(fault)))
@@ -159,30 +159,30 @@ def needed(keys, key):
 def whole(keys, key):
     value = needed(keys, key)
     if not is_whole_number(value):
-        raise Fault(f"`{key}` is no whole number")
+        raise Fault(f"`{key}` is not a whole number")
     return value
 
 
 def an_object(keys, key):
     value = needed(keys, key)
     if not isinstance(value, dict):
-        raise Fault(f"`{key}` is no object")
+        raise Fault(f"`{key}` is not an object")
     return value
 
 
 def a_text(keys, key):
     value = needed(keys, key)
     if type(value) is not str:
-        raise Fault(f"`{key}` is no text")
+        raise Fault(f"`{key}` is not a text")
     return value
 
 
 def a_batch(keys):
-    """The batch of a record or an event. Its operations need a name; what else they have is shown as it is."""
+    """Returns the batch of a record or an event. Its operations need a name; the page shows all else unchanged."""
     batch = an_object(keys, "batch")
     ops = needed(batch, "ops")
     if not isinstance(ops, list) or not all(isinstance(op, dict) and type(op.get("op")) is str for op in ops):
-        raise Fault("`ops` is no list of operations")
+        raise Fault("`ops` is not a list of operations")
     return batch
 
 
@@ -193,12 +193,12 @@ def record_of(line, keys):
 
 
 def read_records(data):
-    """The records, in the order of their lines."""
+    """Returns the records, in the order of their lines."""
     return read_lines("records", data, record_of)
 
 
 def read_answers(data):
-    """What the answers of a schedule tell."""
+    """Returns what the answers of a schedule report."""
     answers = Answers()
     read_lines("answers", data, lambda line, keys: take_answer(answers, line, keys))
     return answers
@@ -206,7 +206,7 @@ def read_answers(data):
 
 def take_answer(answers, line, keys):
     if answers.order is not None:
-        raise Fault("behind the order, which ends the answers")
+        raise Fault("after the order, which ends the answers")
     if "order" in keys:
         answers.order = an_order(keys)
     elif "line" in keys:
@@ -219,56 +219,56 @@ def take_answer(answers, line, keys):
 def an_order(keys):
     order = keys["order"]
     if not isinstance(order, list) or not all(is_whole_number(call) for call in order):
-        raise Fault("`order` is no list of calls")
+        raise Fault("`order` is not a list of calls")
     return order
 
 
 def take_event(answers, line, keys):
-    """Adds the answer to an accepted event to what is told of its call. Its keys say of which kind it is."""
+    """Adds the answer to an accepted event to the report on its call. Its keys determine its kind."""
     number, call = answers.accepted, whole(keys, "call")
     if keys.get("state") == "new":
         if call in answers.calls:
-            raise Fault("a call that was invoked before")
-        answers.calls[call] = Told(line, number)
+            raise Fault("the call was invoked before")
+        answers.calls[call] = Report(line, number)
         return
-    told = answers.calls.get(call)
-    if told is None:
-        raise Fault("a call that wasn't invoked")
+    report = answers.calls.get(call)
+    if report is None:
+        raise Fault("the call was not invoked")
     if "read" in keys:
-        told.reads.append(a_text(keys, "read"))
+        report.reads.append(a_text(keys, "read"))
     elif "commit" in keys:
-        told.commit, told.committed_at, told.commit_place = a_text(keys, "commit"), number, whole(keys, "place")
+        report.commit, report.committed_at, report.commit_place = a_text(keys, "commit"), number, whole(keys, "place")
     elif "state" in keys:
-        told.begun, told.base = number, whole(keys, "place")
+        report.begun, report.base = number, whole(keys, "place")
     elif "result" in keys:
-        told.replied, told.reply = number, keys
+        report.replied, report.reply = number, keys
     else:
-        raise Fault("no answer to an event")
+        raise Fault("not an answer to an event")
 
 
 def read_events(data, answers):
-    """Gives each call of the answers the batch that its invoke handed in: an event's line has the number of its answer's."""
+    """Gives each call of the answers the batch of its invoke. An event and its answer have the same line number."""
     lines, _ = lines_of(data)
     faults = []
-    for call, told in answers.calls.items():
+    for call, report in answers.calls.items():
         try:
-            if told.line > len(lines):
-                raise Fault("no line, and the answers have one to it")
-            told.batch = invoked_batch(value_of(lines[told.line - 1]), call)
+            if report.line > len(lines):
+                raise Fault("this line is missing, but it has an answer")
+            report.batch = invoked_batch(value_of(lines[report.line - 1]), call)
         except Fault as fault:
-            faults.append((told.line, str(fault)))
+            faults.append((report.line, str(fault)))
     if faults:
         raise Malformed("events", faults)
 
 
 def invoked_batch(keys, call):
     if keys.get("event") != "invoke" or keys.get("call") != call:
-        raise Fault("not the invoke that the answers tell of")
+        raise Fault("not the invoke that the answers report")
     return a_batch(keys)
 
 
 def read_verdict(data, records):
-    """The verdict of an audit of so many records."""
+    """Returns the verdict of an audit of the given number of records."""
     verdicts = read_lines("verdict", data, lambda _line, keys: verdict_of(keys, records))
     if len(verdicts) != 1:
         raise Malformed("verdict", [(len(verdicts) or 1, "more than one verdict" if verdicts else "no verdict")])
@@ -278,10 +278,10 @@ def read_verdict(data, records):
 def verdict_of(keys, records):
     if keys.get("audit") == "yes":
         if whole(keys, "calls") != records:
-            raise Fault("of another number of records")
+            raise Fault("it is about another number of records")
         return Verdict(None, None)
     if keys.get("audit") != "no":
-        raise Fault("no verdict")
+        raise Fault("not a verdict")
     if not 1 <= whole(keys, "line") <= records:
-        raise Fault("of a line that the records don't have")
+        raise Fault("it names a line that the records do not have")
     return Verdict(keys["line"], a_text(keys, "why"))

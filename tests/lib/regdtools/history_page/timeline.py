@@ -1,4 +1,4 @@
-"""How is a call drawn? As a bar from its invoke to its reply, with the line of the earliest moments that goes down the rows."""
+"""Draws each call as a bar from its invoke to its reply, with a line through the earliest moments of the rows."""
 from .axis import Axis
 from .markup import tag
 
@@ -26,7 +26,7 @@ def svg(*parts, **attributes):
 
 
 def definitions():
-    """What all drawings of the page share."""
+    """Returns what all drawings of the page share."""
     hatch = tag(
         "pattern",
         tag("rect", width=6, height=6, class_="hatch-ground"),
@@ -37,17 +37,17 @@ def definitions():
 
 
 def key(*parts):
-    """A small drawing for the explanations, which shows one thing."""
+    """Returns a small drawing for the legend."""
     return tag("svg", *parts, width=KEY_WIDTH, height=KEY_HEIGHT, class_="key", aria_hidden="true")
 
 
 def axis_of(rows):
-    """The axis of some rows. Where one has no reply, there is room for saying so behind the last event."""
+    """Returns the axis of some rows. If a row has no reply, the axis leaves room for a note after the last event."""
     return Axis([stamp for row in rows for stamp in row.stamps()], has_open=any(row.replied is None for row in rows))
 
 
 def numbers(axis):
-    """The numbers of an axis."""
+    """Returns the numbers of an axis."""
     ticks = axis.ticks()
     texts = [tag("text", str(number), x=percent(at), y=15, class_=f"tick {side(number, at)}") for number, at in ticks]
     texts += [tag("text", "⋯", x=percent(at), y=22, class_="tick") for at in axis.gaps()]
@@ -55,7 +55,7 @@ def numbers(axis):
 
 
 def side(number, at):
-    """On which side of its tick a number stands: a long one at an edge would be cut."""
+    """Returns the side of its tick for a number, so that a long one isn't cut at an edge."""
     if len(str(number)) < 6:
         return "middle"
     return "before" if at > 80 else "behind" if at < 5 else "middle"
@@ -69,19 +69,19 @@ class Drawing:
         self.middle, self.top, self.bottom = height / 2, height / 2 - THICK / 2, height / 2 + THICK / 2
 
     def head(self):
-        """The axis above the rows, with the grid that each of them uses."""
+        """Returns the axis above the rows, with the grid of all rows."""
         grid = [line(at, 0, at, self.height, "grid") for _, at in self.axis.ticks()]
         grid += [line(at, 0, at, self.height, "gap") for at in self.axis.gaps()]
         defs = tag("defs", tag("g", grid, id=f"grid-{self.part}"))
         return svg(defs, numbers(self.axis), class_="axis", height=HEAD, aria_hidden="true")
 
     def row(self, row, above):
-        """The drawing of a row; `above` is the moment of the row above."""
+        """Returns the drawing of a row. `above` is the moment of the row above."""
         parts = [tag("use", href=f"#grid-{self.part}"), self.bar(row), self.events(row), self.path(row, above)]
         return svg(tag("title", spoken(row)), parts, class_=f"drawing {row.kind}", height=self.height, role="img")
 
     def bar(self, row):
-        """From the invoke to the reply. A bar without a reply has an open end; one whose reply comes first is a frame with a cross."""
+        """Returns the bar from the invoke to the reply. Without a reply its end is open. With the reply first it has a cross."""
         start = self.axis.at(row.invoked)
         if row.replied is None:
             return [
@@ -100,20 +100,20 @@ class Drawing:
         ]
 
     def events(self, row):
-        """The begin, and the event at which the call was decided, if it was."""
-        if row.told is None or row.told.begun is None:
+        """Returns the marks of the begin, and of the event that determined the outcome, if there is one."""
+        if row.report is None or row.report.begun is None:
             return None
-        begun, decided = self.axis.at(row.told.begun), self.axis.at(row.told.decided())
+        begun, decided = self.axis.at(row.report.begun), self.axis.at(row.report.decided())
         begin = line(begun, self.top + 2, begun, self.bottom - 2, "begin")
         if row.kind == "waiting":
             return begin
-        if row.told.is_conflict():
+        if row.report.is_conflict():
             return [begin, cross(decided, self.middle, "cross")]
         dot = tag("circle", cx=percent(decided), cy=f"{self.middle:g}", r=4, class_="decided")
         return dot if begun == decided else [begin, dot]
 
     def path(self, row, above):
-        """The line's way through the row: from the moment above to that of this row, and down; and how far it misses the bar."""
+        """Returns the line through the row: from the moment above to that of this row, and down; and how far it misses the bar."""
         if row.moment is None:
             return None
         now = self.axis.at(row.moment)
@@ -127,18 +127,18 @@ class Drawing:
 
 
 def spoken(row):
-    """The drawing in words."""
+    """Describes the drawing in words."""
     words = [f"call {row.call}: invoked {row.invoked}"]
-    if row.told and row.told.begun is not None:
-        words.append(f"begun {row.told.begun}")
-    if row.told and row.told.committed_at is not None:
-        words.append(f"commit {row.told.committed_at}")
+    if row.report and row.report.begun is not None:
+        words.append(f"begun {row.report.begun}")
+    if row.report and row.report.committed_at is not None:
+        words.append(f"commit {row.report.committed_at}")
     words.append("no reply" if row.replied is None else f"replied {row.replied}")
     return ", ".join(words)
 
 
 def overview(rows, parts):
-    """All calls of the run, a thin bar each, with a field for each part that leads to it."""
+    """Returns a thin bar for each call of the run, and for each part a field that links to it."""
     axis, high = axis_of(rows), min(6, OVERVIEW_HEIGHT / len(rows))
     bars = [overview_bar(row, axis, index * high, high) for index, row in enumerate(rows)]
     fields, top = [], 0
@@ -165,7 +165,7 @@ def small(left, width, top, height, kind):
 
 
 def overview_field(number, calls, top, height, name):
-    """A part's field. Its name stands where the calls leave room: they go from the upper left to the lower right."""
+    """Returns the field of a part. Its name is in a corner without bars, which run from the upper left to the lower right."""
     title = tag("title", f"part {number}: {calls} calls")
     field = tag("rect", title, x=0, y=f"{top:.2f}", width="100%", height=f"{height:.2f}", class_="field")
     named = tag("text", f"part {number}", y=f"{top + 12:.2f}", **name) if height >= 14 else None

@@ -1,4 +1,4 @@
-"""How is what a call asked, and what it was answered, told in a few words?"""
+"""Describes the operations of a call and their results in a few words."""
 import collections
 import json
 import re
@@ -17,10 +17,10 @@ CODES = {
     "O5": "a domain has no bundle",
     "O6": "an entry names the domain",
     "O7": "there is no such agent",
-    "O8": "the book of this number is none of the last 64",
-    "O9": "another batch was committed with this token",
-    "W1": "the place is less than the batch's `after`",
-    "W2": "2^48 batches are committed already",
+    "O8": "the state of this commit number is none of the last 64",
+    "O9": "another batch committed with this token",
+    "W1": "the commit number is less than the batch's `after`",
+    "W2": "2^48 batches have committed already",
     "W3": "the book would have over 16,384 entries",
     "W4": "the book would have over 4,096 agents",
     "W5": "the book would have over 1,024 bundles",
@@ -28,9 +28,9 @@ CODES = {
 }
 CAUSES = {
     "call": "an earlier record has the call's number",
-    "stamps": "its reply doesn't come after its invoke, or it hasn't replied and isn't committed",
+    "stamps": "its reply doesn't come after its invoke, or it neither replied nor committed",
     "order": "it replied before an earlier record's call was invoked",
-    "reply": "its reply isn't the one that the plain book gives, run through the batches in this order",
+    "reply": "the reference implementation, run through the batches in this order, gives another reply",
 }
 KINDS = {
     "committed": "committed",
@@ -42,8 +42,8 @@ KINDS = {
     "missing": "not recorded",
     "other": "other",
 }
-# What is told of an operation behind its name: texts, and keys in braces.
-ASKED = {
+# What follows the name of an operation: text, and keys in braces.
+REQUESTS = {
     "create": "{id} {identity} under {parent}, {selectors}",
     "update": "{id} {identity} under {parent}, {selectors}",
     "delete": "{id}",
@@ -62,8 +62,11 @@ ASKED = {
 
 
 class Names:
-    """Short forms of the ids and names of a run: of an entry's id as many last digits as tell it from all others, of an ID its path
-    where all are of one trust domain. Tokens have no short form: they may have the digits of an id."""
+    """Short forms of the ids and names of a run.
+
+    The short form of an entry's id is as many last digits as make it unique; that of a SPIFFE ID is its path, if all have one trust
+    domain. Tokens have no short form, since they may have the digits of an id.
+    """
 
     def __init__(self, rows):
         words = {word for row in rows for text in texts_of(named_in(row)) for word in text.split(" ")}
@@ -79,20 +82,20 @@ class Names:
         return text
 
     def mark(self, text):
-        """A mark with its ids and names short."""
+        """Returns an entry of a read set with short ids and names."""
         if text.startswith("token "):
             return text
         return " ".join(self.short(word) for word in text.split(" "))
 
 
 def named_in(row):
-    """The parts of a call that have names of entries."""
-    reads = row.told.reads if row.told else []
+    """Returns the parts of a call that may contain names of entries."""
+    reads = row.report.reads if row.report else []
     return [(row.batch() or {}).get("ops"), row.reply, [mark for mark in reads if not mark.startswith("token ")]]
 
 
 def texts_of(value):
-    """Every text in a value, from an explicit list of what is left to look at."""
+    """Yields every text in a value, without recursion."""
     left = [value]
     while left:
         it = left.pop()
@@ -105,7 +108,7 @@ def texts_of(value):
 
 
 def tails_of(uuids):
-    """Of each the least of 4, 8, 12 and 32 last digits that no other one has."""
+    """Returns for each id its shortest unique end of 4, 8, 12 or 32 digits."""
     digits, tails = {uuid: uuid.replace("-", "") for uuid in uuids}, {}
     for length in (4, 8, 12, 32):
         counts = collections.Counter(it[-length:] for it in digits.values())
@@ -116,7 +119,7 @@ def tails_of(uuids):
 
 
 def compact(value):
-    """The compact text of a value."""
+    """Returns the compact text of a value."""
     if isinstance(value, dict):
         return "{" + ",".join(f"{compact(key)}:{compact(it)}" for key, it in value.items()) + "}"
     if isinstance(value, list):
@@ -125,31 +128,31 @@ def compact(value):
 
 
 def cut(text, most=MOST_SHOWN):
-    """A text, cut where it is long, with the count of what is left out."""
-    return text if len(text) <= most else f"{text[:most]} … and {len(text) - most:,} characters more"
+    """Returns a text; of a long one only its start and the number of omitted characters."""
+    return text if len(text) <= most else f"{text[:most]} … and {len(text) - most:,} more characters"
 
 
-def said(value, names):
-    """A value of an operation, shortly."""
+def short_text(value, names):
+    """Returns a short text of a value of an operation."""
     if isinstance(value, Number) or not isinstance(value, (str, list)):
         return cut(compact(value), 60)
     if isinstance(value, str):
         return cut(names.short(value), 120)
-    return " ".join(said(it, names) if isinstance(it, str) else cut(compact(it), 60) for it in value)
+    return " ".join(short_text(it, names) if isinstance(it, str) else cut(compact(it), 60) for it in value)
 
 
-def asked(op, names):
-    """What an operation asks, without its name."""
+def request_of(op, names):
+    """Returns the short text of an operation, without its name."""
     if op["op"] == "page":
-        filters = [f"{key} {said(it, names)}" for key, it in op.items() if key not in ("op", "size", "match")]
-        return " ".join([f"of {said(op.get('size'), names)}", *filters])
-    return re.sub(r"\{(\w+)\}", lambda found: key_said(op, found.group(1), names), ASKED.get(op["op"], ""))
+        filters = [f"{key} {short_text(it, names)}" for key, it in op.items() if key not in ("op", "size", "match")]
+        return " ".join([f"of {short_text(op.get('size'), names)}", *filters])
+    return re.sub(r"\{(\w+)\}", lambda found: key_text(op, found.group(1), names), REQUESTS.get(op["op"], ""))
 
 
-def key_said(op, key, names):
-    """A key's value; an event's create may have no id yet, and its mode may be left out."""
+def key_text(op, key, names):
+    """Returns the short text of the value of a key. An event may have no id and no mode."""
     if key in op:
-        return said(op[key], names)
+        return short_text(op[key], names)
     return {("create", "id"): "(id drawn)", ("drop_bundle", "mode"): "restrict"}.get((op["op"], key), f"(no {key})")
 
 
@@ -157,8 +160,8 @@ def counted(value, one, many):
     return f"{len(value)} {one if len(value) == 1 else many}" if isinstance(value, list) else None
 
 
-def came_of(op, reply):
-    """What came of an operation, where its name doesn't say it: None where there is nothing to add."""
+def result_of(op, reply):
+    """Returns the short text of the result of an operation; None if there is nothing to add."""
     if not isinstance(reply, dict):
         return None
     if op["op"] in ("show", "show_agent", "show_bundle"):
@@ -174,7 +177,7 @@ def found_or_none(reply):
 
 
 def listed(reply):
-    """The counts of a reply that lists something."""
+    """Returns the counts of a reply that lists something."""
     found = [
         counted(reply.get("entries"), "entry", "entries"),
         counted(reply.get("bundles"), "bundle", "bundles"),
@@ -187,24 +190,24 @@ def listed(reply):
 
 
 def replies_of(row):
-    """The reply to each operation of a batch, where there are as many as operations."""
+    """Returns the result of each operation of a batch; None for each if their numbers differ."""
     ops, replies = (row.batch() or {}).get("ops", []), row.reply.get("replies")
     return replies if isinstance(replies, list) and len(replies) == len(ops) else [None] * len(ops)
 
 
 def code_of(row):
-    """The code of a refusal."""
+    """Returns the code of a refusal."""
     code = row.reply.get("code")
     return code if isinstance(code, str) and not isinstance(code, Number) else None
 
 
 def refusal(row, names):
-    """The code of a refusal with its detail: the similar entry, or the domain without a bundle."""
+    """Returns the code of a refusal and its detail: the similar entry, or the domain without a bundle."""
     detail = row.reply.get("detail")
-    return cut(code_of(row) or "refused", 20) + (f" {said(detail, names)}" if detail is not None else "")
+    return cut(code_of(row) or "refused", 20) + (f" {short_text(detail, names)}" if detail is not None else "")
 
 
 def refused_op(row):
-    """The index of the operation that was refused."""
+    """Returns the index of the refused operation."""
     op = row.reply.get("op")
     return op if row.kind == "refused" and type(op) is int else None

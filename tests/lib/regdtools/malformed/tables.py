@@ -1,13 +1,13 @@
-"""What may stand in a line? Each operation and each frame with its keys in order, and each kind of value with its rules.
+"""What may a line contain? Each operation and each frame with its keys in order, and each kind of value with its rules.
 
-A key that comes to `OPERATIONS` is met at once by everything that is drawn, whatever its operation, as long as its kind is here.
+To test a new key, add it to `OPERATIONS`. If its values are of a new kind, add the kind to `KINDS`.
 """
 import dataclasses
 import re
 import typing
 
-OWN = "ex.org"
-HOME = f"spiffe://{OWN}"
+DOMAIN = "ex.org"
+HOME = f"spiffe://{DOMAIN}"
 SERVER = f"{HOME}/spire/server"
 AGENTS = "/spire/agent/"
 SHOWN = "00000000-0000-0000-0000-000000000001"
@@ -23,15 +23,15 @@ def bytes_in(text):
     return len(text.encode())
 
 
-# what the grammar of a value refuses: a code, or None
+# grammars: each returns the code that refuses a value, or None
 
 
 def uuid_code(value):
     if not isinstance(value, str):
         return "L5"
     hyphenated = "[0-9a-f]{8}(-[0-9a-f]{4}){3}-[0-9a-f]{12}"
-    spelled = rf"[0-9a-f]{{32}}|{hyphenated}|\{{{hyphenated}\}}|urn:uuid:{hyphenated}"
-    return None if re.fullmatch(spelled, value, re.I | re.A) else "U1"
+    pattern = rf"[0-9a-f]{{32}}|{hyphenated}|\{{{hyphenated}\}}|urn:uuid:{hyphenated}"
+    return None if re.fullmatch(pattern, value, re.I | re.A) else "U1"
 
 
 def domain_code(value):
@@ -53,7 +53,7 @@ def segment_code(segment):
 
 
 def parts_of(id):
-    """The trust domain and the path of an ID's text."""
+    """Returns the trust domain and the path of the text of an ID."""
     domain, slash, path = id.removeprefix("spiffe://").partition("/")
     return domain, slash + path
 
@@ -84,7 +84,7 @@ def selector_code(value):
 
 
 def list_of(code):
-    """The grammar of a list, item by item."""
+    """Returns the grammar of a list whose items have this grammar."""
     return lambda value: next(filter(None, map(code, value)), None) if isinstance(value, list) else "L5"
 
 
@@ -101,10 +101,10 @@ def word_of(*words):
     return lambda value: None if isinstance(value, str) and value in words else "L5"
 
 
-# what no batch may have: the codes, of a value that its grammar takes
+# rules of a batch: each returns the codes that refuse a value that its grammar accepts
 
 
-def none(value):
+def no_codes(value):
     return []
 
 
@@ -116,29 +116,29 @@ def distinct(value):
     return len(set(value))
 
 
-def place_law(value):
+def id_codes(value):
     domain, path = parts_of(value)
-    return ["B3"] * (domain != OWN) + ["B4"] * (not path)
+    return ["B3"] * (domain != DOMAIN) + ["B4"] * (not path)
 
 
-def workload_law(value):
-    return place_law(value) + ["B5"] * (value == SERVER)
+def workload_codes(value):
+    return id_codes(value) + ["B5"] * (value == SERVER)
 
 
-def agent_law(value):
+def agent_codes(value):
     domain, path = parts_of(value)
-    return ["B3"] * (domain != OWN) + ["B10"] * (not path.startswith(AGENTS))
+    return ["B3"] * (domain != DOMAIN) + ["B10"] * (not path.startswith(AGENTS))
 
 
 @dataclasses.dataclass
 class Kind:
-    """A kind of value: what is refused of it, and values to be drawn, a good one, others that are good, bad ones by code."""
+    """A kind of value: its grammar, a valid value, other valid values, invalid values by code, and the rule of a batch."""
 
     grammar: typing.Callable
-    good: object
+    valid: object
     others: list = dataclasses.field(default_factory=list)
     bad: dict = dataclasses.field(default_factory=dict)
-    law: typing.Callable = none
+    batch_codes: typing.Callable = no_codes
 
 
 UUIDS = Kind(
@@ -149,7 +149,7 @@ UUIDS = Kind(
 )
 IDS_REFUSED = {
     "I1": [f"{HOME}/{'x' * (2_048 - len(HOME))}", "x" * 2_049, f"{HOME}/{'é' * 1_017}"],
-    "I2": ["", "/x", f"SPIFFE://{OWN}/x", "spiffe:/x", "spiffe:/" + "x" * 2_040],
+    "I2": ["", "/x", f"SPIFFE://{DOMAIN}/x", "spiffe:/x", "spiffe:/" + "x" * 2_040],
     "I3": ["spiffe://", "spiffe:///x"],
     "I4": ["spiffe://" + "a" * 256, "spiffe://" + "A" * 256 + "/x"],
     "I5": [f"{HOME}:80/x", "spiffe://Ex.org/x", f"{HOME}?x", "spiffe://é/x", f"{HOME} //"],
@@ -163,24 +163,24 @@ PLACES = Kind(
     f"{HOME}{AGENTS}n1",
     [f"{HOME}/...", f"{HOME}/{'x' * (2_047 - len(HOME))}", f"{HOME}/a.b-c_D"],
     IDS_REFUSED | {"B3": FOREIGN, "B4": [HOME]},
-    place_law,
+    id_codes,
 )
-WORKLOADS = Kind(id_code, f"{HOME}/web", PLACES.others, PLACES.bad | {"B5": [SERVER]}, workload_law)
+WORKLOADS = Kind(id_code, f"{HOME}/web", PLACES.others, PLACES.bad | {"B5": [SERVER]}, workload_codes)
 AGENT_IDS = Kind(
     id_code,
     f"{HOME}{AGENTS}n1",
     [f"{HOME}{AGENTS}x/..."],
     IDS_REFUSED | {"B3": FOREIGN, "B10": [HOME, f"{HOME}/web", f"{HOME}/spire/agent", SERVER]},
-    agent_law,
+    agent_codes,
 )
 DOMAINS_REFUSED = {
     "I3": [""],
     "I4": ["a" * 256, "A" * 256],
     "I5": ["B.org", "b.org/x", "spiffe://b.org", "b org", "é", "b.org\n", "\x00"],
 }
-BUNDLES = Kind(domain_code, "b.org", ["a" * 255, "0_.-", OWN], DOMAINS_REFUSED)
+BUNDLES = Kind(domain_code, "b.org", ["a" * 255, "0_.-", DOMAIN], DOMAINS_REFUSED)
 PARTNERS = Kind(
-    domain_code, "b.org", ["a" * 255], DOMAINS_REFUSED | {"B11": [OWN]}, lambda value: ["B11"] * (value == OWN)
+    domain_code, "b.org", ["a" * 255], DOMAINS_REFUSED | {"B11": [DOMAIN]}, lambda value: ["B11"] * (value == DOMAIN)
 )
 
 
@@ -189,7 +189,7 @@ def numbered(count, form="u:{}"):
 
 
 def selectors(least, most):
-    """Selectors of which so many may be given."""
+    """Returns the kind of a list of `least` to `most` selectors."""
     too_few = [[]] * (least > 0)
     return Kind(
         list_of(selector_code),
@@ -210,7 +210,7 @@ def selectors(least, most):
 NAMED = Kind(
     list_of(domain_code),
     ["b.org"],
-    [[], numbered(8, "b{}.org"), [*numbered(8, "b{}.org"), "b0.org"], [OWN]],
+    [[], numbered(8, "b{}.org"), [*numbered(8, "b{}.org"), "b0.org"], [DOMAIN]],
     {code: [[value], ["b.org", value]] for code, [value, *_] in DOMAINS_REFUSED.items()}
     | {"L5": [[7, ""], ["b.org", {}]], "B7": [numbered(9, "b{}.org")]},
     over(distinct, 8, "B7"),
@@ -218,7 +218,7 @@ NAMED = Kind(
 
 
 def texts(most, code):
-    """Texts of at most so many bytes."""
+    """Returns the kind of a text of at most `most` bytes."""
     return Kind(
         of_type(str),
         "x",
@@ -245,7 +245,7 @@ OPS = Kind(
     {"L5": [[SHOW, 7], [{"op": "mint"}, SHOW], [*[SHOW] * MOST_OPS, {}]], "B1": [[]], "B2": [[SHOW] * (MOST_OPS + 1)]},
 )
 
-# each key's kind, where an operation doesn't name another one
+# the kind of each key, unless an operation names another one
 KINDS = {
     "id": UUIDS,
     "from": UUIDS,
@@ -275,7 +275,7 @@ KINDS = {
 
 @dataclasses.dataclass
 class Key:
-    """A key of an object: `?` may be left out, `~` only where ids are drawn."""
+    """A key of an object. An optional key may be left out; a drawn one only where the program draws ids."""
 
     name: str
     kind: Kind
@@ -284,7 +284,7 @@ class Key:
 
 
 def keys(text):
-    """Keys from a text: each is NAME, NAME? or NAME~, and behind = the name of its kind where that is another one."""
+    """Parses keys: each is NAME, NAME? (optional) or NAME~ (drawn), with =KIND if its kind has another name."""
     found = []
     for word in text.split():
         name, _, kind = word.partition("=")
@@ -313,7 +313,7 @@ OPERATIONS = {
 OPERATIONS = {name: keys(text) for name, text in OPERATIONS.items()}
 KINDS["op"] = words(*OPERATIONS)
 QUERIES = "show show_agent show_bundle children page authorised trust".split()
-# a key that is refused where another one isn't given
+# a key that is refused if another one is missing
 NEEDS = {"match": "selectors"}
 
 OP = keys("op")

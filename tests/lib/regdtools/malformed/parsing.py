@@ -1,4 +1,4 @@
-"""Which refusal is due to a line, if any? The first one in the stated order, told by the tables alone."""
+"""Which refusal does a line get, if any? The first one in the order of docs/LINES.md, computed from the tables alone."""
 import json
 import math
 
@@ -7,25 +7,25 @@ from .tables import MOST_BYTES, MOST_DEEP, MOST_OPS, MOST_WHOLE
 
 
 class Refused(Exception):
-    """Why a line is refused: its code, and the key and the operation where they are told."""
+    """Why a line is refused: its code, and the key and the operation if the refusal names them."""
 
     def __init__(self, code, field=None, op=None):
         super().__init__(code)
         self.code, self.field, self.op = code, field, op
 
     def line(self, number):
-        """The line that tells it."""
-        told = {"code": self.code, "field": self.field, "line": number, "op": self.op}
-        return compact({key: value for key, value in told.items() if value is not None})
+        """Returns the line that the program prints."""
+        keys = {"code": self.code, "field": self.field, "line": number, "op": self.op}
+        return compact({key: value for key, value in keys.items() if value is not None})
 
 
 def compact(value):
-    """The text of a value as lines are printed."""
+    """Returns the text of a value as the program prints it."""
     return json.dumps(value, separators=(",", ":"), sort_keys=True, ensure_ascii=False)
 
 
 def whole(text):
-    """A number without fraction and exponent: one that is no whole number of these lines is kept as a float."""
+    """Returns a number without fraction and exponent; as a float if it is outside the range of whole numbers."""
     if text.startswith("-") or len(text) > 20 or int(text) > MOST_WHOLE:
         return finite(text)
     return int(text)
@@ -43,7 +43,7 @@ def no_constant(text):
 
 
 def depth(text):
-    """How deep lists and objects lie in each other, as far as brackets tell."""
+    """Returns how deep the brackets outside of strings are nested."""
     deepest = now = 0
     inside = escaped = False
     for letter in text:
@@ -61,13 +61,13 @@ def depth(text):
 
 
 def value_of(data):
-    """The JSON value of a line without its LF."""
+    """Returns the JSON value of a line without its line feed."""
     try:
         text = data.decode("utf-8")
         if max(text.count("["), text.count("{")) > MOST_DEEP // 2 and depth(text) > MOST_DEEP:
             raise ValueError("too deep")
         value = json.loads(text, parse_int=whole, parse_float=finite, parse_constant=no_constant)
-        # half a surrogate pair is no character
+        # half of a surrogate pair is an invalid character
         json.dumps(value, ensure_ascii=False).encode("utf-8")
     except ValueError:
         raise Refused("L2") from None
@@ -75,7 +75,7 @@ def value_of(data):
 
 
 def object_of(line):
-    """The object of a line, its LF included where it has one."""
+    """Returns the object of a line, which ends with a line feed if it has one."""
     data = line.removesuffix(b"\n")
     if len(data) > MOST_BYTES:
         raise Refused("L1")
@@ -88,7 +88,7 @@ def object_of(line):
 
 
 def read_keys(given, keys, op=None, ids_drawn=True):
-    """Looks at the keys of an object in the order of their table."""
+    """Checks the keys of an object in the order of their table."""
     for key in keys:
         absent = given.get(key.name) is None
         if absent and (key.optional or key.drawn and ids_drawn):
@@ -102,14 +102,14 @@ def read_keys(given, keys, op=None, ids_drawn=True):
 
 
 def no_others(given, keys, op=None):
-    """Refuses the least of the keys that aren't known."""
+    """Refuses the smallest unknown key."""
     unknown = set(given) - {key.name for key in keys}
     if unknown:
         raise Refused("L5", min(unknown, key=str.encode), op)
 
 
 def read_ops(batch, ids_drawn):
-    """Looks at the operations of a batch, one after another."""
+    """Checks the operations of a batch, one after another."""
     for index, op in enumerate(batch["ops"]):
         if not isinstance(op, dict):
             raise Refused("L5", "ops", index)
@@ -120,13 +120,13 @@ def read_ops(batch, ids_drawn):
 
 
 def op_codes(op):
-    """What no batch may have in an operation."""
+    """Returns the codes of the values of an operation that no batch may have."""
     values = [(key, op.get(key.name)) for key in tables.OPERATIONS[op["op"]]]
-    return [code for key, value in values if value is not None for code in key.kind.law(value)]
+    return [code for key, value in values if value is not None for code in key.kind.batch_codes(value)]
 
 
 def read_batch(batch):
-    """Looks for what no batch may have."""
+    """Checks what no batch may have."""
     ops = batch["ops"]
     if not ops:
         raise Refused("B1")
@@ -143,7 +143,7 @@ def read_batch(batch):
 
 
 def read_request(line):
-    """The object of a request line."""
+    """Returns the object of a request line."""
     request = object_of(line)
     read_keys(request, tables.REQUEST)
     no_others(request, tables.REQUEST)
@@ -153,7 +153,7 @@ def read_request(line):
 
 
 def read_within(batch, ids_drawn):
-    """Looks at the batch of an event or a record, whose own keys are in order."""
+    """Checks the batch of an event or a record whose own keys are valid."""
     read_keys(batch, tables.BATCH)
     no_others(batch, tables.BATCH)
     read_ops(batch, ids_drawn)
@@ -161,7 +161,7 @@ def read_within(batch, ids_drawn):
 
 
 def read_event(line):
-    """The object of an event line."""
+    """Returns the object of an event line."""
     event = object_of(line)
     read_keys(event, tables.EVENT)
     keys = tables.INVOKE if event["event"] == "invoke" else tables.EVENT
@@ -173,7 +173,7 @@ def read_event(line):
 
 
 def read_record(line):
-    """The object of a record."""
+    """Returns the object of a record."""
     record = object_of(line)
     read_keys(record, tables.RECORD)
     no_others(record, tables.RECORD)

@@ -1,0 +1,218 @@
+"""Draws random schedules, plays them with `regd schedule`, and checks each answer as it arrives.
+
+A schedule is a list of events: `invoke`, `begin`, `step`, `commit` and `reply`, each of one call. The random source decides
+everything that is drawn, so one seed always gives one schedule.
+"""
+
+import collections
+import functools
+import itertools
+import json
+import subprocess
+
+from regdtools.program import program
+
+IN_FLIGHT = 6
+IDS = [f"00000000-0000-0000-0000-{n:012d}" for n in range(10)]
+AGENTS = [f"spiffe://ex.org/spire/agent/n{n}" for n in range(5)]
+PARENTS = AGENTS + [f"spiffe://ex.org/w{n}" for n in range(5)]
+IDENTITIES = [f"spiffe://ex.org/w{n}" for n in range(10)]
+DOMAINS = [f"b{n}.org" for n in range(10)]
+TOKENS = [f"10000000-0000-0000-0000-{n:012d}" for n in range(3)]
+SELECTORS = ["u:1", "u:2", "g:1"]
+WRITES = (
+    "create create create create update update delete prune set_bundle set_bundle set_bundle drop_bundle set_agent set_agent drop_agent"
+).split()
+QUERIES = "show show_agent show_bundle children page page authorised trust".split()
+EVENTS = ["invoke", "begin", "step", "commit", "reply"]
+# the event that the state of a call permits; None is the state before the invoke
+NEXT_EVENT = {None: "invoke", "new": "begin", "running": "step", "ready": "commit", "settled": "reply", "decided": "reply"}
+
+
+class Wrong(Exception):
+    """An answer of the program that is not the expected one."""
+
+
+@functools.cache
+def executable():
+    """Returns the program. A run starts it thousands of times, so this looks for it once."""
+    return program()
+
+
+def text(value):
+    """Returns the compact JSON text of a value."""
+    return json.dumps(value, separators=(",", ":"))
+
+
+# ---- drawing batches
+
+
+def pick(draw, values):
+    """Returns an item of a list, mostly one of the first two, so that calls conflict often."""
+    return draw.choice(values[:2] if draw.random() < 0.7 else values)
+
+
+def selectors(draw):
+    return draw.sample(SELECTORS, draw.randint(1, 2)) if draw.random() < 0.3 else SELECTORS[:1]
+
+
+def entry(draw):
+    """Returns the keys of an entry without its id."""
+    keys = {
+        "parent": pick(draw, PARENTS),
+        "identity": pick(draw, IDENTITIES),
+        "selectors": selectors(draw),
+    }
+    if draw.random() < 0.4:
+        keys["domains"] = sorted({pick(draw, DOMAINS), pick(draw, DOMAINS)})
+    if draw.random() < 0.3:
+        keys["expiry"] = draw.randint(1, 20)
+    return keys
+
+
+def revision(draw):
+    return {"revision": draw.randint(0, 1)} if draw.random() < 0.3 else {}
+
+
+def operation(draw, commits):
+    """Returns an operation of any kind. `commits` is the number of batches committed so far."""
+    id, agent, domain = pick(draw, IDS), pick(draw, AGENTS), pick(draw, DOMAINS)
+    kind = draw.choice(WRITES + QUERIES)
+    keys = {"op": kind}
+    if kind in ("create", "update", "delete", "show"):
+        keys["id"] = id
+    if kind in ("create", "update"):
+        keys.update(entry(draw))
+    if kind in ("update", "delete"):
+        keys.update(revision(draw))
+    if kind == "prune":
+        keys["before"] = draw.randint(1, 20)
+    if kind in ("set_bundle", "drop_bundle", "show_bundle"):
+        keys["domain"] = domain
+    if kind == "set_bundle":
+        keys["text"] = draw.choice(["{}", "[]"])
+    if kind == "drop_bundle":
+        keys["mode"] = draw.choice(["restrict", "delete", "dissociate"])
+    if kind in ("set_agent", "drop_agent", "show_agent", "authorised", "trust"):
+        keys["agent"] = agent
+    if kind == "set_agent":
+        keys["selectors"] = selectors(draw)
+    if kind == "children":
+        keys["parent"] = pick(draw, PARENTS)
+    if kind == "page":
+        keys["size"] = draw.randint(1, 3)
+        if draw.random() < 0.4:
+            keys["at"] = draw.randint(0, commits + 1)
+    return keys
+
+
+def entry_with_bundle(draw):
+    """Returns two operations: one sets a bundle, the other creates an entry that names it."""
+    domain = pick(draw, DOMAINS)
+    bundle = {"op": "set_bundle", "domain": domain, "text": "{}"}
+    return [bundle, {"op": "create", "id": pick(draw, IDS), **entry(draw), "domains": [domain]}]
+
+
+def is_query(operation):
+    return operation["op"] in QUERIES
+
+
+def batch(draw, commits, earlier):
+    """Returns a batch of one to three operations, or repeats one of the `earlier` batches that has a token."""
+    with_tokens = [it for it in earlier if "token" in it]
+    if with_tokens and draw.random() < 0.3:
+        return draw.choice(with_tokens)
+    keys = {"ops": [operation(draw, commits) for _ in range(draw.choice([1, 1, 1, 2, 3]))]}
+    if draw.random() < 0.15:
+        keys["ops"] = entry_with_bundle(draw)
+    if draw.random() < 0.1:
+        keys["after"] = draw.randint(0, commits + 1)
+    if draw.random() < 0.3 and any(not is_query(it) for it in keys["ops"]):
+        keys["token"] = draw.choice(TOKENS)
+    return keys
+
+
+# ---- playing
+
+
+class Schedule:
+    """A run of `regd schedule`, event by event.
+
+    `states` has the state of each call, `batches` its batch, `begun` the commit number that it began at, `decided` the answer to
+    its commit, and `replies` its reply. `invoked` and `replied` are the numbers of those events among the accepted ones. `commits` is
+    the number of committed batches, `counts` how often each result and each code came.
+    """
+
+    def __init__(self):
+        words = [executable(), "schedule", "--domain", "ex.org"]
+        self.process = subprocess.Popen(words, stdin=subprocess.PIPE, stdout=subprocess.PIPE, text=True)
+        self.accepted = 0
+        self.batches, self.states, self.begun, self.decided, self.replies = {}, {}, {}, {}, {}
+        self.invoked, self.replied = {}, {}
+        self.commits = 0
+        self.counts = collections.Counter()
+
+    def play(self, event):
+        """Submits an event, checks its answer and returns it. Raises Wrong if the answer is not the expected one."""
+        self.process.stdin.write(text(event) + "\n")
+        self.process.stdin.flush()
+        line = self.process.stdout.readline()
+        if not line:
+            raise Wrong(f"{event} has no answer")
+        answer = json.loads(line)
+        kind, call = event["event"], event["call"]
+        if "line" in answer:
+            self.counts[answer["code"]] += 1
+            return answer
+        self.accepted += 1
+        if answer["call"] != call:
+            raise Wrong(f"the answer to {event} names another call: {answer}")
+        if kind == "invoke":
+            self.invoked[call], self.batches[call] = self.accepted, event["batch"]
+        if kind == "begin":
+            self.begun[call] = answer["place"]
+        if kind == "commit":
+            self._committed(call, answer)
+        if kind == "reply":
+            self.replied[call], self.replies[call] = self.accepted, answer
+            self.counts[answer["result"]] += 1
+            self.counts[answer.get("code")] += 1
+        self.states[call] = answer.get("state") or {"commit": "decided", "reply": "over"}[kind]
+        return answer
+
+    def _committed(self, call, answer):
+        self.decided[call] = answer
+        if answer["commit"] == "committed":
+            self.commits += 1
+            if answer["place"] != self.commits:
+                raise Wrong(f"expected commit number {self.commits}: {answer}")
+        elif answer["commit"] == "conflict" and self.begun[call] == self.commits:
+            raise Wrong(f"a conflict, but no call committed since this one began: {answer}")
+
+    def end(self):
+        """Ends the input and returns the serial order that the program prints."""
+        rest, _ = self.process.communicate()
+        if self.process.returncode:
+            raise Wrong(f"the program ended with status {self.process.returncode}")
+        return json.loads(rest)["order"]
+
+
+def out_of_turn(draw, run):
+    """Returns an event that its call may not permit."""
+    return {"event": draw.choice(EVENTS), "call": draw.choice([*range(1, 9), 99])}
+
+
+def in_turn(draw, run, in_flight=IN_FLIGHT):
+    """Returns an event that its call permits. At most `in_flight` calls are unfinished at a time."""
+    unfinished = (it for it in itertools.count(1) if run.states.get(it) != "over")
+    call = draw.choice([*itertools.islice(unfinished, in_flight)])
+    return {"event": NEXT_EVENT[run.states.get(call)], "call": call}
+
+
+def draw_events(draw, run, most, in_flight=IN_FLIGHT):
+    """Draws and plays up to `most` events, and at least half as many. Some are out of turn."""
+    for _ in range(draw.randint(most // 2, most)):
+        event = out_of_turn(draw, run) if draw.random() < 0.07 else in_turn(draw, run, in_flight)
+        if event["event"] == "invoke":
+            event["batch"] = batch(draw, run.commits, [*run.batches.values()])
+        run.play(event)
