@@ -1,0 +1,26 @@
+"""The crates of the repository and their mutants."""
+
+from regdtools.program import ROOT
+
+CRATES = ROOT / "crates"
+
+
+def listed():
+    """Returns the libraries that each crate lists in crates.txt, by the crate's name, lowest crate first."""
+    lines = (line.partition("#")[0].partition(":") for line in (ROOT / "crates.txt").read_text().splitlines())
+    return {name.split()[0]: libraries.split() for name, _, libraries in lines if name.strip()}
+
+
+def below(crates):
+    """Returns the crates of the repository that these depend on, lowest first."""
+    libraries, found = listed(), {*crates}
+    for crate in reversed(libraries):
+        if crate in found:
+            found.update(libraries[crate])
+    return [crate for crate in libraries if any(crate in libraries[other] for other in found if other in libraries)]
+
+
+def mutants_of(crate, word=""):
+    """Returns the files of the crate's mutants whose names contain the word: those of must-fail/, then those of edits/."""
+    folders = [CRATES / crate / part for part in ("must-fail", "edits")]
+    return [file for folder in folders for file in sorted(folder.glob("*.edit")) if word in file.stem]
