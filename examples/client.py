@@ -1,10 +1,10 @@
 #!/usr/bin/env python3
-"""A client of `regd serve`, in Python's standard library alone.
+"""A client for `regd serve` that uses Python's standard library only.
 
     examples/client.py HOST:PORT
 
-shows on a server of the trust domain ex.org what a `Client` does. It needs a server with two workers at least, since it keeps
-two connections open at a time, and opens three in all.
+Demonstrates the class `Client` on a server of the trust domain ex.org. The server needs at least two workers, because the demonstration
+keeps two connections open at a time. It opens three in all.
 """
 import json
 import random
@@ -15,12 +15,12 @@ import time
 import uuid
 
 ATTEMPTS = 30
-# want of memory, and a seat that wasn't let in: the same line may be answered otherwise the next time
-PASSING = {"L6", "L8"}
+# out of memory, and a client handle that was not admitted: the same line may succeed the next time
+TRANSIENT = {"L6", "L8"}
 
 
 class Refused(Exception):
-    """What a request was refused for: `code`, with the whole `answer` beside it."""
+    """A refused request: the `code`, and the whole `answer`."""
 
     def __init__(self, answer):
         super().__init__(json.dumps(answer))
@@ -29,11 +29,10 @@ class Refused(Exception):
 
 
 class Client:
-    """A caller of a server, with one connection, which is opened when it is needed and again where it was lost.
+    """One client of a server. It opens its connection when it needs one, and again after the connection is lost.
 
-    `place` is the number of the newest book that the client knows of. Nothing that it asks is answered by an older one, so it
-    reads its own changes, whichever connection made them, and after `follow` those of another client, too. A client is for one
-    thread.
+    `place` is the highest commit number that the client has seen. No answer that it gets is older. So it reads its own writes, on any
+    connection, and after `follow` also those of another client. Use a client from one thread only.
     """
 
     def __init__(self, host, port, timeout=10.0):
@@ -48,30 +47,30 @@ class Client:
         self.close()
 
     def close(self):
-        """Ends the connection, which frees its worker for the next one. The client may be used again."""
+        """Closes the connection, which frees its worker for the next one. The client can be used again."""
         if self.stream:
             self.stream.close()
             self.stream = None
 
     def follow(self, other):
-        """What was answered to the other client up to now is from now on known to this one, too."""
+        """From now on, no answer to this client is older than what the other client has seen."""
         self.place = max(self.place, other.place)
 
     def ask(self, *ops):
-        """The replies to questions, all of one book."""
+        """Returns the replies to read-only operations, all from one book."""
         return self._answer({"ops": ops})
 
     def change(self, *ops, token=None):
-        """Makes changes, all or none of them, exactly once, and answers their replies.
+        """Applies changes exactly once, all or none of them, and returns their replies.
 
-        They carry a token, a new one if none is given, so that the line can be sent again where its answer was lost: if it was
-        committed, it is answered the replies of then. Creates get their ids here for the same reason."""
+        The batch carries a token, a new one by default. So the line can be sent again after its answer was lost: if it was committed, the
+        server returns the original replies. For the same reason each create gets its id here."""
         ops = [{"id": str(uuid.uuid4()), **op} if op["op"] == "create" else op for op in ops]
         return self._answer({"ops": ops, "token": token or str(uuid.uuid4()), "tries": 16})
 
     def edit(self, id, alter):
-        """Updates an entry to what `alter` makes of it, and answers it as it stands then. Where somebody else was faster, `alter`
-        is called again, with what stands there now; so no change of anybody is lost."""
+        """Replaces an entry by `alter(entry)` and returns its new state. If another client was faster, calls `alter` again with the
+        current entry, so that no update is lost."""
         for _ in range(ATTEMPTS):
             [shown] = self.ask({"op": "show", "id": id})
             if shown["entry"] is None:
@@ -85,7 +84,7 @@ class Client:
         raise refused_often(id)
 
     def entries(self, size=100, **filter):
-        """All entries that pass a filter, in the order of ids, as one book has them, whatever is changed meanwhile."""
+        """Yields all entries that pass a filter, in the order of ids, from one book, even if other clients change entries meanwhile."""
         page = {"op": "page", "size": size, **filter}
         [reply] = self.ask(page)
         page["at"] = self.place
@@ -95,7 +94,7 @@ class Client:
             yield from reply["entries"]
 
     def _answer(self, request):
-        """The replies to a request, which is sent until it has an answer that stands."""
+        """Sends a request until its answer is final, and returns the replies."""
         for attempt in range(ATTEMPTS):
             if attempt:
                 time.sleep(random.uniform(0, min(1.0, 0.002 * 2**attempt)))
@@ -110,15 +109,15 @@ class Client:
                 return answer["replies"]
             fault = Refused(answer)
             is_early = answer.get("code") == "W1"
-            if not (is_early or answer.get("result") == "conflict" or answer.get("code") in PASSING):
+            if not (is_early or answer.get("result") == "conflict" or answer.get("code") in TRANSIENT):
                 break
         raise fault
 
     def _exchange(self, request):
-        """One line out and one line in."""
+        """Sends one line and returns the answer to it."""
         if self.stream is None:
             connection = socket.create_connection(self.address, self.timeout)
-            # else a line that follows soon upon another may wait for the server's acknowledgement
+            # otherwise a line sent shortly after another may wait for the acknowledgement of the first
             connection.setsockopt(socket.IPPROTO_TCP, socket.TCP_NODELAY, 1)
             with connection:
                 self.stream = connection.makefile("rwb")
@@ -134,14 +133,14 @@ def refused_often(id):
     return RuntimeError(f"{id} was changed by others {ATTEMPTS} times in a row")
 
 
-# ---- what it does, shown
+# ---- demonstration
 
 AGENT = "spiffe://ex.org/spire/agent/shown"
 WEB, API = "00000000-0000-4000-8000-000000000001", "00000000-0000-4000-8000-000000000002"
 
 
 def one_more(entry):
-    """The entry with a hint that counts one more."""
+    """Returns the entry with the number in its hint increased by one."""
     return {**entry, "hint": str(int(entry["hint"] or 0) + 1)}
 
 
@@ -151,7 +150,7 @@ def count_twenty(client, id):
 
 
 def count_together(first, second, id):
-    """Both count at the same time, each in a thread of its own."""
+    """Lets both clients count at the same time, each in its own thread."""
     other = threading.Thread(target=count_twenty, args=(second, id))
     other.start()
     count_twenty(first, id)
@@ -166,18 +165,18 @@ def main(words):
         api = {"op": "create", "parent": AGENT, "identity": "spiffe://ex.org/api", "selectors": ["unix:uid:1001"]}
         operator.change({**web, "id": WEB}, {**api, "id": API})
 
-        # another connection, another worker: it sees what the operator made
+        # another connection and another worker: the agent sees what the operator committed
         agent.follow(operator)
         [served] = agent.ask({"op": "authorised", "agent": AGENT})
         print("served:", *(entry["identity"] for entry in served["entries"]))
 
-        # the connection is lost before the answer is read, and the line sent again on the next one: it is done once
+        # the connection is lost before the answer is read, and the line is sent again on the next one: it is executed once
         token, bundle = str(uuid.uuid4()), {"op": "set_bundle", "domain": "b.org", "text": "{}"}
         first = operator.change(bundle, token=token)
         operator.close()
         print("sent twice, the same replies:", operator.change(bundle, token=token) == first)
 
-        # two callers that change one entry at the same time, and no change is lost
+        # two clients update one entry at the same time, and no update is lost
         count_together(operator, agent, WEB)
         agent.follow(operator)
         [shown] = agent.ask({"op": "show", "id": WEB})

@@ -28,7 +28,7 @@ impl Head {
         }
     }
 
-    /// Adds the next version, and lets go of the oldest one where there are 64.
+    /// Adds the next version, and drops the oldest one if there are 64.
     fn commit(&mut self, batch: Batch) {
         let newest = self.window.back().expect("a version");
         let next = match &batch {
