@@ -1,4 +1,4 @@
-//! The least that a server of lines can do: it answers each line with the same fixed reply, which it read at the start. For `bench/serve`,
+//! The least that a line-based server can do: it answers each line with the same fixed reply, read at the start. For `bench/serve`,
 //! which measures by it how many requests a second the load generator, loopback and the machine allow any server to answer.
 //!
 //!     rustc --edition 2021 -O bench/peers/fixed_reply.rs && ./fixed_reply < reply

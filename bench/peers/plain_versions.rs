@@ -2,7 +2,7 @@
 //!
 //! A version has four ordered maps, whose rows are in trees of sorted pages. Versions share rows and pages; a page that no
 //! other version shares is changed in place. The command line and the output are those of bench/drivers/versions.rattle, except that
-//! it does not ask what is unchanged, nor for agents, bundles and tokens. If the command line is only a number of entries, it commits as
+//! it neither checks what is unchanged nor reads agents, bundles and tokens. If the command line is only a number of entries, it commits as
 //! bench/drivers/head.rattle does (plain_heads.rs), for `bench/head`.
 
 mod plain_heads;

@@ -140,7 +140,7 @@ class Schedule:
 
     `states` has the state of each call, `batches` its batch, `begun` the commit number that it began at, `decided` the answer to
     its commit, and `replies` its reply. `invoked` and `replied` are the numbers of those events among the accepted ones. `commits` is
-    the number of committed batches, `counts` how often each result and each code came.
+    the number of committed batches, `counts` how often each result and each code occurred.
     """
 
     def __init__(self):
