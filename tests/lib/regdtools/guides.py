@@ -103,7 +103,8 @@ def free_port():
 def run(page_steps):
     """Runs the steps in one bash in a fresh folder. Returns the steps as they were run and their results.
 
-    The folder has the program as `regd`, which is also on PATH, and links to `examples` and `scripts`. A free port replaces 8471.
+    The folder has the program as `regd`, which is also on PATH, and links to all else at the root of the repository. A free port
+    replaces 8471.
     """
     port = free_port()
     played = [Step(step.line, step.commands.replace(PORT, port), step.expected.replace(PORT, port)) for step in page_steps]
@@ -117,8 +118,9 @@ def _results(played, folder):
     for made in (top, bin_folder):
         made.mkdir()
         (made / "regd").symlink_to(program())
-    for linked in ("examples", "scripts"):
-        (top / linked).symlink_to(ROOT / linked)
+    for linked in ROOT.iterdir():
+        if linked.name not in ("regd", "out") and not linked.name.startswith("."):
+            (top / linked.name).symlink_to(linked)
     script = "".join(
         f"exec >'{folder}/{index}' 2>'{folder}/{index}.errors'\n{step.commands}\necho $? >'{folder}/{index}.status'\n"
         for index, step in enumerate(played)
