@@ -1,8 +1,6 @@
 """The crates of the repository and their mutants."""
 
-from regdtools.program import ROOT
-
-CRATES = ROOT / "crates"
+from regdtools.program import CRATES, ROOT
 
 
 def listed():

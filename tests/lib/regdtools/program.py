@@ -5,16 +5,26 @@ The program is the one that the variable REGD names, otherwise the one that scri
 
 import os
 import pathlib
-import subprocess
 import sys
 
 ROOT = pathlib.Path(__file__).resolve().parents[3]
-BUILT = ROOT / "crates/regd/out/regd"
+CRATES = ROOT / "crates"
+BUILT = CRATES / "regd/out/regd"
+
+
+def sources_of(crate):
+    """Returns the sources, definitions and proofs in the folder of a crate."""
+    folders = (crate / part for part in ("src", "specs", "proofs"))
+    return [path for folder in folders for path in sorted(folder.rglob("*")) if path.suffix in (".rt", ".antt")]
 
 
 def is_built():
-    """Returns true if scripts/prove has verified and built the program from the sources as they are."""
-    return subprocess.run([ROOT / "scripts/prove", "--check"]).returncode == 0
+    """Returns true if scripts/prove has built the program from the sources as they are: none of them is newer."""
+    if not os.access(BUILT, os.X_OK):
+        return False
+    built = BUILT.stat().st_mtime_ns
+    files = [ROOT / "crates.txt", *(path for crate in CRATES.iterdir() for path in sources_of(crate))]
+    return all(path.stat().st_mtime_ns <= built for path in files)
 
 
 def program():
