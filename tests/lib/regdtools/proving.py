@@ -152,9 +152,9 @@ def lines_of(process):
         yield line
 
 
-def run(copy, report, anew):
+def run(copy, report, is_again):
     """Runs `rt ci` in the copy and reports each crate. Raises `Failed` unless everything passed."""
-    words = ["rt", "ci", *["--anew"] * anew]
+    words = ["rt", "ci", *["--anew"] * is_again]
     process = subprocess.Popen(
         words, cwd=copy, stdin=subprocess.DEVNULL, stdout=subprocess.PIPE, stderr=subprocess.STDOUT, text=True, errors="replace",
         start_new_session=True,
@@ -176,7 +176,7 @@ def run(copy, report, anew):
         raise Failed("".join(["not everything passed:\n", *printed[-60:]]))
 
 
-def prove(processors, anew, writes):
+def prove(processors, is_again, writes):
     """Proves the crates and puts the program into the checkout. `processors` is the number to use; `writes` is whether to write the times."""
     os.sched_setaffinity(0, sorted(os.sched_getaffinity(0))[: max(1, processors)])
     folder = folder_of_copy()
@@ -190,7 +190,7 @@ def prove(processors, anew, writes):
         report = Report(proofs_of_program(), len(os.sched_getaffinity(0)))
         copy_crates(report.proofs, copy)
         report.say(f"{len(report.proofs)} crates on {report.processors} processors")
-        run(copy, report, anew)
+        run(copy, report, is_again)
         BUILT.parent.mkdir(exist_ok=True)
         shutil.copy2(copy / "crates" / PROGRAM / "out" / PROGRAM, BUILT)
         # as old as the sources that were proved: what changed since is newer
@@ -199,5 +199,5 @@ def prove(processors, anew, writes):
     print(f"{report.seconds() / 60:.1f} min in all")
     if writes:
         rows = [[it.name, f"{it.ended - it.ready:.0f}", it.lines] for it in report.proofs.values() if it.ended is not None]
-        note = f"{report.seconds():.0f} seconds in all on {report.processors} processors{', everything proved again' if anew else ''}"
+        note = f"{report.seconds():.0f} seconds in all on {report.processors} processors{', everything proved again' if is_again else ''}"
         print(f"times: {results.write('prove', COLUMNS, rows, notes=[note])}")
