@@ -1,10 +1,4 @@
-"""Proves and builds the program by `rt ci` over copies of it and of the crates below it.
-
-One `rt ci` proves everything. It divides the processors among the crates that are ready, so a crate on the longest chain gets one of them
-as long as others are ready, although the whole waits for it. So a second one proves the crates of the longest chain, one after another,
-each with as many jobs as a proof can use, and with priority. Where both come to the same crate, the toolchain lets the later one wait and
-take the result.
-"""
+"""Proves and builds the program by `rt ci` over a copy of it and of the crates below it."""
 
 import contextlib
 import dataclasses
@@ -12,6 +6,7 @@ import fcntl
 import hashlib
 import os
 import pathlib
+import queue
 import re
 import shutil
 import signal
@@ -31,8 +26,6 @@ LINES_A_SECOND = 30
 # what `rt ci` prints when a crate is proved, or was stored by an earlier run
 PROVED = re.compile(r"rt: (\w+) (?:proved$|is kept: )")
 SECONDS_BETWEEN_REPORTS = 60
-# how long the run of the longest chain is ahead of the other, so that it comes first to each crate
-SECONDS_AHEAD = 3
 COLUMNS = ["crate", "seconds", "lines"]
 
 
@@ -73,18 +66,8 @@ def proofs_of_program():
     return found
 
 
-def longest_chain(proofs):
-    """Returns the names of the libraries on the longest chain of crates, lowest first."""
-    chain, ready = [], [*proofs.values()]
-    while ready:
-        proof = max(ready, key=lambda it: it.chain)
-        chain.append(proof.name)
-        ready = [it for it in proofs.values() if proof.name in it.uses]
-    return chain[:-1]
-
-
-def folder_of_copies():
-    """Returns the folder for this checkout's copies, which no other user may read."""
+def folder_of_copy():
+    """Returns the folder for this checkout's copy, which no other user may read."""
     cache = pathlib.Path(os.environ.get("XDG_CACHE_HOME") or pathlib.Path.home() / ".cache")
     folder = cache / "regd-prove" / hashlib.sha256(str(ROOT).encode()).hexdigest()[:16]
     folder.mkdir(mode=0o700, parents=True, exist_ok=True)
@@ -112,14 +95,10 @@ class Report:
     """Prints which crates are proved, and an estimate of the time that is left."""
 
     def __init__(self, proofs, processors):
-        self.proofs, self.processors, self.began, self.turn = proofs, processors, time.monotonic(), threading.Lock()
+        self.proofs, self.processors, self.began = proofs, processors, time.monotonic()
 
     def seconds(self):
         return time.monotonic() - self.began
-
-    def ready(self):
-        """Returns the proofs that have not ended although all crates below are proved."""
-        return [it for it in self.proofs.values() if it.ended is None and all(self.proofs[name].ended is not None for name in it.uses)]
 
     def seconds_left(self):
         """Returns an estimate: the time of the longest chain, or of all proofs on all processors."""
@@ -128,125 +107,91 @@ class Report:
         chain = max((proof.chain - done.get(proof.name, 0.0) for proof in rest), default=0.0)
         return max(chain, sum(proof.estimate - done.get(proof.name, 0.0) for proof in rest) / self.processors)
 
+    def ready(self):
+        """Returns the proofs that have not ended although all crates below are proved."""
+        return [it for it in self.proofs.values() if it.ended is None and all(self.proofs[name].ended is not None for name in it.uses)]
+
     def say(self, text):
         seconds, minutes = int(self.seconds()), self.seconds_left() / 60
         left = f"about {minutes:.0f} min left" if minutes >= 1 else "less than a minute left"
         print(f"{seconds // 60:3d}:{seconds % 60:02d}  {text}; {left}", flush=True)
 
     def end(self, name):
-        """Notes that a crate is proved, and prints it when that is first heard."""
-        with self.turn:
-            proof = self.proofs.get(name)
-            if proof is None or proof.ended is not None:
-                return
-            proof.ended = self.seconds()
-            for other in self.ready():
-                if name in other.uses:
-                    other.ready = proof.ended
-            self.say(f"{name} is proved ({proof.ended - proof.ready:.0f} s)")
+        """Notes that a crate is proved."""
+        proof = self.proofs.get(name)
+        if proof is None or proof.ended is not None:
+            return
+        proof.ended = self.seconds()
+        for other in self.ready():
+            if name in other.uses:
+                other.ready = proof.ended
+        self.say(f"{name} is proved ({proof.ended - proof.ready:.0f} s)")
 
     def say_what_is_left(self):
-        with self.turn:
-            names = " ".join(proof.name for proof in self.ready())
-            self.say(f"at work or waiting for a processor: {names}" if names else "building and running the program")
+        names = " ".join(proof.name for proof in self.ready())
+        self.say(f"at work or waiting for a processor: {names}" if names else "building and running the program")
 
 
-# ---- running the toolchain
+def lines_of(process):
+    """Yields the lines that a process prints, and None for each period without one."""
+    lines = queue.Queue()
+
+    def read():
+        for line in process.stdout:
+            lines.put(line)
+        lines.put(False)
+
+    threading.Thread(target=read, daemon=True).start()
+    while True:
+        try:
+            line = lines.get(timeout=SECONDS_BETWEEN_REPORTS)
+        except queue.Empty:
+            line = None
+        if line is False:
+            return
+        yield line
 
 
-class Gate:
-    """A run of `rt ci` in a copy. `nice` is how far it gives way to others."""
-
-    def __init__(self, copy, report, words=(), nice=0):
-        self.report, self.printed = report, []
-        self.process = subprocess.Popen(
-            ["rt", "ci", *words], cwd=copy, stdin=subprocess.DEVNULL, stdout=subprocess.PIPE, stderr=subprocess.STDOUT, text=True,
-            errors="replace", start_new_session=True, preexec_fn=lambda: os.nice(nice),
-        )  # fmt: skip
-
-    def passed(self):
-        """Reports each crate that is proved, and returns whether everything passed."""
-        for line in self.process.stdout:
-            self.printed.append(line)
-            if found := PROVED.match(line):
-                self.report.end(found[1])
-        return self.process.wait() == 0
-
-    def stop(self):
-        with contextlib.suppress(ProcessLookupError):
-            os.killpg(self.process.pid, signal.SIGTERM)
-
-
-class Chain(threading.Thread):
-    """Proves the crates of the longest chain one after another. A crate that is not proved ends it; the other run reports why."""
-
-    def __init__(self, copy, report, names):
-        super().__init__(daemon=True)
-        self.copy, self.report, self.names, self.gate, self.is_over = copy, report, names, None, False
-
-    def run(self):
-        for name in self.names:
-            if self.is_over:
-                return
-            self.gate = Gate(self.copy, self.report, [name])
-            if not self.gate.passed():
-                return
-
-    def stop(self):
-        self.is_over = True
-        if self.gate:
-            self.gate.stop()
-
-
-class Clock(threading.Thread):
-    """Reports once a minute what is left."""
-
-    def __init__(self, report):
-        super().__init__(daemon=True)
-        self.report, self.over = report, threading.Event()
-
-    def run(self):
-        while not self.over.wait(SECONDS_BETWEEN_REPORTS):
-            self.report.say_what_is_left()
-
-
-def run(folder, report):
-    """Proves the crates and builds the program in copies. Returns the path of the program, or raises `Failed`."""
-    copy, other = folder / "copy", folder / "chain"
-    copy_crates(report.proofs, copy)
-    copy_crates(report.proofs, other)
-    clock, chain = Clock(report), Chain(other, report, longest_chain(report.proofs))
-    clock.start()
-    chain.start()
-    time.sleep(SECONDS_AHEAD)
-    gate = Gate(copy, report, nice=5)
+def run(copy, report):
+    """Runs `rt ci` in the copy and reports each crate. Raises `Failed` unless everything passed."""
+    process = subprocess.Popen(
+        ["rt", "ci"], cwd=copy, stdin=subprocess.DEVNULL, stdout=subprocess.PIPE, stderr=subprocess.STDOUT, text=True, errors="replace",
+        start_new_session=True,
+    )  # fmt: skip
+    printed = []
     try:
-        passed = gate.passed()
+        for line in lines_of(process):
+            if line is None:
+                report.say_what_is_left()
+                continue
+            printed.append(line)
+            if found := PROVED.match(line):
+                report.end(found[1])
+        status = process.wait()
     finally:
-        clock.over.set()
-        chain.stop()
-        gate.stop()
-    program = copy / "crates" / PROGRAM / "out" / PROGRAM
-    if not passed or not program.exists():
-        raise Failed("".join(["not everything passed:\n", *gate.printed[-60:]]))
-    return program
+        with contextlib.suppress(ProcessLookupError):
+            os.killpg(process.pid, signal.SIGTERM)
+    if status or not (copy / "crates" / PROGRAM / "out" / PROGRAM).exists():
+        raise Failed("".join(["not everything passed:\n", *printed[-60:]]))
 
 
 def prove(processors, writes):
     """Proves the crates and puts the program into the checkout. `processors` is the number to use; `writes` is whether to write the times."""
     os.sched_setaffinity(0, sorted(os.sched_getaffinity(0))[: max(1, processors)])
-    folder = folder_of_copies()
+    folder = folder_of_copy()
     with open(folder / "lock", "w") as lock:
         try:
             fcntl.flock(lock, fcntl.LOCK_EX | fcntl.LOCK_NB)
         except BlockingIOError:
             print("prove: waiting for another scripts/prove in this checkout", file=sys.stderr)
             fcntl.flock(lock, fcntl.LOCK_EX)
-        begin, report = time.time_ns(), Report(proofs_of_program(), len(os.sched_getaffinity(0)))
+        begin, copy = time.time_ns(), folder / "copy"
+        report = Report(proofs_of_program(), len(os.sched_getaffinity(0)))
+        copy_crates(report.proofs, copy)
         report.say(f"{len(report.proofs)} crates on {report.processors} processors")
-        made = run(folder, report)
+        run(copy, report)
         BUILT.parent.mkdir(exist_ok=True)
-        shutil.copy2(made, BUILT)
+        shutil.copy2(copy / "crates" / PROGRAM / "out" / PROGRAM, BUILT)
         # as old as the sources that were proved: what changed since is newer
         os.utime(BUILT, ns=(begin, begin))
         shutil.rmtree(folder, ignore_errors=True)
