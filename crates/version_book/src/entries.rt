@@ -267,15 +267,28 @@ impl Entries {
     }
 }
 
+/// Copies of both indexes. The error is out of memory.
+fn copies_of(
+    groups: &Shelf<GroupKey, CommittedRow<Entry>>,
+    users: &Shelf<UserKey, CommittedRow<Entry>>,
+) -> Result<
+    (
+        Shelf<GroupKey, CommittedRow<Entry>>,
+        Shelf<UserKey, CommittedRow<Entry>>,
+    ),
+    AllocError,
+>
+    ensures { IfOk result (λ both. (both.0 ≡ groups.now) × (both.1 ≡ users.now)) }
+{
+    both(groups.clone(), users.clone())
+}
+
 impl Clone for Entries {
     ghost is_clone = { λ original copy. copy ≡ original };
 
     fn clone(&self) -> Result<Entries, AllocError> {
-        let indexes = both(
-            both(self.groups.clone(), self.users.clone()),
-            self.expiries.clone(),
-        );
-        let (rows, ((groups, users), expiries)) = both(self.rows.clone(), indexes)?;
+        let (rows, expiries) = both(self.rows.clone(), self.expiries.clone())?;
+        let (groups, users) = copies_of(&self.groups, &self.users)?;
         Ok(Entries {
             rows,
             groups,

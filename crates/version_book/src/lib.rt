@@ -6,7 +6,7 @@
 //! What a reader gets, and what a writer pays. No call copies the text of a row: a copy of a row counts one more owner of
 //! what it is made of. A row stands in a shelf of `version_shelf` for each of its keys, which are its own one and, of an entry,
 //! its parent with its identity, each trust domain that it names, and its expiry, if it has one. A search in a shelf compares at
-//! most 28 keys, and two of them find a range; a change of a shelf makes three of its pages anew, some 90 parts of a shelf of
+//! most 32 keys, and two of them find a range; a change of a shelf makes three of its pages anew, some 90 parts of a shelf of
 //! 16,384 rows, and never more than 1,024.
 //!
 //! | Call | Rows that it looks at | Owners that it counts | Memory |

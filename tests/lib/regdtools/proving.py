@@ -1,4 +1,4 @@
-"""Proves and builds the program by `rt ci` over a copy of it and of the crates below it."""
+"""Proves and builds the program: `rt ci` for each crate, over a copy of the crate and of those below it, several at a time."""
 
 import contextlib
 import dataclasses
@@ -6,13 +6,10 @@ import fcntl
 import hashlib
 import os
 import pathlib
-import queue
-import re
 import shutil
 import signal
 import subprocess
 import sys
-import threading
 import time
 
 from regdtools import crates, results
@@ -21,10 +18,11 @@ from regdtools.program import BUILT, CRATES, ROOT, sources_of
 PROGRAM = "regd"
 # what `rt ci` runs the program on, and what it compares
 STORED_RUN = ["args", "stdin", "stdout", "status"]
-# the lines that a processor proves in a second, for crates of which no time is known
-LINES_A_SECOND = 30
-# what `rt ci` prints when a crate is proved, or was stored by an earlier run
-PROVED = re.compile(r"rt: (\w+) (?:proved$|is kept: )")
+# for crates of which no time is known: the seconds of the smallest proof, and the lines that a processor proves in a second
+LEAST_SECONDS = 40
+LINES_A_SECOND = 20
+# the most memory that the proof of a crate takes, in bytes
+MEMORY_OF_A_PROOF = 5_000_000_000
 SECONDS_BETWEEN_REPORTS = 60
 COLUMNS = ["crate", "seconds", "lines"]
 
@@ -39,11 +37,13 @@ class Proof:
 
     name: str
     uses: list
+    below: list
     lines: int
     estimate: float
     chain: float = 0.0
     ready: float = 0.0
     ended: float | None = None
+    process: subprocess.Popen | None = None
 
 
 def estimate(name, lines):
@@ -51,7 +51,7 @@ def estimate(name, lines):
     try:
         return float(results.latest("prove", {"crate": name})[0]["seconds"])
     except LookupError:
-        return 10 + lines / LINES_A_SECOND
+        return LEAST_SECONDS + lines / LINES_A_SECOND
 
 
 def proofs_of_program():
@@ -59,31 +59,32 @@ def proofs_of_program():
     listed, names, found = crates.listed(), [*crates.below([PROGRAM]), PROGRAM], {}
     for name in names:
         lines = sum(path.read_bytes().count(b"\n") for path in sources_of(CRATES / name))
-        found[name] = Proof(name, [it for it in listed[name] if it in names], lines, estimate(name, lines))
+        uses = [it for it in listed[name] if it in names]
+        found[name] = Proof(name, uses, crates.below([name]), lines, estimate(name, lines))
     for name in reversed(found):
         above = [proof.chain for proof in found.values() if name in proof.uses]
         found[name].chain = found[name].estimate + max(above, default=0.0)
     return found
 
 
-def folder_of_copy():
-    """Returns the folder for this checkout's copy, which no other user may read."""
+def folder_of_copies():
+    """Returns the folder for this checkout's copies, which no other user may read."""
     cache = pathlib.Path(os.environ.get("XDG_CACHE_HOME") or pathlib.Path.home() / ".cache")
     folder = cache / "regd-prove" / hashlib.sha256(str(ROOT).encode()).hexdigest()[:16]
     folder.mkdir(mode=0o700, parents=True, exist_ok=True)
     return folder
 
 
-def copy_crates(names, to):
-    """Copies the named crates without mutants, as a repository of their own."""
+def copy_crates(names, to, top=ROOT):
+    """Copies the named crates of the repository at `top` without mutants, as a repository of their own."""
     shutil.rmtree(to, ignore_errors=True)
     # marks the root of a repository, as `rt ci` expects
     (to / ".git").mkdir(parents=True)
-    shutil.copy2(ROOT / "HANDLES", to)
-    lines = (ROOT / "crates.txt").read_text().splitlines(keepends=True)
+    shutil.copy2(top / "HANDLES", to)
+    lines = (top / "crates.txt").read_text().splitlines(keepends=True)
     (to / "crates.txt").write_text("".join(line for line in lines if line.partition(":")[0] in names))
     for name in names:
-        source = CRATES / name
+        source = top / "crates" / name
         stored = [source / part for part in STORED_RUN if name == PROGRAM and (source / part).exists()]
         for path in [*sources_of(source), *stored]:
             target = to / "crates" / name / path.relative_to(source)
@@ -96,6 +97,7 @@ class Report:
 
     def __init__(self, proofs, processors):
         self.proofs, self.processors, self.began = proofs, processors, time.monotonic()
+        self.said = 0.0
 
     def seconds(self):
         return time.monotonic() - self.began
@@ -103,100 +105,127 @@ class Report:
     def seconds_left(self):
         """Returns an estimate: the time of the longest chain, or of all proofs on all processors."""
         rest = [proof for proof in self.proofs.values() if proof.ended is None]
-        done = {proof.name: min(proof.estimate, self.seconds() - proof.ready) for proof in self.ready()}
+        done = {proof.name: min(proof.estimate, self.seconds() - proof.ready) for proof in rest if proof.process}
         chain = max((proof.chain - done.get(proof.name, 0.0) for proof in rest), default=0.0)
         return max(chain, sum(proof.estimate - done.get(proof.name, 0.0) for proof in rest) / self.processors)
 
-    def ready(self):
-        """Returns the proofs that have not ended although all crates below are proved."""
-        return [it for it in self.proofs.values() if it.ended is None and all(self.proofs[name].ended is not None for name in it.uses)]
-
     def say(self, text):
-        seconds, minutes = int(self.seconds()), self.seconds_left() / 60
+        self.said = self.seconds()
+        minutes = self.seconds_left() / 60
         left = f"about {minutes:.0f} min left" if minutes >= 1 else "less than a minute left"
-        print(f"{seconds // 60:3d}:{seconds % 60:02d}  {text}; {left}", flush=True)
+        print(f"{int(self.said) // 60:3d}:{int(self.said) % 60:02d}  {text}; {left}", flush=True)
 
-    def end(self, name):
-        """Notes that a crate is proved."""
-        proof = self.proofs.get(name)
-        if proof is None or proof.ended is not None:
-            return
-        proof.ended = self.seconds()
+    def say_what_runs(self):
+        """Prints what is being proved, unless something was printed in the last minute."""
+        if self.seconds() - self.said >= SECONDS_BETWEEN_REPORTS:
+            self.say("proving " + " ".join(proof.name for proof in self.proofs.values() if proof.process))
+
+
+class Prover:
+    """Proves crates, each as soon as those below it are proved, the longest chain of crates first."""
+
+    def __init__(self, proofs, folder, report):
+        self.proofs, self.folder, self.report = proofs, folder, report
+        # all runs prove the sources as they are now, whatever becomes of the checkout meanwhile
+        self.sources = folder / "sources"
+        copy_crates(proofs, self.sources)
+        self.processors = sorted(os.sched_getaffinity(0))
+        memory = os.sysconf("SC_PAGE_SIZE") * os.sysconf("SC_PHYS_PAGES")
+        self.most = max(1, min(len(self.processors), memory // MEMORY_OF_A_PROOF))
+
+    def running(self):
+        return [proof for proof in self.proofs.values() if proof.process]
+
+    def ready(self):
+        """Returns the proofs that may start, the one with the longest chain of crates above it first."""
+        found = [it for it in self.proofs.values() if it.ended is None and not it.process and all(self.proofs[name].ended is not None for name in it.uses)]
+        return sorted(found, key=lambda proof: -proof.chain)
+
+    def start(self, proof, is_first):
+        """Starts `rt ci` in a copy. It gives a proof half as many jobs as it may use processors. The crate that the others wait for gets all
+        processors, the others get the second half of them and a lower priority."""
+        copy = self.folder / proof.name
+        copy_crates([*proof.below, proof.name], copy, self.sources)
+        usable = self.processors if is_first else self.processors[len(self.processors) // 2 :]
+        bound = ["taskset", "--cpu-list", ",".join(map(str, usable)), "nice", "-n", "0" if is_first else "10"]
+        with open(self.folder / f"{proof.name}.log", "w") as printed:
+            proof.process = subprocess.Popen(
+                [*bound, "rt", "ci"], cwd=copy, stdin=subprocess.DEVNULL, stdout=printed, stderr=subprocess.STDOUT, start_new_session=True
+            )
+
+    def start_ready(self):
+        """Starts as many proofs as there are processors and memory for."""
+        ready = self.ready()[: self.most - len(self.running())]
+        # with few proofs at a time there are processors for the jobs of each
+        are_few = len(self.running()) + len(ready) <= len(self.processors) // 2
+        longest = max((proof.chain for proof in [*self.running(), *ready]), default=0.0)
+        for proof in ready:
+            self.start(proof, are_few or proof.chain == longest)
+
+    def end(self, proof):
+        """Notes that a proof has ended. Raises `Failed` unless everything passed."""
+        copy, status = self.folder / proof.name, proof.process.wait()
+        proof.process = None
+        if status or proof.name == PROGRAM and not (copy / "crates" / PROGRAM / "out" / PROGRAM).exists():
+            printed = (self.folder / f"{proof.name}.log").read_text(errors="replace").splitlines(keepends=True)
+            raise Failed("".join(["not everything passed:\n", *printed[-60:]]))
+        proof.ended = self.report.seconds()
         for other in self.ready():
-            if name in other.uses:
+            if proof.name in other.uses:
                 other.ready = proof.ended
-        self.say(f"{name} is proved ({proof.ended - proof.ready:.0f} s)")
+        self.report.say(f"{proof.name} is proved ({proof.ended - proof.ready:.0f} s)")
+        if proof.name != PROGRAM:
+            shutil.rmtree(copy, ignore_errors=True)
 
-    def say_what_is_left(self):
-        names = " ".join(proof.name for proof in self.ready())
-        self.say(f"at work or waiting for a processor: {names}" if names else "building and running the program")
-
-
-def lines_of(process):
-    """Yields the lines that a process prints, and None for each period without one."""
-    lines = queue.Queue()
-
-    def read():
-        for line in process.stdout:
-            lines.put(line)
-        lines.put(False)
-
-    threading.Thread(target=read, daemon=True).start()
-    while True:
+    def run(self):
         try:
-            line = lines.get(timeout=SECONDS_BETWEEN_REPORTS)
-        except queue.Empty:
-            line = None
-        if line is False:
-            return
-        yield line
+            while any(proof.ended is None for proof in self.proofs.values()):
+                self.start_ready()
+                for proof in self.running():
+                    if proof.process.poll() is not None:
+                        self.end(proof)
+                self.report.say_what_runs()
+                time.sleep(0.1)
+        finally:
+            for proof in self.running():
+                with contextlib.suppress(ProcessLookupError):
+                    os.killpg(proof.process.pid, signal.SIGTERM)
+            for proof in self.running():
+                proof.process.wait()
 
 
-def run(copy, report):
-    """Runs `rt ci` in the copy and reports each crate. Raises `Failed` unless everything passed."""
-    process = subprocess.Popen(
-        ["rt", "ci"], cwd=copy, stdin=subprocess.DEVNULL, stdout=subprocess.PIPE, stderr=subprocess.STDOUT, text=True, errors="replace",
-        start_new_session=True,
-    )  # fmt: skip
-    printed = []
-    try:
-        for line in lines_of(process):
-            if line is None:
-                report.say_what_is_left()
-                continue
-            printed.append(line)
-            if found := PROVED.match(line):
-                report.end(found[1])
-        status = process.wait()
-    finally:
-        with contextlib.suppress(ProcessLookupError):
-            os.killpg(process.pid, signal.SIGTERM)
-    if status or not (copy / "crates" / PROGRAM / "out" / PROGRAM).exists():
-        raise Failed("".join(["not everything passed:\n", *printed[-60:]]))
-
-
-def prove(processors, writes):
-    """Proves the crates and puts the program into the checkout. `processors` is the number to use; `writes` is whether to write the times."""
-    os.sched_setaffinity(0, sorted(os.sched_getaffinity(0))[: max(1, processors)])
-    folder = folder_of_copy()
+@contextlib.contextmanager
+def locked(folder):
+    """Has one call at a time use the folder, which is empty for it and is removed at the end, however the call ends."""
     with open(folder / "lock", "w") as lock:
         try:
             fcntl.flock(lock, fcntl.LOCK_EX | fcntl.LOCK_NB)
         except BlockingIOError:
             print("prove: waiting for another scripts/prove in this checkout", file=sys.stderr)
             fcntl.flock(lock, fcntl.LOCK_EX)
-        begin, copy = time.time_ns(), folder / "copy"
+        for left in [path for path in folder.iterdir() if path.is_dir()]:
+            shutil.rmtree(left, ignore_errors=True)
+        try:
+            yield
+        finally:
+            shutil.rmtree(folder, ignore_errors=True)
+
+
+def prove(processors, writes):
+    """Proves the crates and puts the program into the checkout. `processors` is the number to use; `writes` is whether to write the times."""
+    os.sched_setaffinity(0, sorted(os.sched_getaffinity(0))[: max(1, processors)])
+    folder = folder_of_copies()
+    with locked(folder):
+        begin = time.time_ns()
         report = Report(proofs_of_program(), len(os.sched_getaffinity(0)))
-        copy_crates(report.proofs, copy)
         report.say(f"{len(report.proofs)} crates on {report.processors} processors")
-        run(copy, report)
+        Prover(report.proofs, folder, report).run()
         BUILT.parent.mkdir(exist_ok=True)
-        shutil.copy2(copy / "crates" / PROGRAM / "out" / PROGRAM, BUILT)
+        shutil.copy2(folder / PROGRAM / "crates" / PROGRAM / "out" / PROGRAM, BUILT)
         # as old as the sources that were proved: what changed since is newer
         os.utime(BUILT, ns=(begin, begin))
-        shutil.rmtree(folder, ignore_errors=True)
     print(f"{report.seconds() / 60:.1f} min in all")
     if writes:
-        rows = [[it.name, f"{it.ended - it.ready:.0f}", it.lines] for it in report.proofs.values() if it.ended is not None]
+        rows = [[it.name, f"{it.ended - it.ready:.0f}", it.lines] for it in report.proofs.values()]
         note = f"{report.seconds():.0f} seconds in all on {report.processors} processors"
         print(f"times: {results.write('prove', COLUMNS, rows, notes=[note])}")
