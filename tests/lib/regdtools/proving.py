@@ -129,9 +129,9 @@ class Prover:
         # all runs prove the sources as they are now, whatever becomes of the checkout meanwhile
         self.sources = folder / "sources"
         copy_crates(proofs, self.sources)
-        self.processors = sorted(os.sched_getaffinity(0))
         memory = os.sysconf("SC_PAGE_SIZE") * os.sysconf("SC_PHYS_PAGES")
-        self.most = max(1, min(len(self.processors), memory // MEMORY_OF_A_PROOF))
+        # how many proofs run at a time
+        self.most = max(1, min(report.processors, memory // MEMORY_OF_A_PROOF))
 
     def running(self):
         return [proof for proof in self.proofs.values() if proof.process]
@@ -142,22 +142,21 @@ class Prover:
         return sorted(found, key=lambda proof: -proof.chain)
 
     def start(self, proof, is_first):
-        """Starts `rt ci` in a copy. It gives a proof half as many jobs as it may use processors. The crate that the others wait for gets all
-        processors, the others get the second half of them and a lower priority."""
+        """Starts `rt ci` in a copy. By itself it gives a proof half as many jobs as there are processors; RT_JOBS limits it to one."""
         copy = self.folder / proof.name
         copy_crates([*proof.below, proof.name], copy, self.sources)
-        usable = self.processors if is_first else self.processors[len(self.processors) // 2 :]
-        bound = ["taskset", "--cpu-list", ",".join(map(str, usable)), "nice", "-n", "0" if is_first else "10"]
+        variables = {} if is_first else {"RT_JOBS": "1"}
         with open(self.folder / f"{proof.name}.log", "w") as printed:
             proof.process = subprocess.Popen(
-                [*bound, "rt", "ci"], cwd=copy, stdin=subprocess.DEVNULL, stdout=printed, stderr=subprocess.STDOUT, start_new_session=True
-            )
+                ["nice", "-n", "0" if is_first else "10", "rt", "ci"], cwd=copy, env={**os.environ, **variables}, stdin=subprocess.DEVNULL,
+                stdout=printed, stderr=subprocess.STDOUT, start_new_session=True,
+            )  # fmt: skip
 
     def start_ready(self):
-        """Starts as many proofs as there are processors and memory for."""
+        """Starts as many proofs as there are processors and memory for. The one that the others wait for gets several jobs, and the others
+        one job each and a lower priority, unless they are few."""
         ready = self.ready()[: self.most - len(self.running())]
-        # with few proofs at a time there are processors for the jobs of each
-        are_few = len(self.running()) + len(ready) <= len(self.processors) // 2
+        are_few = len(self.running()) + len(ready) <= self.report.processors // 2
         longest = max((proof.chain for proof in [*self.running(), *ready]), default=0.0)
         for proof in ready:
             self.start(proof, are_few or proof.chain == longest)
