@@ -25,8 +25,8 @@ use Rattle.command_line.specs.CommandLine.{AsksServer, AsksWell, IsFaultOf, IsSe
 use Rattle.command_line.specs.declared.program.Program.{Program}
 use Rattle.command_line.specs.declared.program.Program.TheVariants.{Serve}
 use Rattle.command_line.specs.declared.settings.ServerPlan.{ServerPlan}
-use Rattle.command_line.specs.declared.fault.CommandLineFault.{CommandLineFault}
-use Rattle.command_line.specs.declared.fault.CommandLineFault.TheVariants.{Address, Domain, NoMemory, NotText, Number, Refused, Seed}
+use Rattle.command_line.specs.declared.fault.LineFault.{LineFault}
+use Rattle.command_line.specs.declared.fault.LineFault.TheVariants.{Address, Domain, NoMemory, NotText, Number, Refused, Seed}
 use Rattle.command_line.specs.Conversions.{fault_of_domain, fault_of_kind, fault_of_refusal}
 
 -- the parser's account holds of the program
@@ -130,7 +130,7 @@ pub server-parse : (app : App) (words : List Text) (m : ArgMatches) (program : P
     → AsksServer (subcommand_rows_of m) program server → AsksServer (subcommand_of regd_command words) program server
 server-parse app words m program server is has asks = subst (λ met. AsksServer met program server) (met-parse app words m is has) asks
 
-server_fault : (words : List Text) (program : Program) (fault : CommandLineFault) → AsksWell words → IsServerFault (subcommand_of regd_command words) program fault → IsFaultOf words fault
+server_fault : (words : List Text) (program : Program) (fault : LineFault) → AsksWell words → IsServerFault (subcommand_of regd_command words) program fault → IsFaultOf words fault
 server_fault words program Address well is = (well, is.1)
 server_fault words program Number well is = (well, is.1)
 server_fault words program Seed well is = absurd is
@@ -139,7 +139,7 @@ server_fault words program NoMemory well is = absurd is
 server_fault words program (Refused error) well is = absurd is
 server_fault words program (Domain refusal) well is = absurd is
 
-asks_server : (met : Option (Text × List Row)) (program : Program) (fault : CommandLineFault) → IsServerFault met program fault → program ≡ Serve
+asks_server : (met : Option (Text × List Row)) (program : Program) (fault : LineFault) → IsServerFault met program fault → program ≡ Serve
 asks_server met program Address is = is.0
 asks_server met program Number is = is.0
 asks_server met program Seed is = absurd is
@@ -149,7 +149,7 @@ asks_server met program (Refused error) is = absurd is
 asks_server met program (Domain refusal) is = absurd is
 
 -- what a server is asked for is refused, of words that were taken, whose domain is one, and whose seed
-pub IsFaultOf-server : (app : App) (words : List Text) (m : ArgMatches) (program : Program) (fault : CommandLineFault) (domain seed : Text) → app ≡ regd_command → HasMatchesOf app words m
+pub IsFaultOf-server : (app : App) (words : List Text) (m : ArgMatches) (program : Program) (fault : LineFault) (domain seed : Text) → app ≡ regd_command → HasMatchesOf app words m
     → line_faults words ≡ [] → program ≡ program_in (subcommand_rows_of m) → domain ≡ unwrap_or (domain_word words) [] → domain_refusal domain ≡ None → seed ≡ seed_text words → (TellsNoSeed seed → ⊥)
     → IsServerFault (subcommand_rows_of m) program fault → IsFaultOf words fault
 IsFaultOf-server app words m program fault domain seed is has taken e d fine s told fails =

@@ -14,8 +14,8 @@ use Rattle.spiffe_name.specs.Domain.{domain_refusal}
 use Rattle.command_line.specs.declared.program.Program.{Program}
 use Rattle.command_line.specs.declared.program.Program.TheVariants.{Audit, Plain, Record, Schedule, Serve}
 use Rattle.command_line.specs.declared.settings.ServerPlan.{ServerPlan}
-use Rattle.command_line.specs.declared.fault.CommandLineFault.{CommandLineFault}
-use Rattle.command_line.specs.declared.fault.CommandLineFault.TheVariants.{Refused, Domain, Seed, Address, Number, NotText, NoMemory}
+use Rattle.command_line.specs.declared.fault.LineFault.{LineFault}
+use Rattle.command_line.specs.declared.fault.LineFault.TheVariants.{Refused, Domain, Seed, Address, Number, NotText, NoMemory}
 
 -- ---- the program, as it is told to the parser
 
@@ -189,7 +189,7 @@ TellsNoNumbers met = ((n : ℕ) → TellsNumber most_workers (server_word (codes
 -- ---- the faults of a command line
 
 -- what a server is asked for is refused so
-abbrev pub IsServerFault : Option (Text × List Row) → Program → CommandLineFault → Type 0
+abbrev pub IsServerFault : Option (Text × List Row) → Program → LineFault → Type 0
 IsServerFault met program Address = (program ≡ Serve) × TellsNoAddress (server_word (codes "listen") met)
 IsServerFault met program Number = (program ≡ Serve) × TellsNoNumbers met
 IsServerFault met program fault = ⊥
@@ -204,7 +204,7 @@ pub record AsksWell (words : List Text) : Type 0 where
 -- the words have this fault: the parser refuses them; or it takes them, and the domain that they give (the empty text,
 -- where they give none) is no trust domain; or it is one, and the text that tells the seed tells none; or it tells one, and the words
 -- ask for a server with no address, or with one and another number than it may have
-abbrev pub IsFaultOf : List Text → CommandLineFault → Type 0
+abbrev pub IsFaultOf : List Text → LineFault → Type 0
 IsFaultOf words (Refused error) = IsAmong (kind_of error) (line_faults words)
 IsFaultOf words (Domain refusal) =
     (line_faults words ≡ []) × (domain_refusal (unwrap_or (domain_word words) []) ≡ Some refusal)

@@ -6,18 +6,18 @@ use Rattle.clap.specs.declared.error.kind.ErrorKind.TheVariants as kind
 use Rattle.spiffe_name.specs.declared.refusals.IdRefusal.{IdRefusal}
 use Rattle.spiffe_name.specs.declared.refusals.Failure.{Failure}
 use Rattle.spiffe_name.specs.declared.refusals.Failure.TheVariants as name
-use Rattle.command_line.specs.declared.fault.CommandLineFault.{CommandLineFault}
-use Rattle.command_line.specs.declared.fault.CommandLineFault.TheVariants.{Domain, NoMemory, Refused}
+use Rattle.command_line.specs.declared.fault.LineFault.{LineFault}
+use Rattle.command_line.specs.declared.fault.LineFault.TheVariants.{Domain, NoMemory, Refused}
 
-abbrev pub fault_of_kind : ErrorKind → Error → CommandLineFault
+abbrev pub fault_of_kind : ErrorKind → Error → LineFault
 fault_of_kind kind.OutOfMemory error = NoMemory
 fault_of_kind _ error = Refused error
 
 -- the parser's refusal of the words: want of memory is no fault of theirs
-abbrev pub fault_of_refusal : Error → CommandLineFault
+abbrev pub fault_of_refusal : Error → LineFault
 fault_of_refusal error = fault_of_kind (kind_of error) error
 
 -- the refusal of the text that was given as the domain
-abbrev pub fault_of_domain : Failure IdRefusal → CommandLineFault
+abbrev pub fault_of_domain : Failure IdRefusal → LineFault
 fault_of_domain name.NoMemory = NoMemory
 fault_of_domain (name.Refused refusal) = Domain refusal

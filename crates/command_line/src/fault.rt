@@ -1,58 +1,66 @@
-//! Why is a command line none?
+//! Why is a command line invalid?
 
 ghost use Rattle.std.specs.Prelude.{◌≡◌};
 ghost use Rattle.command_line.specs.Conversions.{fault_of_domain, fault_of_refusal};
-ghost use Rattle.command_line.specs.declared.fault.CommandLineFault.TheVariants.{NoMemory};
+ghost use Rattle.command_line.specs.declared.fault.LineFault.TheVariants.{NoMemory};
 
 use clap::error::ErrorKind;
 use spiffe_name::{Failure, IdRefusal};
 use std::alloc::AllocError;
+use thiserror::Error;
 
-/// Why a command line is none.
-#[derive(Debug, Drop)]
-pub enum CommandLineFault {
-    /// The command-line parser refuses the words, or they ask for help.
+/// Why a command line is invalid.
+#[derive(Debug, Drop, Error)]
+pub enum LineFault {
+    /// The command-line parser refuses the words, or they ask for help. The text is the parser's.
+    #[error(transparent)]
     Refused(clap::Error),
-    /// The domain isn't one, for this reason.
+    /// The value of `--domain` is not a trust domain, for this reason.
+    #[error("domain {}", .0.code())]
     Domain(IdRefusal),
-    /// The seed isn't 64 lower-case hexadecimal digits.
+    /// The value of `--seed` isn't 64 lower-case hexadecimal digits.
+    #[error("seed")]
     Seed,
-    /// Where to listen isn't an IPv4 address with a port.
+    /// The value of `--listen` isn't an IPv4 address with a port.
+    #[error("listen")]
     Address,
-    /// A number isn't one of those that it may be. The command-line parser refuses it first.
+    /// A number is out of its range. The command-line parser refuses it first.
+    #[error("number")]
     Number,
-    /// A word isn't text.
+    /// A word isn't UTF-8.
+    #[error("a word isn't UTF-8")]
     NotText,
-    /// Memory was wanting.
+    /// An allocation failed.
+    #[error("out of memory")]
     NoMemory,
 }
 
-impl From<AllocError> for CommandLineFault {
+impl From<AllocError> for LineFault {
     ghost from_gives = { λ _ fault. fault ≡ NoMemory };
 
-    fn from(_: AllocError) -> CommandLineFault {
-        CommandLineFault::NoMemory
+    fn from(_: AllocError) -> LineFault {
+        LineFault::NoMemory
     }
 }
 
-impl From<clap::Error> for CommandLineFault {
+impl From<clap::Error> for LineFault {
     ghost from_gives = { λ error fault. fault ≡ fault_of_refusal error };
 
-    fn from(error: clap::Error) -> CommandLineFault {
+    fn from(error: clap::Error) -> LineFault {
         match error.kind() {
-            ErrorKind::OutOfMemory => CommandLineFault::NoMemory,
-            _ => CommandLineFault::Refused(error),
+            ErrorKind::OutOfMemory => LineFault::NoMemory,
+            _ => LineFault::Refused(error),
         }
     }
 }
 
-impl From<Failure<IdRefusal>> for CommandLineFault {
+impl From<Failure<IdRefusal>> for LineFault {
     ghost from_gives = { λ failure fault. fault ≡ fault_of_domain failure };
 
-    fn from(failure: Failure<IdRefusal>) -> CommandLineFault {
+    fn from(failure: Failure<IdRefusal>) -> LineFault {
         match failure {
-            Failure::NoMemory => CommandLineFault::NoMemory,
-            Failure::Refused(refusal) => CommandLineFault::Domain(refusal),
+            Failure::NoMemory => LineFault::NoMemory,
+            Failure::Refused(refusal) => LineFault::Domain(refusal),
         }
     }
 }

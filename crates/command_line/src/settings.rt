@@ -1,6 +1,6 @@
 //! What does a command line ask for?
 
-use crate::fault::CommandLineFault;
+use crate::fault::LineFault;
 use crate::program::Program;
 use crate::seed::{FIRST_SEED, seed_of};
 use clap::{Arg, ArgAction, ArgMatches, Command};
@@ -50,7 +50,7 @@ impl Settings {
     /// Reads a command line, the program's own name first: all words by the command-line parser, then the domain, then the
     /// seed, which is 64 zeros where none is given, and then where a server listens. The error is the first fault, or want of
     /// memory; a request for help is a refusal, too, with the help as its text.
-    pub fn from_words(alloc: Global, words: &[&str]) -> Result<Settings, CommandLineFault>
+    pub fn from_words(alloc: Global, words: &[&str]) -> Result<Settings, LineFault>
         ensures taken { IfOk result (λ _. line_faults (texts words.now) ≡ []) }
         ensures program { IfOk result (λ settings. settings.program ≡ program_asked (texts words.now)) }
         ensures domain { IfOk result (λ settings. domain_word (texts words.now) ≡ Some settings.domain) }
@@ -64,7 +64,7 @@ impl Settings {
         let domain = TrustDomain::parse(alloc, word)?;
         let text = option_word(&matches, program.name(), "seed").unwrap_or(FIRST_SEED);
         let Some(seed) = seed_of(text) else {
-            return Err(CommandLineFault::Seed);
+            return Err(LineFault::Seed);
         };
         let server = server_of(&matches, program)?;
         Ok(Settings {
@@ -282,10 +282,7 @@ fn program_of(matches: &ArgMatches<'_>) -> Program
 }
 
 /// What the words ask of a server, where they ask for one.
-fn server_of(
-    matches: &ArgMatches<'_>,
-    program: Program,
-) -> Result<Option<ServerPlan>, CommandLineFault>
+fn server_of(matches: &ArgMatches<'_>, program: Program) -> Result<Option<ServerPlan>, LineFault>
     ensures server { IfOk result (AsksServer (subcommand_rows_of matches.now) program) }
     ensures has { IfOk result (HasServer program) }
     ensures fault { IfErr result (IsServerFault (subcommand_rows_of matches.now) program) }
@@ -297,18 +294,18 @@ fn server_of(
 }
 
 /// The address and the numbers that the words give to a server.
-fn plan_of(matches: &ArgMatches<'_>) -> Result<ServerPlan, CommandLineFault>
+fn plan_of(matches: &ArgMatches<'_>) -> Result<ServerPlan, LineFault>
     ensures server { IfOk result (TellsServer (subcommand_rows_of matches.now)) }
     ensures fault { IfErr result (IsServerFault (subcommand_rows_of matches.now) Program.Serve) }
 {
     let Ok(listen) = server_word(matches, "listen").parse() else {
-        return Err(CommandLineFault::Address);
+        return Err(LineFault::Address);
     };
     let Some(workers) = number_of(server_word(matches, "workers"), 32) else {
-        return Err(CommandLineFault::Number);
+        return Err(LineFault::Number);
     };
     let Some(connections) = number_of(server_word(matches, "connections"), 65535) else {
-        return Err(CommandLineFault::Number);
+        return Err(LineFault::Number);
     };
     Ok(ServerPlan {
         listen,

@@ -3,15 +3,19 @@
 ghost use Rattle.std.specs.Prelude.{◌≡◌};
 
 use std::alloc::AllocError;
+use thiserror::Error;
 
 /// Why a run stopped.
-#[derive(Clone, Copy, Debug, PartialEq, Eq, Drop)]
+#[derive(Clone, Copy, Debug, PartialEq, Eq, Drop, Error)]
 pub enum RunFault {
     /// A read of the input failed.
+    #[error("input failed")]
     Input,
     /// A write of the output failed, or a flush.
+    #[error("output failed")]
     Output,
-    /// Memory was wanting before the first line was read, or for the text behind the last reply.
+    /// An allocation failed before the first line was read, or for the text behind the last reply.
+    #[error("out of memory")]
     NoMemory,
 }
 

@@ -7,8 +7,8 @@ use Rattle.line_engines.specs.declared.fault.RunFault.{RunFault}
 use Rattle.line_engines.specs.declared.fault.RunFault.TheVariants as run
 use Rattle.reg_programs.specs.declared.serve_fault.ServeFault.{ServeFault}
 use Rattle.reg_programs.specs.declared.serve_fault.ServeFault.TheVariants as serve
-use Rattle.command_line.specs.declared.fault.CommandLineFault.{CommandLineFault}
-use Rattle.command_line.specs.declared.fault.CommandLineFault.TheVariants as line
+use Rattle.command_line.specs.declared.fault.LineFault.{LineFault}
+use Rattle.command_line.specs.declared.fault.LineFault.TheVariants as line
 use Rattle.line_engines.specs.declared.outcome.Outcome.{Outcome}
 use Rattle.line_engines.specs.declared.outcome.Outcome.TheVariants.{Denied, Done}
 use Rattle.reg_programs.specs.declared.told.Told.{Told}
@@ -46,7 +46,7 @@ ended_by_run (Err run.Output) = with 1 told.Output
 ended_by_run (Err run.NoMemory) = with 1 told.NoMemory
 
 -- the end for a command line that is none
-abbrev pub ended_by_line : CommandLineFault → Ended
+abbrev pub ended_by_line : LineFault → Ended
 ended_by_line (line.Refused error) = with 2 (told.Parser error)
 ended_by_line (line.Domain refusal) = with 2 (told.Domain refusal)
 ended_by_line line.Seed = with 2 told.Seed
@@ -56,7 +56,7 @@ ended_by_line line.NotText = with 2 told.NotText
 ended_by_line line.NoMemory = with 1 told.NoMemory
 
 -- the end, by what the command line and then the run answered
-abbrev pub ended_of : Result (Result Outcome RunFault) CommandLineFault → Ended
+abbrev pub ended_of : Result (Result Outcome RunFault) LineFault → Ended
 ended_of (Ok answered) = ended_by_run answered
 ended_of (Err fault) = ended_by_line fault
 

@@ -5,7 +5,7 @@ ghost use Rattle.reg_programs.specs.Ends.{ended_of, ended_of_server};
 
 use crate::serve_fault::ServeFault;
 use crate::told::Told;
-use command_line::CommandLineFault;
+use command_line::LineFault;
 use line_engines::{Outcome, RunFault};
 
 /// The end of a run, as the caller gets to know it.
@@ -20,7 +20,7 @@ pub struct Ended {
 
 impl Ended {
     /// The end, by why the command line is none, or else by what the run of its settings answered.
-    pub fn of(answered: Result<Result<Outcome, RunFault>, CommandLineFault>) -> Ended
+    pub fn of(answered: Result<Result<Outcome, RunFault>, LineFault>) -> Ended
         ensures { result ≡ ended_of answered }
     {
         match answered {
@@ -28,16 +28,16 @@ impl Ended {
             Ok(Ok(Outcome::Denied)) => Ended::with(3, Told::Nothing),
             Ok(Err(RunFault::Input)) => Ended::with(1, Told::Input),
             Ok(Err(RunFault::Output)) => Ended::with(1, Told::Output),
-            Ok(Err(RunFault::NoMemory)) | Err(CommandLineFault::NoMemory) => Ended::with(
+            Ok(Err(RunFault::NoMemory)) | Err(LineFault::NoMemory) => Ended::with(
                 1,
                 Told::NoMemory,
             ),
-            Err(CommandLineFault::Refused(error)) => Ended::with(2, Told::Parser(error)),
-            Err(CommandLineFault::Domain(refusal)) => Ended::with(2, Told::Domain(refusal)),
-            Err(CommandLineFault::Seed) => Ended::with(2, Told::Seed),
-            Err(CommandLineFault::Address) => Ended::with(2, Told::Address),
-            Err(CommandLineFault::Number) => Ended::with(2, Told::Number),
-            Err(CommandLineFault::NotText) => Ended::with(2, Told::NotText),
+            Err(LineFault::Refused(error)) => Ended::with(2, Told::Parser(error)),
+            Err(LineFault::Domain(refusal)) => Ended::with(2, Told::Domain(refusal)),
+            Err(LineFault::Seed) => Ended::with(2, Told::Seed),
+            Err(LineFault::Address) => Ended::with(2, Told::Address),
+            Err(LineFault::Number) => Ended::with(2, Told::Number),
+            Err(LineFault::NotText) => Ended::with(2, Told::NotText),
         }
     }
 

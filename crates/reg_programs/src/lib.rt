@@ -21,7 +21,7 @@ mod server;
 mod session_engine;
 mod told;
 
-pub use command_line::{CommandLineFault, Program, ServerPlan, Settings, a_line_gives_its_domain};
+pub use command_line::{LineFault, Program, ServerPlan, Settings, a_line_gives_its_domain};
 pub use ended::Ended;
 pub use line_engines::{
     Answerer, Outcome, RunFault, audit, plain, record_schedule, recorded_runs_are_confirmed,

@@ -3,19 +3,25 @@
 ghost use Rattle.std.specs.Prelude.{◌≡◌};
 
 use std::alloc::AllocError;
+use thiserror::Error;
 
 /// Why a server ended before its last connection did.
-#[derive(Clone, Copy, Debug, PartialEq, Eq, Drop)]
+#[derive(Clone, Copy, Debug, PartialEq, Eq, Drop, Error)]
 pub enum ServeFault {
     /// It can't listen at the address.
+    #[error("listen failed")]
     Listen,
     /// A write of the address that it got failed.
+    #[error("output failed")]
     Output,
     /// No connection can be accepted any more.
+    #[error("accept failed")]
     Accept,
     /// A worker got no seat.
+    #[error("no seat")]
     NoSeat,
-    /// Memory was wanting before the first connection was accepted, or a thread for a worker.
+    /// An allocation failed before the first connection was accepted, or a worker's thread couldn't be started.
+    #[error("out of memory")]
     NoMemory,
 }
 

@@ -2,7 +2,7 @@
 
 use crate::wanted::{holds, is_text};
 use reg_programs::{
-    CommandLineFault, Ended, Outcome, Program, RunFault, ServeFault, ServerPlan, Settings,
+    Ended, LineFault, Outcome, Program, RunFault, ServeFault, ServerPlan, Settings,
     a_line_gives_its_domain,
 };
 use spiffe_name::IdRefusal;
@@ -61,7 +61,7 @@ fn settings_text(alloc: Global, settings: &Settings) -> Result<String, Fail> {
 fn told(alloc: Global, words: &[&str]) -> Result<String, Fail> {
     match Settings::from_words(alloc, words) {
         Ok(settings) => settings_text(alloc, &settings),
-        Err(CommandLineFault::NoMemory) => Err(Fail::from("no memory")),
+        Err(LineFault::NoMemory) => Err(Fail::from("no memory")),
         Err(fault) => told_of(alloc, Ended::of(Err(fault))),
     }
 }
@@ -204,11 +204,11 @@ fn end(word: &str) -> Result<Ended, Fail> {
         "input" => Ok(Ended::of(Ok(Err(RunFault::Input)))),
         "output" => Ok(Ended::of(Ok(Err(RunFault::Output)))),
         "memory" => Ok(Ended::of(Ok(Err(RunFault::NoMemory)))),
-        "domain" => Ok(Ended::of(Err(CommandLineFault::Domain(IdRefusal::DomainTooLong)))),
-        "seed" => Ok(Ended::of(Err(CommandLineFault::Seed))),
-        "address" => Ok(Ended::of(Err(CommandLineFault::Address))),
-        "not-text" => Ok(Ended::of(Err(CommandLineFault::NotText))),
-        "line-memory" => Ok(Ended::of(Err(CommandLineFault::NoMemory))),
+        "domain" => Ok(Ended::of(Err(LineFault::Domain(IdRefusal::DomainTooLong)))),
+        "seed" => Ok(Ended::of(Err(LineFault::Seed))),
+        "address" => Ok(Ended::of(Err(LineFault::Address))),
+        "not-text" => Ok(Ended::of(Err(LineFault::NotText))),
+        "line-memory" => Ok(Ended::of(Err(LineFault::NoMemory))),
         _ => end_of_server(word),
     }
 }

@@ -8,8 +8,7 @@ ghost use Rattle.std.specs.Prelude.{◌≡◌, ◌<◌, None};
 
 use reg_lines::{CountedDevice, Input, Output};
 use reg_programs::{
-    CommandLineFault, Ended, Outcome, RunFault, ServeFault, ServerPlan, Settings, run_settings,
-    serve,
+    Ended, LineFault, Outcome, RunFault, ServeFault, ServerPlan, Settings, run_settings, serve,
 };
 use shared_registry::Opened;
 use std::marker::Brand;
@@ -67,17 +66,17 @@ fn serve_settings<
 }
 
 /// The settings that the words of the process ask for.
-fn settings_of_process<R: Env + AllocGlobal>(rt: &R) -> Result<Settings, CommandLineFault> {
+fn settings_of_process<R: Env + AllocGlobal>(rt: &R) -> Result<Settings, LineFault> {
     let words = words_of_process(rt)?;
     let texts: Vec<&str> = words.iter().map(String::as_str).collect(rt.alloc())?;
     Settings::from_words(rt.alloc(), &texts)
 }
 
 /// The words of the process, its own name first.
-fn words_of_process<R: Env + AllocGlobal>(rt: &R) -> Result<Vec<String>, CommandLineFault> {
+fn words_of_process<R: Env + AllocGlobal>(rt: &R) -> Result<Vec<String>, LineFault> {
     match env::args(rt) {
         Ok(words) => Ok(words.collect(rt.alloc())?),
-        Err(error) if error.kind() == io::ErrorKind::OutOfMemory => Err(CommandLineFault::NoMemory),
-        Err(_) => Err(CommandLineFault::NotText),
+        Err(error) if error.kind() == io::ErrorKind::OutOfMemory => Err(LineFault::NoMemory),
+        Err(_) => Err(LineFault::NotText),
     }
 }
