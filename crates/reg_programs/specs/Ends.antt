@@ -3,6 +3,7 @@ use Rattle.std.specs.Prelude.{codes, ℕ, ◌++◌, List, [], ◌∷◌, Option,
 use Rattle.clap.specs.declared.error.Error.{Error}
 use Rattle.spiffe_name.specs.Codes.{id_code}
 use Rattle.reg_programs.specs.declared.ended.Ended.{Ended}
+use Rattle.reg_programs.specs.declared.ended.Ended.TheVariants as ended
 use Rattle.line_engines.specs.declared.fault.RunFault.{RunFault}
 use Rattle.line_engines.specs.declared.fault.RunFault.TheVariants as run
 use Rattle.reg_programs.specs.declared.serve_fault.ServeFault.{ServeFault}
@@ -34,37 +35,58 @@ told_text text_of told.Address = own_line (codes "listen")
 told_text text_of told.Number = own_line (codes "number")
 told_text text_of told.NotText = own_line (codes "a word isn't UTF-8")
 
-abbrev pub with : ℕ → Told Error → Ended
-with status told = record { status = status; told = told }
+-- what is told of an invalid command line
+abbrev pub told_of_line : LineFault → Told Error
+told_of_line (line.Refused error) = told.Parser error
+told_of_line (line.Domain refusal) = told.Domain refusal
+told_of_line line.Seed = told.Seed
+told_of_line line.Address = told.Address
+told_of_line line.Number = told.Number
+told_of_line line.NotText = told.NotText
+told_of_line line.NoMemory = told.NoMemory
+
+-- what is told of an end
+abbrev pub told_of : Ended → Told Error
+told_of ended.Done = told.Nothing
+told_of ended.Denied = told.Nothing
+told_of (ended.Line fault) = told_of_line fault
+told_of ended.Input = told.Input
+told_of ended.Output = told.Output
+told_of ended.NoMemory = told.NoMemory
+told_of ended.Listen = told.Listen
+told_of ended.Accept = told.Accept
+told_of ended.NoSeat = told.NoSeat
+
+-- the exit status for an invalid command line; running out of memory is no fault of the words
+abbrev pub status_of_line : LineFault → ℕ
+status_of_line line.NoMemory = 1
+status_of_line _ = 2
+
+-- the exit status of an end
+abbrev pub status_of : Ended → ℕ
+status_of ended.Done = 0
+status_of ended.Denied = 3
+status_of (ended.Line fault) = status_of_line fault
+status_of _ = 1
 
 -- the end of a run that had its settings
 abbrev pub ended_by_run : Result Outcome RunFault → Ended
-ended_by_run (Ok Done) = with 0 told.Nothing
-ended_by_run (Ok Denied) = with 3 told.Nothing
-ended_by_run (Err run.Input) = with 1 told.Input
-ended_by_run (Err run.Output) = with 1 told.Output
-ended_by_run (Err run.NoMemory) = with 1 told.NoMemory
+ended_by_run (Ok Done) = ended.Done
+ended_by_run (Ok Denied) = ended.Denied
+ended_by_run (Err run.Input) = ended.Input
+ended_by_run (Err run.Output) = ended.Output
+ended_by_run (Err run.NoMemory) = ended.NoMemory
 
--- the end for a command line that is none
-abbrev pub ended_by_line : LineFault → Ended
-ended_by_line (line.Refused error) = with 2 (told.Parser error)
-ended_by_line (line.Domain refusal) = with 2 (told.Domain refusal)
-ended_by_line line.Seed = with 2 told.Seed
-ended_by_line line.Address = with 2 told.Address
-ended_by_line line.Number = with 2 told.Number
-ended_by_line line.NotText = with 2 told.NotText
-ended_by_line line.NoMemory = with 1 told.NoMemory
-
--- the end, by what the command line and then the run answered
+-- the end, by what the command line and then the run returned
 abbrev pub ended_of : Result (Result Outcome RunFault) LineFault → Ended
 ended_of (Ok answered) = ended_by_run answered
-ended_of (Err fault) = ended_by_line fault
+ended_of (Err fault) = ended.Line fault
 
 -- the end of a server
 abbrev pub ended_of_server : {T : Type 0} → Result T ServeFault → Ended
-ended_of_server (Ok none) = with 0 told.Nothing
-ended_of_server (Err serve.Listen) = with 1 told.Listen
-ended_of_server (Err serve.Output) = with 1 told.Output
-ended_of_server (Err serve.Accept) = with 1 told.Accept
-ended_of_server (Err serve.NoSeat) = with 1 told.NoSeat
-ended_of_server (Err serve.NoMemory) = with 1 told.NoMemory
+ended_of_server (Ok none) = ended.Done
+ended_of_server (Err serve.Listen) = ended.Listen
+ended_of_server (Err serve.Output) = ended.Output
+ended_of_server (Err serve.Accept) = ended.Accept
+ended_of_server (Err serve.NoSeat) = ended.NoSeat
+ended_of_server (Err serve.NoMemory) = ended.NoMemory

@@ -1,43 +1,48 @@
 //! How did a run end, and what does the caller get to know of it?
 
 ghost use Rattle.std.specs.Prelude.{◌≡◌};
-ghost use Rattle.reg_programs.specs.Ends.{ended_of, ended_of_server};
+ghost use Rattle.reg_programs.specs.Ends.{ended_of, ended_of_server, status_of, told_of, told_of_line};
 
 use crate::serve_fault::ServeFault;
 use crate::told::Told;
 use command_line::LineFault;
 use line_engines::{Outcome, RunFault};
 
-/// The end of a run, as the caller gets to know it.
+/// The end of a run.
 #[derive(Debug, Drop)]
-pub struct Ended {
-    /// The exit status: 0 where all was done, 3 where an audit found a fault, 2 for a command line that is none, and 1 for a
-    /// device that failed and for want of memory.
-    pub status: u8,
-    /// What standard error gets.
-    pub told: Told<clap::Error>,
+pub enum Ended {
+    /// All was done.
+    Done,
+    /// An audit found a fault.
+    Denied,
+    /// The command line is invalid, or memory ran out while it was read.
+    Line(LineFault),
+    /// A read of the input failed.
+    Input,
+    /// A write of the output failed, or a flush.
+    Output,
+    /// An allocation failed, or a worker's thread couldn't be started.
+    NoMemory,
+    /// The server can't listen at its address.
+    Listen,
+    /// The server can't accept connections any more.
+    Accept,
+    /// A worker of the server got no seat.
+    NoSeat,
 }
 
 impl Ended {
-    /// The end, by why the command line is none, or else by what the run of its settings answered.
+    /// The end, by why the command line is invalid, or else by what the run of its settings returned.
     pub fn of(answered: Result<Result<Outcome, RunFault>, LineFault>) -> Ended
         ensures { result ≡ ended_of answered }
     {
         match answered {
-            Ok(Ok(Outcome::Done)) => Ended::with(0, Told::Nothing),
-            Ok(Ok(Outcome::Denied)) => Ended::with(3, Told::Nothing),
-            Ok(Err(RunFault::Input)) => Ended::with(1, Told::Input),
-            Ok(Err(RunFault::Output)) => Ended::with(1, Told::Output),
-            Ok(Err(RunFault::NoMemory)) | Err(LineFault::NoMemory) => Ended::with(
-                1,
-                Told::NoMemory,
-            ),
-            Err(LineFault::Refused(error)) => Ended::with(2, Told::Parser(error)),
-            Err(LineFault::Domain(refusal)) => Ended::with(2, Told::Domain(refusal)),
-            Err(LineFault::Seed) => Ended::with(2, Told::Seed),
-            Err(LineFault::Address) => Ended::with(2, Told::Address),
-            Err(LineFault::Number) => Ended::with(2, Told::Number),
-            Err(LineFault::NotText) => Ended::with(2, Told::NotText),
+            Ok(Ok(Outcome::Done)) => Ended::Done,
+            Ok(Ok(Outcome::Denied)) => Ended::Denied,
+            Ok(Err(RunFault::Input)) => Ended::Input,
+            Ok(Err(RunFault::Output)) => Ended::Output,
+            Ok(Err(RunFault::NoMemory)) => Ended::NoMemory,
+            Err(fault) => Ended::Line(fault),
         }
     }
 
@@ -46,18 +51,61 @@ impl Ended {
         ensures { result ≡ ended_of_server served }
     {
         match served {
-            Ok(()) => Ended::with(0, Told::Nothing),
-            Err(ServeFault::Listen) => Ended::with(1, Told::Listen),
-            Err(ServeFault::Output) => Ended::with(1, Told::Output),
-            Err(ServeFault::Accept) => Ended::with(1, Told::Accept),
-            Err(ServeFault::NoSeat) => Ended::with(1, Told::NoSeat),
-            Err(ServeFault::NoMemory) => Ended::with(1, Told::NoMemory),
+            Ok(()) => Ended::Done,
+            Err(ServeFault::Listen) => Ended::Listen,
+            Err(ServeFault::Output) => Ended::Output,
+            Err(ServeFault::Accept) => Ended::Accept,
+            Err(ServeFault::NoSeat) => Ended::NoSeat,
+            Err(ServeFault::NoMemory) => Ended::NoMemory,
         }
     }
 
-    fn with(status: u8, told: Told<clap::Error>) -> Ended
-        ensures { result ≡ record { status = status; told = told } }
+    /// What standard error gets.
+    pub fn told(self) -> Told<clap::Error>
+        ensures { result ≡ told_of self }
     {
-        Ended { status, told }
+        match self {
+            Ended::Done | Ended::Denied => Told::Nothing,
+            Ended::Line(fault) => told_of_fault(fault),
+            Ended::Input => Told::Input,
+            Ended::Output => Told::Output,
+            Ended::NoMemory => Told::NoMemory,
+            Ended::Listen => Told::Listen,
+            Ended::Accept => Told::Accept,
+            Ended::NoSeat => Told::NoSeat,
+        }
+    }
+}
+
+/// What standard error gets for an invalid command line.
+fn told_of_fault(fault: LineFault) -> Told<clap::Error>
+    ensures { result ≡ told_of_line fault }
+{
+    match fault {
+        LineFault::Refused(error) => Told::Parser(error),
+        LineFault::Domain(refusal) => Told::Domain(refusal),
+        LineFault::Seed => Told::Seed,
+        LineFault::Address => Told::Address,
+        LineFault::Number => Told::Number,
+        LineFault::NotText => Told::NotText,
+        LineFault::NoMemory => Told::NoMemory,
+    }
+}
+
+/// The exit status: 0 if all was done, 3 if an audit found a fault, 2 for an invalid command line, and 1 for every other end.
+pub fn status(ended: &Ended) -> u8
+    ensures { result ≡ status_of ended.now }
+{
+    match ended {
+        Ended::Done => 0,
+        Ended::Denied => 3,
+        Ended::Line(LineFault::NoMemory) => 1,
+        Ended::Line(_) => 2,
+        Ended::Input
+        | Ended::Output
+        | Ended::NoMemory
+        | Ended::Listen
+        | Ended::Accept
+        | Ended::NoSeat => 1,
     }
 }

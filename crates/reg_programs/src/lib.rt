@@ -9,7 +9,7 @@
 //! - [`serve`]: the program `regd serve`, a session for each connection; [`serve_connections`]: the same at a listener that is
 //!   there already, with the workers' seats ([`seats_of`]) and a [`Queue`] of connections for each ([`queues_of`]).
 //! - [`ServeFault`]: why a server ended before its last connection did.
-//! - [`Ended`]: what the caller gets to know of an end, the exit status and what standard error gets, a [`Told`].
+//! - [`Ended`]: how a run ended; [`status`]: its exit status; [`Told`]: what standard error gets.
 #![tactic(auto)]
 
 mod acceptor;
@@ -22,7 +22,7 @@ mod session_engine;
 mod told;
 
 pub use command_line::{LineFault, Program, ServerPlan, Settings, a_line_gives_its_domain};
-pub use ended::Ended;
+pub use ended::{Ended, status};
 pub use line_engines::{
     Answerer, Outcome, RunFault, audit, plain, record_schedule, recorded_runs_are_confirmed,
     run_lines, schedule,

@@ -17,23 +17,23 @@ pub enum Told<E> {
     Input,
     /// A write of the output failed, or a flush.
     Output,
-    /// Memory was wanting.
+    /// An allocation failed.
     NoMemory,
     /// The server can't listen at its address.
     Listen,
-    /// No connection can be accepted any more.
+    /// The server can't accept connections any more.
     Accept,
-    /// A worker got no seat.
+    /// A worker of the server got no seat.
     NoSeat,
-    /// The domain isn't one, for this reason.
+    /// The value of `--domain` is not a trust domain, for this reason.
     Domain(IdRefusal),
-    /// The seed isn't 64 lower-case hexadecimal digits.
+    /// The value of `--seed` isn't 64 lower-case hexadecimal digits.
     Seed,
-    /// Where to listen isn't an IPv4 address with a port.
+    /// The value of `--listen` isn't an IPv4 address with a port.
     Address,
-    /// A number isn't one of those that it may be.
+    /// A number is out of its range.
     Number,
-    /// A word isn't text.
+    /// A word isn't UTF-8.
     NotText,
 }
 

@@ -3,10 +3,11 @@
 use crate::wanted::{holds, is_text};
 use reg_programs::{
     Ended, LineFault, Outcome, Program, RunFault, ServeFault, ServerPlan, Settings,
-    a_line_gives_its_domain,
+    a_line_gives_its_domain, status,
 };
 use spiffe_name::IdRefusal;
 use std::alloc::Global;
+use std::fmt::Display;
 use std::process::Abort;
 use std::test::Fail;
 
@@ -21,10 +22,10 @@ pub fn words_of<'a>(alloc: Global, line: &'a str) -> Result<Vec<&'a str>, Fail> 
 
 /// The status of an end, and its text with `$` for each line feed.
 fn told_of(alloc: Global, ended: Ended) -> Result<String, Fail> {
-    let status = ended.status;
-    let text = ended.told.to_string(alloc)?;
+    let code = status(&ended);
+    let text = ended.told().to_string(alloc)?;
     let text = text.replace(alloc, "\n", "$")?;
-    Ok(format!(in alloc; "{status} {text}")?)
+    Ok(format!(in alloc; "{code} {text}")?)
 }
 
 /// A program, and the word by which a command line names it.
@@ -267,4 +268,78 @@ no-seat => 1 regd: no seat$
 #[test]
 fn each_end_of_a_server_has_its_status_and_its_text(rt: HostRuntime) -> Result<(), Fail> {
     are_ends(&rt, rt.alloc(), ENDS_OF_SERVERS)
+}
+
+/// A fault's own text, as a line of the program with `$` for its end, behind the status.
+fn line_of<E: Display>(alloc: Global, code: u8, fault: &E) -> Result<String, Fail> {
+    Ok(format!(in alloc; "{code} regd: {fault}$")?)
+}
+
+/// What is told of the fault of a command line is its own text, in a line of the program.
+fn is_line_told_by_its_text(
+    rt: &impl Abort,
+    alloc: Global,
+    code: u8,
+    fault: LineFault,
+) -> Result<(), Fail> {
+    let want = line_of(alloc, code, &fault)?;
+    let told = told_of(alloc, Ended::of(Err(fault)))?;
+    is_text(rt, told.as_str(), want.as_str(), "the fault of a line");
+    Ok(())
+}
+
+fn is_run_told_by_its_text(rt: &impl Abort, alloc: Global, fault: RunFault) -> Result<(), Fail> {
+    let want = line_of(alloc, 1, &fault)?;
+    let told = told_of(alloc, Ended::of(Ok(Err(fault))))?;
+    is_text(rt, told.as_str(), want.as_str(), "the fault of a run");
+    Ok(())
+}
+
+fn is_server_told_by_its_text(
+    rt: &impl Abort,
+    alloc: Global,
+    fault: ServeFault,
+) -> Result<(), Fail> {
+    let want = line_of(alloc, 1, &fault)?;
+    let told = told_of(alloc, Ended::of_server(Err(fault)))?;
+    is_text(rt, told.as_str(), want.as_str(), "the fault of a server");
+    Ok(())
+}
+
+#[test]
+fn a_fault_is_told_by_its_own_text(rt: HostRuntime) -> Result<(), Fail> {
+    let domain = LineFault::Domain(IdRefusal::NoDomain);
+    is_line_told_by_its_text(&rt, rt.alloc(), 2, domain)?;
+    is_line_told_by_its_text(&rt, rt.alloc(), 2, LineFault::Seed)?;
+    is_line_told_by_its_text(&rt, rt.alloc(), 2, LineFault::Address)?;
+    is_line_told_by_its_text(&rt, rt.alloc(), 2, LineFault::Number)?;
+    is_line_told_by_its_text(&rt, rt.alloc(), 2, LineFault::NotText)?;
+    is_line_told_by_its_text(&rt, rt.alloc(), 1, LineFault::NoMemory)?;
+    for fault in [RunFault::Input, RunFault::Output, RunFault::NoMemory] {
+        is_run_told_by_its_text(&rt, rt.alloc(), fault)?;
+    }
+    for fault in [
+        ServeFault::Listen,
+        ServeFault::Output,
+        ServeFault::Accept,
+        ServeFault::NoSeat,
+        ServeFault::NoMemory,
+    ] {
+        is_server_told_by_its_text(&rt, rt.alloc(), fault)?;
+    }
+    Ok(())
+}
+
+/// The text of the parser stands as it is.
+#[test]
+fn a_refusal_of_the_parser_is_told_by_its_own_text(rt: HostRuntime) -> Result<(), Fail> {
+    let words = words_of(rt.alloc(), "regd|plain")?;
+    let Err(fault) = Settings::from_words(rt.alloc(), &words) else {
+        return Err(Fail::from("no fault"));
+    };
+    let want = fault.to_string(rt.alloc())?;
+    let told = Ended::of(Err(fault)).told().to_string(rt.alloc())?;
+    is_text(&rt, told.as_str(), want.as_str(), "a refusal");
+    holds(&rt, want.starts_with("error: "), want.as_str());
+    Ok(())
 }

@@ -9,6 +9,7 @@ ghost use Rattle.std.specs.Prelude.{◌≡◌, ◌<◌, None};
 use reg_lines::{CountedDevice, Input, Output};
 use reg_programs::{
     Ended, LineFault, Outcome, RunFault, ServeFault, ServerPlan, Settings, run_settings, serve,
+    status,
 };
 use shared_registry::Opened;
 use std::marker::Brand;
@@ -28,9 +29,10 @@ fn main(rt: HostRuntime) -> ExitCode {
         },
         Err(fault) => Ended::of(Err(fault)),
     };
+    let code = status(&ended);
     // where standard error fails, nobody is left to be told
-    let _ = rt.eprint(&ended.told);
-    ExitCode::from(ended.status)
+    let _ = rt.eprint(ended.told());
+    ExitCode::from(code)
 }
 
 /// To the end of the input: what the run answered.
