@@ -43,6 +43,7 @@ added log next s t w replies n a goes h = record {
   batch_is = a.batch_is;
   replies_are = same_replies w a.item.replies replies a.replies h;
   own = a.own ∙ ap (λ c. s.own ++ c ∷ []) (sym goes.calls);
+  found = a.found ∙ sym a.seen;
 }
 
 pub overtaken : (log next : List Item) (s t : Seated) (batch : Batch) (n : ℕ) → HasLooked log next s t → n ≡ length log → IsOvertaken (batches_of log) batch (length s.seen) n → Goes s t → IsPrefix s.told s.seen → IsOvertakenOnce s t batch n

@@ -2,6 +2,7 @@
 use Rattle.std.proofs.Common.{◌≡◌, ℕ, ◌+◌, ◌≤◌, List, [], ◌∷◌, ◌++◌, length, length-append, take, refl, sym, ap, subst, ◌∙◌, arith}
 use Rattle.std.proofs.lemmas.List.{append_assoc, take-append-le}
 use mathlib.Core.List.{IsPrefix}
+use Rattle.commit_head.specs.declared.item.Item.{Item}
 use Rattle.entry_book.specs.Order.{Within}
 use Rattle.entry_book.specs.Batches.{Batch}
 use Rattle.entry_book.specs.History.{books_of}
@@ -50,6 +51,10 @@ goes_on s t u a b = record {
   seen = prefix_trans s.seen t.seen u.seen a.seen b.seen;
 }
 
+-- it has another page
+pub goes_turned : (s t u : Seated) (found : List Item) → Goes s t → u ≡ record t { found = found } → Goes s u
+goes_turned s t u found g is = subst (Goes s) (sym is) (record { number = g.number; calls = g.calls; told = g.told; seen = g.seen })
+
 -- ---- one try more
 
 pub none_yet : (s : Seated) (batch : Batch) (place : ℕ) → WasOvertaken s s batch 0 place
@@ -89,6 +94,7 @@ ended s u t batch tries (Committed n replies) own over a = record {
   batch_is = a.batch_is;
   replies_are = a.replies_are;
   own = a.own ∙ ap (λ l. l ++ t.calls ∷ []) own;
+  found = a.found;
 }
 ended s u t batch tries (Repeated n replies) own over a = (a.0, a.1 ∙ own)
 ended s u t batch tries (Refused reply) own over a = (a.0, a.1 ∙ own)

@@ -58,7 +58,7 @@ pub record WasOvertaken (s t : Seated) (batch : Batch) (tries place : ℕ) : Typ
 
 -- ---- the answers to a batch of changes
 
--- The item of the call is the last one seen, and the seat has one call more of its own.
+-- The item of the call is the last one seen, and the seat has one call more of its own. The page that the seat has, on which it answers queries until it finds another one, shows all that was seen.
 pub record IsAdded (s t : Seated) (batch : Batch) (replies : List OpReply) (n : ℕ) : Type 0 where
   pub log : List Item
   pub item : Item
@@ -69,6 +69,7 @@ pub record IsAdded (s t : Seated) (batch : Batch) (replies : List OpReply) (n : 
   pub batch_is : item.batch ≡ batch
   pub replies_are : item.replies ≡ replies
   pub own : t.own ≡ s.own ++ t.calls ∷ []
+  pub found : t.found ≡ t.seen
 
 -- The plain book repeats these replies, as those of this place, on the books of what was seen; the item of this number has the batch's token and its operations, and these replies.
 pub record WasCommitted (t : Seated) (batch : Batch) (replies : List OpReply) (n : ℕ) : Type 0 where
@@ -155,6 +156,7 @@ pub record HasAdded (log next : List Item) (s t : Seated) (w : Work) (n : ℕ) :
   pub place : n ≡ length next
   pub seen : t.seen ≡ next
   pub own : t.own ≡ s.own ++ s.calls ∷ []
+  pub found : t.found ≡ next
 
 abbrev pub IsCommitThere : List Item → List Item → Seated → Seated → Work → Commit → Type 0
 IsCommitThere log next s t w (DidCommit n) = HasAdded log next s t w n

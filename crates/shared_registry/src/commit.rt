@@ -74,27 +74,47 @@ fn publish<J: Naming, R: Wait>(rt: &R, writer: WindowWriter<J>, next: Published)
     unreachable!()
 }
 
-/// The board after a commit that is prepared: its version in the window, and one call more of its seat. The error is want of
-/// memory.
-fn board_with(
+/// Returns the board after a commit that is prepared: its version is in the window, and its seat has one call more. There are two
+/// references to it, one for the readers and one for the seat. The only error is a failed allocation.
+fn boards_with(
     alloc: Global,
     published: &Published,
     prepared: &Prepared,
     seat: usize,
-) -> Result<Shared<Board>, AllocError>
+) -> Result<(Shared<Board>, Shared<Board>), AllocError>
     requires seat { (seat < 32) × (prepared.now.item.seat ≡ seat) }
     requires fits { IsNextOf published.now.window.newest prepared.now }
-    ensures window { IfOk result (λ board. board.window ≡ pushed prepared.now.version published.now.window) }
-    ensures counts { IfOk result (λ board. IsCounted board.counts (published.now.journal ++ prepared.now.item ∷ [])) }
+    ensures window { IfOk result (λ boards. boards.0.window ≡ pushed prepared.now.version published.now.window) }
+    ensures counts { IfOk result (λ boards. IsCounted boards.0.counts (published.now.journal ++ prepared.now.item ∷ [])) }
+    ensures same { IfOk result (λ boards. boards.1 ≡ boards.0) }
 {
     let mut window = published.window().clone()?;
     window.push(prepared.version().clone()?);
     let counts = published.counts_with(seat, prepared.item());
-    Shared::of(alloc, Board { window, counts })
+    let board = Shared::of(alloc, Board { window, counts })?;
+    let same = board.clone()?;
+    Ok((board, same))
+}
+
+/// Returns what is published after a commit, for the readers and for the seat.
+fn pages<J: Naming>(
+    front: &Front<J>,
+    boards: (Shared<Board>, Shared<Board>),
+) -> (Published, Published)
+    requires shows { Shows front.now boards.0.window boards.0.counts }
+    requires same { boards.1 ≡ boards.0 }
+    ensures history { result.0.history ≡ J.history }
+    ensures journal { result.0.journal ≡ front.now }
+    ensures window { result.0.window ≡ boards.0.window }
+    ensures same { result.1 ≡ result.0 }
+{
+    let (board, same) = boards;
+    (Published::of(front, board), Published::of(front, same))
 }
 
 /// Sees all items so far, and commits the work as the seat's call, or tells why not. The commit stands from the moment on in which
-/// its item is added to the history; from there on nothing is refused.
+/// its item is added to the history; from there on nothing is refused. After a commit the seat has the page that was published for
+/// it, and the page that it had before is returned, to be dropped without the lock.
 pub(crate) fn decide<J: Naming, R: Wait>(
     rt: &R,
     alloc: Global,
@@ -104,7 +124,7 @@ pub(crate) fn decide<J: Naming, R: Wait>(
     writer: WindowWriter<J>,
     seat: &mut Seat<J>,
     work: &Work,
-) -> (WindowWriter<J>, Result<Commit, NoEntry>)
+) -> (WindowWriter<J>, Result<Commit, NoEntry>, Option<Published>)
     requires tied { IsTied J.domain last.old head.old }
     requires published { IsPublished J.history J.domain last.old writer.desk.shown.value }
     requires clear { drop writer.behind writer.log.items ≡ [] }
@@ -121,28 +141,30 @@ pub(crate) fn decide<J: Naming, R: Wait>(
     let _window = published.window();
     let _place = last.len();
     if !seat.fits(published) {
-        return (writer, Err(NoEntry));
+        return (writer, Err(NoEntry), None);
     }
     tidy(head);
     let prepared = match head.prepare(seat.number() as u32, seat.calls(), work) {
         Ok(prepared) => prepared,
         Err(refusal) => {
             seat.see(last.again());
-            return (writer, Ok(refusal));
+            return (writer, Ok(refusal), None);
         }
     };
-    let Ok(board) = board_with(alloc, published, &prepared, seat.number()) else {
+    let Ok(boards) = boards_with(alloc, published, &prepared, seat.number()) else {
         seat.see(last.again());
-        return (writer, Ok(Commit::NoMemory));
+        return (writer, Ok(Commit::NoMemory), None);
     };
     let mut front = last.again();
     if !front.add(history, prepared.item()) {
-        return (writer, Err(NoEntry));
+        return (writer, Err(NoEntry), None);
     }
-    let writer = publish(rt, writer, Published::of(&front, board));
+    let (page, own) = pages(&front, boards);
+    let writer = publish(rt, writer, page);
     seat.see(last.again());
     seat.see_own(front.again(), prepared.item());
+    let before = seat.turn_to(own);
     *last = front;
     let place = head.finish(prepared);
-    (writer, Ok(Commit::Committed(place)))
+    (writer, Ok(Commit::Committed(place)), Some(before))
 }

@@ -10,13 +10,12 @@ ghost use Rattle.shared_registry.specs.Works.{IsRead};
 
 use crate::commit::decide;
 use crate::history::{Front, History, Naming};
-use crate::published::{Board, Published, opening};
-use crate::recent::Recent;
+use crate::published::{Published, opening};
+use crate::recent::{Recent, Replaced};
 use crate::rule::{Rule, View};
 use crate::seat::{NoEntry, Receipt, Seat};
 use batch_work::{Status, Work};
 use commit_head::{Commit, Head};
-use entry_book::Shared;
 use left_right::writer::Writer;
 use spiffe_name::TrustDomain;
 use std::alloc::{AllocError, Global};
@@ -124,15 +123,15 @@ impl<J: Naming> Core<J> {
         Ok(seat.receipt())
     }
 
-    /// Sees all items so far, and commits a work that is ready as the seat's call, or tells why not. A board that isn't kept any more
-    /// is handed out, to be let go once the lock is given back.
+    /// Sees all items so far, and commits a work that is ready as the seat's call, or tells why not. What a commit has replaced is
+    /// returned, to be dropped without the lock.
     pub(crate) fn commit<R: Wait>(
         &mut self,
         rt: &R,
         history: &History<J>,
         seat: &mut Seat<J>,
         work: &Work,
-    ) -> (Result<Commit, NoEntry>, Option<Shared<Board>>)
+    ) -> (Result<Commit, NoEntry>, Option<Replaced>)
         requires call { AllBelow seat.old.calls seat.old.own }
         requires ready { status_of work.now ≡ Status.Ready }
         requires read { IsRead J.domain seat.old.seen work.now.batch work.now }
@@ -142,7 +141,7 @@ impl<J: Naming> Core<J> {
         let Some(writer) = self.writer.take() else {
             unreachable!()
         };
-        let (writer, decided) = decide(
+        let (writer, decided, before) = decide(
             rt,
             self.alloc,
             history,
@@ -152,12 +151,12 @@ impl<J: Naming> Core<J> {
             seat,
             work,
         );
-        let passed = self.recent.keep(writer.published());
+        let replaced = self.recent.replace(writer.published(), before);
         match replace(&mut self.writer, Some(writer)) {
             None => {}
             Some(_other) => unreachable!(),
         }
-        (decided, passed)
+        (decided, replaced)
     }
 
     /// How many items are kept.

@@ -1,32 +1,56 @@
-//! Which boards are kept, so that readers needn't let them go?
+//! Which boards are retained, so that readers seldom free one?
 
 use crate::published::{Board, Published};
 use entry_book::Shared;
 use std::alloc::{AllocError, Global};
 use std::collections::VecDeque;
 
-/// How many boards are kept.
+/// How many boards are retained.
 const MOST: usize = 64;
 
-/// The boards that were published last. Whoever lets the last copy of a board go lets go of its window, and of each version that
-/// no other window has. While a board is kept here that is no reader's work, but that of whoever makes the next commit that needs its
-/// place, once the lock is given back.
+/// The boards of the last commits. Dropping the last reference to a board frees its window, and each version that no other window
+/// has. While a board is retained here, no reader does that work, but the thread that makes the commit which takes its place, without
+/// the lock.
 #[derive(Drop)]
 pub(crate) struct Recent {
     boards: VecDeque<Shared<Board>>,
 }
 
+/// What a commit has replaced, to be dropped without the lock: the page that the seat had before it, and the oldest of the retained
+/// boards, if there were as many as are retained.
+#[derive(Drop)]
+pub(crate) struct Replaced {
+    page: Published,
+    board: Option<Shared<Board>>,
+}
+
 impl Recent {
-    /// No boards, and room for all that are kept. The error is want of memory.
+    /// Returns no boards, and room for all that are retained. The only error is a failed allocation.
     pub(crate) fn none(alloc: Global) -> Result<Recent, AllocError> {
         Ok(Recent {
             boards: VecDeque::with_capacity(alloc, MOST)?,
         })
     }
 
-    /// Keeps the board of what is published, in the place of the oldest one, which is handed out, to be let go where nobody waits for
-    /// that. Where no more owners can be counted, it isn't kept.
-    pub(crate) fn keep(&mut self, published: &Published) -> Option<Shared<Board>> {
+    /// After a commit, which has replaced this page of its seat, retains the board of what is published. Without a commit it does
+    /// nothing.
+    pub(crate) fn replace(
+        &mut self,
+        published: &Published,
+        before: Option<Published>,
+    ) -> Option<Replaced> {
+        match before {
+            Some(page) => {
+                let board = self.keep(published);
+                Some(Replaced { page, board })
+            }
+            None => None,
+        }
+    }
+
+    /// Retains the board of what is published, in place of the oldest one, which is returned. If its reference count can't grow, it
+    /// is not retained.
+    fn keep(&mut self, published: &Published) -> Option<Shared<Board>> {
         let Ok(board) = published.board() else {
             return None;
         };

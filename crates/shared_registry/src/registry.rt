@@ -217,9 +217,9 @@ impl<J: Naming> Registry<J> {
         let (number, call) = (seat.number() as u32, seat.calls());
         let mut core = self.core.lock(rt);
         gate.pass(Point::BeforeCommit, number, call);
-        let (decided, passed) = core.commit(rt, &self.history, seat, &work);
+        let (decided, replaced) = core.commit(rt, &self.history, seat, &work);
         MutexGuard::unlock(core);
-        drop(passed);
+        drop(replaced);
         gate.pass(Point::AfterCommit, number, call);
         let batch = work.into_batch();
         match decided {

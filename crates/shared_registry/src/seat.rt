@@ -195,6 +195,14 @@ impl<J: Naming> Seat<J> {
         self.count += 1;
     }
 
+    /// Has this page from now on, in place of the one before, which is returned.
+    pub(crate) fn turn_to(&mut self, page: Published) -> Published
+        requires page { IsOf J.history J.domain page }
+        ensures { self.new ≡ record self.old { found = page.journal } }
+    {
+        replace(&mut self.page, page)
+    }
+
     /// Takes the number of one call more.
     pub(crate) fn take_call(&mut self)
         requires has_calls { self.old.calls < 2 ^ 48 }

@@ -4,11 +4,12 @@ use Rattle.commit_head.specs.declared.item.Item.{Item}
 use Rattle.commit_head.specs.Heads.{IsJournal}
 use Rattle.commit_head.specs.Journals.{IsLawfulJournal}
 use Rattle.shared_registry.specs.Desk.{IsTied}
+use Rattle.shared_registry.specs.Seated.{Seated}
 use Rattle.shared_registry.specs.Seats.{AllBelow, IsCounted, calls_of}
 use Rattle.shared_registry.specs.Shown.{Shown, Shows, whole_head}
 use Rattle.shared_registry.proofs.Committing.{journal_low, lawful_more, next_fits, place_is, refused_there, shows_more, tidied, tied_more, tied_stays}
 use Rattle.shared_registry.proofs.Overtaken.{began}
-use Rattle.shared_registry.proofs.Tries.{goes_on}
+use Rattle.shared_registry.proofs.Tries.{goes_on, goes_turned}
 use Rattle.shared_registry.proofs.commit.decide.Goals as goal
 
 pub prepare-requires-clause-began : goal.prepare-requires-clause-began
@@ -33,8 +34,8 @@ returns-in-Err-clause-decided g c =
     (record { same = refl; seen = c.see.ensures.seen ∙ c.again.ensures; own = c.see.ensures.own })
     c.in-Err.ensures.refused
 
-pub board_with-requires-clause-fits : goal.board_with-requires-clause-fits
-board_with-requires-clause-fits g c =
+pub boards_with-requires-clause-fits : goal.boards_with-requires-clause-fits
+boards_with-requires-clause-fits g c =
     let log = ap (λ (p : Shown). p.journal) c.published-published.ensures ∙ c.requires.published.journal_is in
     let tidy = tidied g.J.Naming.domain c.args.last.now c.args.head.now c.tidy.new.head c.requires.tied c.tidy.ensures.window c.tidy.ensures.kept c.tidy.ensures.few in
     let tied = tied_stays g.J.Naming.domain c.args.last.now c.tidy.new.head c.prepare.new.self tidy c.prepare.ensures.stays in
@@ -74,8 +75,8 @@ returns-then-not-add-clause-tied g c =
     let tied = tied_stays g.J.Naming.domain c.args.last.now c.tidy.new.head c.prepare.new.self tidy c.prepare.ensures.stays in
     tied
 
-pub of-requires : goal.of-requires
-of-requires g c =
+pub pages-page-requires-clause-shows : goal.pages-page-requires-clause-shows
+pages-page-requires-clause-shows g c =
     let log = ap (λ (p : Shown). p.journal) c.published-published.ensures ∙ c.requires.published.journal_is in
     let tidy = tidied g.J.Naming.domain c.args.last.now c.args.head.now c.tidy.new.head c.requires.tied c.tidy.ensures.window c.tidy.ensures.kept c.tidy.ensures.few in
     let tied = tied_stays g.J.Naming.domain c.args.last.now c.tidy.new.head c.prepare.new.self tidy c.prepare.ensures.stays in
@@ -87,8 +88,9 @@ of-requires g c =
     let lawful = lawful_more g.J.Naming.domain c.args.last.now c.in-Ok.prepared.item c.prepare.new.self c.args.seat.now.number c.args.seat.now.calls tied c.len-place.ensures.lawful c.in-Ok.ensures.fits.goes.joins (of_work.seat_is ∙ c.number.ensures.0) (of_work.call_is ∙ c.calls.ensures) below in
     let whole : c.add.new.self ≡ c.args.last.now ++ c.in-Ok.prepared.item ∷ [] = c.if-not-add.ensures ∙ (λ i. c.again-front.ensures i ++ c.item.ensures i ∷ []) in
     let goes = next_fits g.J.Naming.domain c.args.last.now c.prepare.new.self c.published-published.result.now.window c.in-Ok.prepared tied journal domain c.in-Ok.ensures.fits.goes in
-    let counted = subst (λ l. IsCounted c.in-Ok-board_with.board.counts (l ++ c.in-Ok.prepared.item ∷ [])) log c.in-Ok-board_with.ensures.counts in
-    record { shows = subst (λ l. Shows l c.in-Ok-board_with.board.window c.in-Ok-board_with.board.counts) (sym whole) (shows_more g.J.Naming.domain c.args.last.now c.in-Ok.prepared c.published-published.result.now.window c.in-Ok-board_with.board.window c.in-Ok-board_with.board.counts journal goes c.in-Ok-board_with.ensures.window lawful counted) }
+    let board = c.in-Ok-boards_with.boards.0 in
+    let counted = subst (λ l. IsCounted board.counts (l ++ c.in-Ok.prepared.item ∷ [])) log c.in-Ok-boards_with.ensures.counts in
+    subst (λ l. Shows l board.window board.counts) (sym whole) (shows_more g.J.Naming.domain c.args.last.now c.in-Ok.prepared c.published-published.result.now.window board.window board.counts journal goes c.in-Ok-boards_with.ensures.window lawful counted)
 
 pub see-requires-2-clause-seen : goal.see-requires-2-clause-seen
 see-requires-2-clause-seen g c =
@@ -105,7 +107,9 @@ returns-clause-tied g c =
     subst (λ l. IsTied g.J.Naming.domain l c.finish-place.new.self) (sym whole) (tied_more g.J.Naming.domain c.args.last.now c.in-Ok.prepared.item c.prepare.new.self c.finish-place.new.self tied c.in-Ok.ensures.fits.goes.joins c.finish-place.ensures.appended few)
 
 pub returns-clause-goes : goal.returns-clause-goes
-returns-clause-goes g c = goes_on c.args.seat.now c.see-2.new.self c.see_own.new.self c.see-2.ensures.goes c.see_own.ensures.goes
+returns-clause-goes g c =
+    let goes = goes_on c.args.seat.now c.see-2.new.self c.see_own.new.self c.see-2.ensures.goes c.see_own.ensures.goes in
+    goes_turned c.args.seat.now c.see_own.new.self c.turn_to-before.new.self _ goes c.turn_to-before.ensures
 
 pub returns-clause-decided : goal.returns-clause-decided
 returns-clause-decided g c =
@@ -125,6 +129,7 @@ returns-clause-decided g c =
           let l = ap length whole in
           let k = length-append c.args.last.now (c.in-Ok.prepared.item ∷ []) in
           omega arith;
-      seen = c.see_own.ensures.seen ∙ c.again-3.ensures;
-      own = c.see_own.ensures.own ∙ (λ i. c.see-2.ensures.own i ++ c.see-2.ensures.goes.calls i ∷ []);
+      seen = ap (λ (s : Seated). s.seen) c.turn_to-before.ensures ∙ (c.see_own.ensures.seen ∙ c.again-3.ensures);
+      own = ap (λ (s : Seated). s.own) c.turn_to-before.ensures ∙ (c.see_own.ensures.own ∙ (λ i. c.see-2.ensures.own i ++ c.see-2.ensures.goes.calls i ∷ []));
+      found = ap (λ (s : Seated). s.found) c.turn_to-before.ensures ∙ (ap (λ (p : Shown). p.journal) c.pages-page.ensures.same ∙ c.pages-page.ensures.journal);
     }
