@@ -5,7 +5,7 @@ ghost use Rattle.entry_book.specs.Batches.{is_query};
 ghost use Rattle.reg_lines.specs.Refusals.{no_memory_json, refusal_json};
 ghost use Rattle.reg_lines.specs.Stream.{Puts};
 ghost use Rattle.line_engines.specs.Answers.{as_line};
-ghost use Rattle.shared_registry.specs.Seated.{Seated};
+ghost use Rattle.shared_registry.specs.Seated.{MaySee, Seated};
 ghost use Rattle.reg_programs.specs.Sessions.{AnswersCall, Grew, IsPrinted, IsToAnswer, RunsSession, Session, SessionsGrow, TakesRequestLine, found_json, line_answer_json, no_answer_json, outcome_json};
 
 use entry_book::{Batch, Outcome as BatchOutcome, Reply, Shared};
@@ -182,6 +182,7 @@ pub(crate) enum Taken {
 
 /// Prints the seat's answer to a question that it has looked for, whose rows it lends, or nothing where memory is wanting for it.
 fn print_found<J: Naming, K: Sink>(seat: &Seat<J>, batch: &Batch, output: &mut Output<K>) -> bool
+    requires found { MaySee J.domain seat.now }
     requires query { is_query batch.now.ops ≡ true }
     requires domain { batch.now.domain ≡ J.domain }
     ensures { MatchBool result (Puts output.old output.new (as_line (found_json seat.now batch.now))) (output.new ≡ output.old) }

@@ -144,14 +144,14 @@ pub(crate) fn decide<J: Naming, R: Wait>(
         return (writer, Err(NoEntry), None);
     }
     tidy(head);
-    let prepared = match head.prepare(seat.number() as u32, seat.calls(), work) {
+    let prepared = match head.prepare(seat.number(), seat.calls(), work) {
         Ok(prepared) => prepared,
         Err(refusal) => {
             seat.see(last.again());
             return (writer, Ok(refusal), None);
         }
     };
-    let Ok(boards) = boards_with(alloc, published, &prepared, seat.number()) else {
+    let Ok(boards) = boards_with(alloc, published, &prepared, seat.number() as usize) else {
         seat.see(last.again());
         return (writer, Ok(Commit::NoMemory), None);
     };

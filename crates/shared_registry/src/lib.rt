@@ -41,4 +41,4 @@ pub use history::{Front, History, Naming, Opened};
 pub use outcome::Outcome;
 pub use published::Published;
 pub use registry::Registry;
-pub use seat::{NoAnswer, NoEntry, Receipt, Seat};
+pub use seat::{Answer, NoAnswer, NoEntry, Receipt, Seat};

@@ -16,7 +16,7 @@ use crate::gate::{Gate, Point};
 use crate::history::{History, Naming, Opened};
 use crate::outcome::Outcome;
 use crate::run::let_go;
-use crate::seat::{NoAnswer, NoEntry, Receipt, Seat};
+use crate::seat::{Answer, NoAnswer, NoEntry, Receipt, Seat};
 use batch_work::{Status, Work};
 use commit_head::Commit;
 use entry_book::{Batch, Limit, OpReply, Refusal, Reply, Sequence, Shared};
@@ -123,12 +123,12 @@ impl<J: Naming> Registry<J> {
         seat
     }
 
-    /// The answer to a query, on the books of what the seat has then seen. It waits for nobody.
-    pub fn query(&self, seat: &mut Seat<J>, batch: Batch) -> Result<Shared<Reply>, NoAnswer>
+    /// Returns the answer to a query, on the books of what the seat has then seen. It waits for nobody.
+    pub fn query(&self, seat: &mut Seat<J>, batch: &Batch) -> Result<Answer, NoAnswer>
         requires has_calls { seat.old.calls < 2 ^ 48 }
-        requires query { is_query batch.ops ≡ true }
-        requires domain { batch.domain ≡ J.domain }
-        ensures answer { IfOk result (λ reply. reply ≡ reply_to batch (books_of (batches_of seat.new.seen))) }
+        requires query { is_query batch.now.ops ≡ true }
+        requires domain { batch.now.domain ≡ J.domain }
+        ensures answer { IfOk result (λ reply. reply ≡ reply_to batch.now (books_of (batches_of seat.new.seen))) }
         ensures place { IfOk result (λ reply. reply.place ≡ length seat.new.seen) }
         ensures entered { MatchResult result (λ _. Entered J.domain seat.old seat.new) (λ _. Stays J.domain seat.old seat.new) }
         ensures own { seat.new.own ≡ seat.old.own }
@@ -214,7 +214,7 @@ impl<J: Naming> Registry<J> {
         ensures goes { Goes seat.old seat.new }
         ensures tried { IsTry seat.old seat.new work.batch result }
     {
-        let (number, call) = (seat.number() as u32, seat.calls());
+        let (number, call) = (seat.number(), seat.calls());
         let mut core = self.core.lock(rt);
         gate.pass(Point::BeforeCommit, number, call);
         let (decided, replaced) = core.commit(rt, &self.history, seat, &work);

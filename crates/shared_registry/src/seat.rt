@@ -25,6 +25,9 @@ use std::mem::replace;
 /// A reader of what is published.
 pub(crate) type SeatReader<J> = Reader<Published, View, Rule<J>>;
 
+/// The reply to a query, with rows of its own.
+pub type Answer = Shared<Reply>;
+
 /// Why a query has no answer.
 #[derive(Clone, Copy, Debug, PartialEq, Eq, Drop)]
 pub enum NoAnswer {
@@ -98,10 +101,10 @@ impl<J: Naming> Seat<J> {
     }
 
     /// Its number, below 32.
-    pub fn number(&self) -> usize
+    pub fn number(&self) -> u32
         ensures { (result ≡ self.now.number) × (result < 32) }
     {
-        self.number
+        self.number as u32
     }
 
     /// How many calls it has made: the number of the last one.
@@ -277,9 +280,10 @@ impl<J: Naming> Seat<J> {
         }
     }
 
-    /// The answer to a query, on the books of what the seat has found. The seat lends its rows. It waits for nobody. The error is want
-    /// of memory.
+    /// Returns the answer to a query, on the books of what the seat has found, which borrows its rows from the seat. What was found
+    /// can be seen: a look has found it, or the seat's own commit. It waits for nobody. The only error is a failed allocation.
     pub fn answer(&self, batch: &Batch) -> Result<LentReply<'_>, AllocError>
+        requires found { MaySee J.domain self.now }
         requires query { is_query batch.now.ops ≡ true }
         requires domain { batch.now.domain ≡ J.domain }
         ensures answer { IfOk result (λ reply. reply ≡ reply_to batch.now (books_of (batches_of self.now.found))) }
@@ -296,23 +300,18 @@ impl<J: Naming> Seat<J> {
         self.seen = self.page.front();
     }
 
-    /// The answer to a query, on the books of what is then seen, with rows of its own. It waits for nobody.
-    pub fn query(&mut self, batch: Batch) -> Result<Shared<Reply>, NoAnswer>
+    /// Returns the answer to a query, on the books of what is then seen, with rows of its own. It waits for nobody.
+    pub fn query(&mut self, batch: &Batch) -> Result<Answer, NoAnswer>
         requires has_calls { self.old.calls < 2 ^ 48 }
-        requires query { is_query batch.ops ≡ true }
-        requires domain { batch.domain ≡ J.domain }
-        ensures answer { IfOk result (λ reply. reply ≡ reply_to batch (books_of (batches_of self.new.seen))) }
+        requires query { is_query batch.now.ops ≡ true }
+        requires domain { batch.now.domain ≡ J.domain }
+        ensures answer { IfOk result (λ reply. reply ≡ reply_to batch.now (books_of (batches_of self.new.seen))) }
         ensures place { IfOk result (λ reply. reply.place ≡ length self.new.seen) }
         ensures entered { MatchResult result (λ _. Entered J.domain self.old self.new) (λ _. Stays J.domain self.old self.new) }
         ensures own { self.new.own ≡ self.old.own }
     {
-        if let Err(why) = self.look() {
-            drop(batch);
-            return Err(why);
-        }
-        let reply = self.kept_answer(&batch);
-        drop(batch);
-        match reply {
+        self.look()?;
+        match self.kept_answer(batch) {
             Ok(reply) => {
                 self.see_found();
                 Ok(reply)
@@ -321,8 +320,10 @@ impl<J: Naming> Seat<J> {
         }
     }
 
-    /// The answer to a query, on the books of what the seat has found, with rows of its own. The error is want of memory.
-    fn kept_answer(&self, batch: &Batch) -> Result<Shared<Reply>, AllocError>
+    /// Returns the answer to a query, on the books of what the seat has found, with rows of its own. The only error is a failed
+    /// allocation.
+    fn kept_answer(&self, batch: &Batch) -> Result<Answer, AllocError>
+        requires found { MaySee J.domain self.now }
         requires query { is_query batch.now.ops ≡ true }
         requires domain { batch.now.domain ≡ J.domain }
         ensures answer { IfOk result (λ reply. reply ≡ reply_to batch.now (books_of (batches_of self.now.found))) }

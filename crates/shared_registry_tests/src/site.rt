@@ -7,8 +7,8 @@ use crate::talks::THREADS;
 use crate::telling::{outcome_text, seat_text};
 use crate::turnstile::TURNS;
 use batch_texts::{batch, placed, reply_text};
-use entry_book::{Batch, Reply, Shared};
-use shared_registry::{Gate, Naming, Opened, Receipt, Registry, Seat};
+use entry_book::Batch;
+use shared_registry::{Answer, Gate, Naming, Opened, Receipt, Registry, Seat};
 use spiffe_name::TrustDomain;
 use std::alloc::Global;
 use std::collections::VecDeque;
@@ -60,14 +60,14 @@ fn query<J: Naming>(
     own: &TrustDomain,
     seat: &mut Seat<J>,
     batch: Batch,
-) -> Result<Shared<Reply>, Failed>
+) -> Result<Answer, Failed>
     requires { own.now ≡ J.domain }
 {
     if batch.domain() != own || !batch.is_query() || !seat.has_calls() {
         return Err(Failed("a batch isn't for a query"));
     }
     if !seat.calls().is_multiple_of(2) {
-        return Ok(registry.query(seat, batch)?);
+        return Ok(registry.query(seat, &batch)?);
     }
     seat.look()?;
     let lent = seat.answer(&batch)?;
