@@ -6,17 +6,19 @@ use Rattle.entry_book.specs.declared.reply.OpReply.{OpReply}
 use Rattle.entry_book.specs.declared.reply.Outcome.TheVariants.{Refused as WasRefused}
 use Rattle.entry_book.specs.declared.reply.Refusal.TheVariants.{Full as TooMuch}
 use Rattle.entry_book.specs.Batches.{Batch}
+use Rattle.entry_book.specs.Rows.{Bytes}
 use Rattle.entry_book.specs.History.{books_of, reply_to}
 use Rattle.entry_book.specs.Runs.{RunEffect, RunResult}
 use Rattle.entry_book.specs.Writes.{RowWrite}
 use Rattle.batch_work.specs.Working.{Base, HasReplies, IsAcceptedOn, Work}
 use Rattle.commit_head.specs.declared.item.Item.{Item}
-use Rattle.commit_head.specs.Journals.{batches_of}
+use Rattle.commit_head.specs.Journals.{IsLawfulJournal, batches_of}
 use Rattle.shared_registry.specs.declared.outcome.Outcome.{Outcome}
 use Rattle.shared_registry.specs.declared.outcome.Outcome.TheVariants.{Refused}
 use Rattle.shared_registry.specs.Outcomes.{HasAdded, HasHeard, HasLooked, IsAdded, IsFull, IsOver, IsOvertaken, IsOvertakenOnce, IsSubmitted}
-use Rattle.shared_registry.specs.Seated.{Goes, Seated}
-use Rattle.shared_registry.proofs.Prefixes.{prefix_length, prefix_trans}
+use Rattle.shared_registry.specs.Seated.{Along, Goes, MaySee, Seated}
+use Rattle.shared_registry.specs.Seats.{calls_of}
+use Rattle.shared_registry.proofs.Prefixes.{prefix_length, prefix_self, prefix_trans}
 
 -- ---- a work has one list of replies
 
@@ -45,6 +47,16 @@ added log next s t w replies n a goes h = record {
   own = a.own ∙ ap (λ c. s.own ++ c ∷ []) (sym goes.calls);
   found = a.found ∙ sym a.seen;
 }
+
+-- what the seat has found, it may see
+pub may_see_added : (domain : Bytes) (s t : Seated) (batch : Batch) (replies : List OpReply) (n : ℕ) → Along domain s t → IsPrefix s.told t.seen → IsAdded s t batch replies n → MaySee domain t
+may_see_added domain s t batch replies n along heard a =
+    let told : IsPrefix t.told t.seen = subst (λ (l : List Item). IsPrefix l t.seen) (sym along.told) heard in record {
+      lawful = subst (IsLawfulJournal domain) (sym a.found) along.lawful;
+      seen = subst (IsPrefix t.seen) (sym a.found) (prefix_self t.seen);
+      told = subst (IsPrefix t.told) (sym a.found) told;
+      own = ap (calls_of t.number) a.found ∙ along.own;
+    }
 
 pub overtaken : (log next : List Item) (s t : Seated) (batch : Batch) (n : ℕ) → HasLooked log next s t → n ≡ length log → IsOvertaken (batches_of log) batch (length s.seen) n → Goes s t → IsPrefix s.told s.seen → IsOvertakenOnce s t batch n
 overtaken log next s t batch n l e o goes heard = record {

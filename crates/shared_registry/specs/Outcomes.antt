@@ -11,6 +11,7 @@ use Rattle.entry_book.specs.declared.reply.Reply.{Reply}
 use Rattle.entry_book.specs.Batches.{Batch}
 use Rattle.entry_book.specs.History.{books_of, last_book, reply_to}
 use Rattle.entry_book.specs.Order.{Within}
+use Rattle.entry_book.specs.Rows.{Bytes}
 use Rattle.entry_book.specs.Writes.{RowWrite}
 use Rattle.version_book.specs.declared.mark.MarkKind.{MarkKind}
 use Rattle.version_book.specs.History.{writes_of}
@@ -26,7 +27,7 @@ use Rattle.shared_registry.specs.declared.outcome.Outcome.TheVariants.{Committed
 use Rattle.shared_registry.specs.declared.seat.NoEntry.{NoEntry as WasNotLetIn}
 use Rattle.shared_registry.specs.declared.registry.Try.{Try}
 use Rattle.shared_registry.specs.declared.registry.Try.TheVariants.{Over, Overtaken}
-use Rattle.shared_registry.specs.Seated.{Seated}
+use Rattle.shared_registry.specs.Seated.{Along, MaySee, Seated}
 
 -- ---- tries that were overtaken
 
@@ -107,6 +108,11 @@ HasHeard s t (Refused reply) = IsPrefix s.told t.seen
 HasHeard s t (Conflict n) = IsPrefix s.told t.seen
 HasHeard s t NoMemory = ⊤
 HasHeard s t NoEntry = ⊤
+
+-- ---- a law: what a seat has found by its commit, it may see without a look
+
+abbrev pub CommitsMayBeSeen : Type 0
+CommitsMayBeSeen = (domain : Bytes) (s t : Seated) (batch : Batch) (replies : List OpReply) (n : ℕ) → Along domain s t → HasHeard s t (Committed n replies) → IsAdded s t batch replies n → MaySee domain t
 
 -- ---- one try; for this crate's own contracts
 

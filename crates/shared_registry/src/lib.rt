@@ -9,8 +9,9 @@
 //! - [`Registry`]: what the threads share. [`Seat`]: one caller, with what it has seen; [`NoSeat`]: there are 32 already.
 //! - [`Outcome`]: what became of a batch of changes. [`Gate`]: where a test may hold it on its way, at each [`Point`];
 //!   [`OpenGate`] holds nothing.
-//! - [`NoAnswer`] and [`NoEntry`]: why a query, or a question for news, has no answer.
+//! - [`Answer`]: the reply to a query. [`NoAnswer`] and [`NoEntry`]: why a query, or a question for news, has no answer.
 //! - [`Receipt`]: what a seat had seen, to be learnt by another one.
+//! - [`commits_law`]: after a commit a seat may answer queries without a look.
 //! - [`Naming`] and [`Opened`]: which registry it is, and its empty history; seats, receipts and registries of one naming belong
 //!   together, which the types say.
 //!
@@ -20,13 +21,18 @@
 //!
 //! - `history`: the one history, and the beginnings of it that were seen; `published` and `rule`: what readers look at, and which
 //!   rule each step over it keeps; `run`: how a batch of changes is run on what is published; `desk` and `commit`: what lies under the lock,
-//!   and what is done there; `recent`: boards that are kept from readers' hands; `outcome` and `gate`.
+//!   and what is done there; `recent`: boards that are kept from readers' hands; `outcome` and `gate`;
+//!   `laws`: a fact that follows from the contracts.
+//!
+//! A statement such as `let _place = seat.place();` has no effect when it runs. It brings what the call ensures, mostly an invariant of
+//! its value, into the proof, which fails without it.
 #![tactic(auto)]
 
 mod commit;
 mod desk;
 mod gate;
 mod history;
+mod laws;
 mod outcome;
 mod published;
 mod recent;
@@ -38,6 +44,7 @@ mod seat;
 pub use desk::NoSeat;
 pub use gate::{Gate, OpenGate, Point};
 pub use history::{Front, History, Naming, Opened};
+pub use laws::commits_law;
 pub use outcome::Outcome;
 pub use published::Published;
 pub use registry::Registry;

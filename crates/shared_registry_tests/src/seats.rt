@@ -52,6 +52,18 @@ NEW => number 6; place 0; calls 0
 6 SEAT => number 6; place 1; calls 0
 ";
 
+/// A seat has found its own commits, and those of others before them.
+const OWN_COMMITS: &str = "\
+NEW
+NEW
+0 FOUND show 1; show 2 AFTER create 1 n1 /web u:1 0 => answered at 1; shown 1.0; none
+0 SEAT => number 0; place 1; calls 1
+1 create 2 n1 /web u:2 0 => committed at 2; entry 2.0
+0 FOUND show 1; show 2; show 3 AFTER create 3 n1 /web u:3 0 => answered at 3; shown 1.0; shown 2.0; shown 3.0
+0 SEAT => number 0; place 3; calls 2
+1 FOUND show 1; show 3 AFTER delete 1 => answered at 4; none; shown 3.0
+";
+
 /// All seats of a registry, and one more, which isn't there after they are gone, either.
 const ALL_SEATS: &str = "\
 NEW => number 0; place 0; calls 0
@@ -113,6 +125,11 @@ fn a_seat_is_told_what_became_of_each_batch(rt: HostRuntime) -> Result<(), Fail>
 #[test]
 fn a_new_seat_sees_what_was_committed(rt: HostRuntime) -> Result<(), Fail> {
     plays(&rt, rt.alloc(), NEW_SEATS)
+}
+
+#[test]
+fn a_seat_has_found_its_own_commit(rt: HostRuntime) -> Result<(), Fail> {
+    plays(&rt, rt.alloc(), OWN_COMMITS)
 }
 
 #[test]

@@ -8,7 +8,9 @@ use crate::telling::{outcome_text, seat_text};
 use crate::turnstile::TURNS;
 use batch_texts::{batch, placed, reply_text};
 use entry_book::Batch;
-use shared_registry::{Answer, Gate, Naming, Opened, Receipt, Registry, Seat};
+use shared_registry::{
+    Answer, Gate, Naming, OpenGate, Opened, Outcome, Receipt, Registry, Seat, commits_law,
+};
 use spiffe_name::TrustDomain;
 use std::alloc::Global;
 use std::collections::VecDeque;
@@ -76,6 +78,36 @@ fn query<J: Naming>(
     drop(batch);
     seat.see_found();
     Ok(reply?)
+}
+
+/// Commits a batch of changes, and returns the answer to a query on what the seat has then found, without a look.
+fn query_after<J: Naming, R: Wait>(
+    rt: &R,
+    registry: &Registry<J>,
+    alloc: Global,
+    own: &TrustDomain,
+    seat: &mut Seat<J>,
+    changes: Batch,
+    query: &Batch,
+) -> Result<Answer, Failed>
+    requires { own.now ≡ J.domain }
+{
+    if changes.domain() != own || changes.is_query() || !seat.has_calls() {
+        return Err(Failed("a batch isn't to be handed in"));
+    }
+    if query.domain() != own || !query.is_query() {
+        return Err(Failed("a batch isn't for a query"));
+    }
+    commits_law();
+    match registry.submit(rt, seat, &OpenGate, changes, 1) {
+        Outcome::Committed(_, _) => {
+            let lent = seat.answer(query)?;
+            let reply = lent.kept(alloc);
+            drop(lent);
+            Ok(reply?)
+        }
+        _ => Err(Failed("a batch isn't committed")),
+    }
 }
 
 /// Learns a receipt. There is nothing here to wait with, either.
@@ -181,6 +213,22 @@ impl<'a, J: Naming, R: Wait + Clock> Site<'a, J, R> {
         self.does(seat, gate, batch, tries)
     }
 
+    /// The answer to a query, without a look, after the changes that stand behind it are committed, as in `show 1 AFTER delete 2`.
+    fn asks_after(&self, seat: &mut Seat<J>, text: &str) -> Result<String, Failed> {
+        let (query, changes) = text.split_once(" AFTER ").unwrap_or((text, ""));
+        let (query, changes) = (batch(self.alloc, query)?, batch(self.alloc, changes)?);
+        let reply = query_after(
+            self.rt,
+            &self.registry,
+            self.alloc,
+            &self.domain,
+            seat,
+            changes,
+            &query,
+        )?;
+        Ok(reply_text(self.alloc, reply.get())?)
+    }
+
     /// What becomes of the last of so many batches.
     fn runs_often(
         &self,
@@ -237,8 +285,8 @@ impl<'a, J: Naming, R: Wait + Clock> Site<'a, J, R> {
     }
 
     /// What is told to a seat, with the mailbox of a number, that says a line: `SEND 2` sends a receipt to mailbox 2, `TAKE` waits
-    /// for a letter and learns its receipt, `SEAT` tells the seat, `TIMES 3` runs the batch behind it so often; other lines run a
-    /// batch, whose changes pass the gate.
+    /// for a letter and learns its receipt, `SEAT` tells the seat, `TIMES 3` runs the batch behind it so often, `FOUND show 1 AFTER
+    /// delete 2` commits the changes and queries without a look; other lines run a batch, whose changes pass the gate.
     pub fn answer<G: Gate>(
         &self,
         seat: &mut Seat<J>,
@@ -252,6 +300,7 @@ impl<'a, J: Naming, R: Wait + Clock> Site<'a, J, R> {
             "TAKE" => self.takes(seat, number),
             "SEAT" => seat_text(self.alloc, seat),
             "TIMES" => self.runs_often(seat, gate, rest),
+            "FOUND" => self.asks_after(seat, rest),
             _ => self.runs(seat, gate, line),
         }
     }
