@@ -6,7 +6,7 @@ use Rattle.commit_head.specs.declared.item.Item.{Item}
 use Rattle.commit_head.specs.Journals.{IsLawfulJournal}
 use Rattle.shared_registry.specs.Seats.{AllBelow, calls_of}
 
--- The seat's number, how many calls it has made, the journal that it has seen, the longest that it was told of, the numbers of its own committed calls, and the journal that it found published when it last looked, or was made.
+-- The seat's number, how many calls it has made, the journal that it has seen, the longest that it was told of, the numbers of its own committed calls, and the journal of the page that it has: what it found published when it last looked or was made, or what its own commit has made since then.
 pub record Seated : Type 0 where
   pub number : ℕ
   pub calls : ℕ

@@ -32,9 +32,10 @@ pub record IsOf (history : WordBook) (domain : Bytes) (shown : Shown) : Type 0 w
   pub history_is : shown.history ≡ history
   pub domain_is : shown.window.newest.domain ≡ domain
 
--- what is published is of this history and trust domain, and begins with what each pass has seen
+-- What is published is of this history and trust domain, and begins with what each pass of a reader or of the writer has seen. No invariant of a seat uses what its pass has seen: the lists of a seat are tokens of the history.
 abbrev pub Keeps : WordBook → Bytes → Shown → List (List Item) → Type 0
 Keeps history domain x views = IsOf history domain x × ((k : ℕ) (v : List Item) → get_elem? views k ≡ some v → IsPrefix v x.journal)
 
+-- a step after which the pass has seen what is published
 abbrev pub Saw : WordBook → Bytes → List Item → Shown → List Item → Type 0
 Saw history domain v y w = IsOf history domain y × IsPrefix v y.journal × (w ≡ y.journal)

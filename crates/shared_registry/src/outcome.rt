@@ -2,7 +2,8 @@
 
 use entry_book::{OpReply, Reply, Sequence, Shared};
 
-/// What became of a batch of changes. After all but the first, nothing of the batch is in the book that wasn't there before.
+/// What became of a batch of changes. After all but the first, no item that the seat has seen, or sees later, has the seat's number and
+/// the number of this call. No clause says that the same batch isn't committed by another call.
 #[derive(Drop)]
 pub enum Outcome {
     /// The changes are made, at this place; the answers to the operations, in order.

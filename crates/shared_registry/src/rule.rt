@@ -7,7 +7,8 @@ use crossbeam_utils::rule::{Outcome, Protocol};
 use std::collections::LinkedList;
 use std::marker::PhantomData;
 
-/// What a pass has seen. No value of it is made.
+/// What a pass of a reader or of the writer has seen. No value of it is made, and no invariant of a seat speaks of it: what a seat has
+/// seen is a `Front`, a token of the history.
 pub type View = LinkedList<Item>;
 
 /// What is published is of this history and trust domain, and begins with what each pass has seen.
@@ -22,7 +23,8 @@ impl<J: Naming> Protocol<Published, View> for Rule<J> {
     ghost first = { [] };
 }
 
-/// A step after which the pass has seen what is published.
+/// A step after which the pass has seen what is published. A seat uses only one fact of it: what is published is of this history and
+/// trust domain.
 pub struct Sees<J: Naming>(PhantomData<J>);
 
 impl<J: Naming> Outcome<Published, View> for Sees<J> {

@@ -59,7 +59,8 @@ impl<J: Naming> Model for Receipt<J> {
 /// One caller of a registry: its number, how many calls it has made, and what it has seen. Contracts see the lists; a program
 /// asks for their lengths.
 ///
-/// A seat keeps what it last found published, and takes what is published anew only where its number of items is another one.
+/// A seat keeps what it last found published, or what its own commit published since then. It takes what is published anew only where
+/// that has another number of items.
 #[derive(Drop)]
 pub struct Seat<J: Naming> {
     alloc: Global,
