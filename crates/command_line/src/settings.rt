@@ -224,7 +224,7 @@ fn listen_command<'a>(alloc: Global) -> Result<Command<'a>, AllocError>
 {
     Command::new(alloc, "serve")
         .about(
-            "Serves connections over TCP: request lines and their answers, by several workers at a time",
+            "Answers request lines over TCP, by several workers at a time, and ends when its last connection has ended",
         )
         .arg(domain_option(alloc))?
         .arg(listen_option(alloc))

@@ -1,26 +1,35 @@
-//! Which connection goes to which worker, and what of a connection that can't be accepted?
+//! Which connection goes to which worker, and what happens after an error of `accept`?
 
-ghost use Rattle.std.specs.Prelude.{◌≡◌, ◌<◌, ◌%◌, length};
+ghost use Rattle.std.specs.Prelude.{◌≡◌, ◌<◌, ◌≤◌, ◌+◌, ◌%◌, Ok, Err, false, length, true};
+ghost use Rattle.reg_programs.specs.declared.accept_fault.AcceptFault.TheVariants.{Connection as OfConnection, Shortage as OfShortage, Listener as OfListener};
+ghost use Rattle.reg_programs.specs.declared.serve_fault.ServeFault.TheVariants.{Accept};
 
+use crate::accept_fault::AcceptFault;
 use crate::queue::{Connection, Queue};
 use crate::serve_fault::ServeFault;
-use std::net::{TcpListener, TcpStream};
+use std::net::{OpenListener, TcpStream};
 use std::sync::Wait;
+use std::thread;
 use std::time::{Clock, Duration};
-use std::{io, thread};
 
-/// Accepts so many connections, in order, and puts connection j, counted from 0, into queue j mod N of N. Where memory is
-/// wanting to put one, it is closed, and the others go on. The listener is closed in the end.
-pub(crate) fn accept_all<R: Wait + Clock>(
+/// How many shortages in a row end a server that has accepted no connection yet.
+const MOST_SHORTAGES: u32 = 1_000;
+
+/// Accepts this many connections, in order, and puts connection j, counted from 0, into queue j mod N of N. If an allocation fails
+/// when one is put, it is closed, and the others go on. The listener is closed in the end.
+///
+/// After an error of one connection it tries again, ten milliseconds later. So it does after a shortage: once a connection was
+/// accepted, without a limit, because an end would lose the book; before that, at most 999 times in a row. Any other error ends it.
+pub(crate) fn accept_all<R: Wait + Clock, L: OpenListener<Stream = TcpStream> + Drop>(
     rt: &R,
-    listener: TcpListener,
+    listener: L,
     queues: &[Queue],
     connections: u64,
 ) -> Result<(), ServeFault>
     requires { 0 < length queues.now }
 {
     for number in 0..connections {
-        let stream = next_stream(rt, &listener)?;
+        let stream = next_stream(rt, &listener, number > 0)?;
         let queue = &queues[worker_of(number, queues.len())];
         let _ = queue.put(rt, Connection { number, stream });
     }
@@ -36,27 +45,41 @@ fn worker_of(number: u64, workers: usize) -> usize
     (number % workers as u64) as usize
 }
 
-/// The next connection. Where there is no room for it just now, this tries again, ten milliseconds later.
-fn next_stream<R: Wait + Clock>(rt: &R, listener: &TcpListener) -> Result<TcpStream, ServeFault> {
+/// The next connection. `has_accepted` says whether one was accepted before.
+fn next_stream<R: Wait + Clock, L: OpenListener<Stream = TcpStream>>(
+    rt: &R,
+    listener: &L,
+    has_accepted: bool,
+) -> Result<TcpStream, ServeFault> {
+    let mut shortages = 0;
     for _ in rt.forever() {
-        match listener.accept() {
+        let error = match listener.accept() {
             Ok((stream, _)) => return Ok(stream),
-            Err(error) if is_passing(&error) => {
-                let _ = thread::sleep(rt, Duration::from_millis(10));
-            }
-            Err(_) => return Err(ServeFault::Accept),
-        }
+            Err(error) => error,
+        };
+        shortages = shortages_after(AcceptFault::of(&error), shortages, has_accepted)?;
+        thread::sleep(rt, Duration::from_millis(10));
     }
     unreachable!()
 }
 
-/// Does a failed accept say nothing of the listener? The connection may have ended while it waited (ECONNABORTED), or what its
-/// network told of it may come in its place, as accept(2) of Linux says (ENONET, EPROTO, ENOPROTOOPT, EOPNOTSUPP, ENETDOWN,
-/// ENETUNREACH, EHOSTDOWN, EHOSTUNREACH, and EPERM of a firewall). And the process or the machine may have no descriptor (EMFILE,
-/// ENFILE) or no memory (ENOMEM, ENOBUFS) for it just now.
-fn is_passing(error: &io::Error) -> bool {
-    matches!(
-        error.raw_os_error(),
-        Some(1 | 12 | 23 | 24 | 64 | 71 | 92 | 95 | 100 | 101 | 103 | 105 | 112 | 113)
-    )
+/// How many shortages have come in a row with this error, if `accept` is to be tried again. Once a connection was accepted they
+/// aren't counted.
+fn shortages_after(
+    fault: AcceptFault,
+    shortages: u32,
+    has_accepted: bool,
+) -> Result<u32, ServeFault>
+    ensures connection { fault ≡ OfConnection → result ≡ Ok 0 }
+    ensures accepted { fault ≡ OfShortage → has_accepted ≡ true → result ≡ Ok 0 }
+    ensures borne { fault ≡ OfShortage → has_accepted ≡ false → shortages + 1 < 1000 → result ≡ Ok (shortages + 1) }
+    ensures last { fault ≡ OfShortage → has_accepted ≡ false → 1000 ≤ shortages + 1 → result ≡ Err Accept }
+    ensures listener { fault ≡ OfListener → result ≡ Err Accept }
+{
+    match fault {
+        AcceptFault::Connection => Ok(0),
+        AcceptFault::Shortage if has_accepted => Ok(0),
+        AcceptFault::Shortage if shortages < MOST_SHORTAGES - 1 => Ok(shortages + 1),
+        AcceptFault::Shortage | AcceptFault::Listener => Err(ServeFault::Accept),
+    }
 }

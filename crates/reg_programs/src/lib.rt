@@ -7,11 +7,13 @@
 //! - [`session`]: the lines of one connection, answered through a seat of a shared registry; [`sessions_law`]: what the
 //!   seat has seen only grows.
 //! - [`serve`]: the program `regd serve`, a session for each connection; [`serve_connections`]: the same at a listener that is
-//!   there already, with the workers' seats ([`seats_of`]) and a [`Queue`] of connections for each ([`queues_of`]).
+//!   there already, with the workers' seats ([`seats_of`]) and a [`Queue`] of connections for each ([`queues_of`]); a [`QueueState`]
+//!   says which worker sleeps.
 //! - [`ServeFault`]: why a server ended before its last connection did.
 //! - [`Ended`]: how a run ended; [`status`]: its exit status; [`Told`]: what standard error gets.
 #![tactic(auto)]
 
+mod accept_fault;
 mod acceptor;
 mod ended;
 mod programs;
@@ -28,7 +30,7 @@ pub use line_engines::{
     run_lines, schedule,
 };
 pub use programs::run_settings;
-pub use queue::{Queue, queues_of};
+pub use queue::{Queue, QueueState, queues_of};
 pub use serve_fault::ServeFault;
 pub use server::{seats_of, serve, serve_connections};
 pub use session_engine::{session, sessions_law};

@@ -27,9 +27,21 @@ impl Connection {
     }
 }
 
+/// What a queue is like at a moment.
+#[derive(Clone, Copy, Debug, PartialEq, Eq, Drop)]
+pub struct QueueState {
+    /// How many connections wait.
+    pub waiting: usize,
+    /// The worker has come for the next connection: it sleeps if none waits and the queue is open.
+    pub has_worker: bool,
+    /// No connection comes any more.
+    pub is_closed: bool,
+}
+
 #[derive(Drop)]
 struct Waiting {
     connections: VecDeque<Connection>,
+    has_worker: bool,
     is_closed: bool,
 }
 
@@ -46,13 +58,24 @@ impl Queue {
         Queue {
             waiting: Mutex::new(Waiting {
                 connections: VecDeque::new(alloc),
+                has_worker: false,
                 is_closed: false,
             }),
             changed: Condvar::new(),
         }
     }
 
-    /// Puts a connection behind those that wait. The error is want of memory: the connection is closed then.
+    /// What it is like at the moment. It waits for the lock alone.
+    pub fn state<R: Wait>(&self, rt: &R) -> QueueState {
+        let waiting = self.waiting.lock(rt);
+        QueueState {
+            waiting: waiting.connections.len(),
+            has_worker: waiting.has_worker,
+            is_closed: waiting.is_closed,
+        }
+    }
+
+    /// Puts a connection behind those that wait. The error is a failed allocation: the connection is closed then.
     pub(crate) fn put<R: Wait>(&self, rt: &R, connection: Connection) -> Result<(), AllocError> {
         let mut waiting = self.waiting.lock(rt);
         let put = waiting.connections.push_back(connection);
@@ -72,14 +95,17 @@ impl Queue {
 
     /// Waits for the next connection; none once the queue is closed and no connection waits.
     pub(crate) fn take<R: Wait>(&self, rt: &R) -> Option<Connection> {
-        let mut waiting = self.changed.wait_while(rt, self.waiting.lock(rt), |w| {
+        let mut waiting = self.waiting.lock(rt);
+        waiting.has_worker = true;
+        let mut waiting = self.changed.wait_while(rt, waiting, |w| {
             w.connections.is_empty() && !w.is_closed
         });
+        waiting.has_worker = false;
         waiting.connections.pop_front()
     }
 }
 
-/// A queue for each of so many workers. The error is want of memory.
+/// A queue for each of so many workers. The error is a failed allocation.
 pub fn queues_of(alloc: Global, workers: usize) -> Result<Vec<Queue>, AllocError>
     ensures { IfOk result (λ queues. vec_len queues ≡ workers) }
 {

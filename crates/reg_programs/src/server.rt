@@ -11,7 +11,7 @@ use reg_lines::{CountedDevice, Input, Output};
 use shared_registry::{Naming, Opened, Registry, Seat};
 use spiffe_name::TrustDomain;
 use std::alloc::Global;
-use std::net::{Net, SocketAddr, TcpListener, TcpStream};
+use std::net::{Net, OpenListener, SocketAddr, TcpListener, TcpStream};
 use std::sync::Wait;
 use std::thread::Threads;
 use std::time::Clock;
@@ -114,10 +114,14 @@ fn tell<R: Print>(rt: &R, address: SocketAddr) -> io::Result<()> {
 }
 
 /// Starts a worker with one of the seats for each queue, accepts the connections, and returns when all workers have ended. The
-/// listener is closed behind the last connection, so that whoever calls later is refused at once, and not kept waiting. Where no
-/// thread is to be had for a worker, memory is said to be wanting, and no connection is accepted. It waits for connections and for
-/// what they carry, and nothing is promised of its end.
-pub fn serve_connections<J: Naming + Send + Sync, R: Threads + Wait + Clock + Sync>(
+/// listener is closed behind the last connection, so that whoever calls later is refused at once, and not kept waiting. If a
+/// worker's thread can't be started, the error is [`ServeFault::NoMemory`], and no connection is accepted. It waits for connections
+/// and for what they carry, and nothing is promised of its end.
+pub fn serve_connections<
+    J: Naming + Send + Sync,
+    R: Threads + Wait + Clock + Sync,
+    L: OpenListener<Stream = TcpStream> + Drop,
+>(
     rt: &R,
     alloc: Global,
     registry: &Registry<J>,
@@ -125,7 +129,7 @@ pub fn serve_connections<J: Naming + Send + Sync, R: Threads + Wait + Clock + Sy
     seed: [u8; 32],
     mut seats: Vec<Seat<J>>,
     queues: &[Queue],
-    listener: TcpListener,
+    listener: L,
     connections: u64,
 ) -> Result<(), ServeFault>
     requires domain { domain.now ≡ J.domain }
