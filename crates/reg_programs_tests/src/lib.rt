@@ -7,10 +7,16 @@
 //!   `refusals`, `ids`, `limits`, `pages`, `places`, `tokens`, `runs` (request lines), `schedules` (event lines), `records` and
 //!   `audits` (recorded calls).
 //! - `failing`: runs over a reader or a writer that fails.
-//! - `sessions`: the lines of one connection over memory; `serving`: a server over TCP, both ends in one process.
+//! - `sessions`: the lines of one connection over memory.
+//! - `hosting`: a server over TCP and its callers, both ends in one process, with a listener and a runtime that do as told (`staged`). On
+//!   it stand `serving` (what callers get), `accepting` (errors of `accept`) and `announcing` (the address that is printed).
 //! - `wanted`: what a test wants to see.
 #![tactic(auto)]
 
+#[cfg(test)]
+mod accepting;
+#[cfg(test)]
+mod announcing;
 #[cfg(test)]
 mod audits;
 #[cfg(test)]
@@ -19,6 +25,8 @@ mod command_lines;
 mod engine;
 #[cfg(test)]
 mod failing;
+#[cfg(test)]
+mod hosting;
 #[cfg(test)]
 mod ids;
 #[cfg(test)]
@@ -43,6 +51,8 @@ mod schedules;
 mod serving;
 #[cfg(test)]
 mod sessions;
+#[cfg(test)]
+mod staged;
 #[cfg(test)]
 mod story;
 #[cfg(test)]

@@ -1,0 +1,283 @@
+//! A server over TCP and those who call it, both ends in one process.
+
+ghost use Rattle.std.specs.Prelude.{◌≡◌, ◌<◌, length, vec_len};
+
+use crate::staged::{Staged, TURNS, Watched, become_closed};
+use reg_programs::{Queue, ServeFault, queues_of, seats_of, serve_connections};
+use shared_registry::{Naming, Opened, Registry, Seat};
+use spiffe_name::TrustDomain;
+use std::alloc::Global;
+use std::io::{Read, Write};
+use std::marker::Brand;
+use std::net::{Ipv4Addr, Net, Shutdown, SocketAddr, SocketAddrV4, TcpListener, TcpStream};
+use std::sync::Wait;
+use std::sync::atomic::{AtomicU64, Ordering};
+use std::test::Fail;
+use std::thread::Threads;
+use std::time::{Clock, Duration};
+use std::{io, thread};
+
+/// How a server is run.
+#[derive(Clone, Copy)]
+pub struct Plan<'a> {
+    pub workers: usize,
+    pub connections: u64,
+    /// What the calls of `accept` return in turn, as [`Staged`] says.
+    pub errors: &'a [i32],
+    /// Before each call of `accept` returns, all workers sleep.
+    pub waits: bool,
+}
+
+/// What became of a server.
+#[derive(Drop)]
+pub struct Hosted {
+    pub ended: Result<(), ServeFault>,
+    /// What its callers were answered, one behind the other.
+    pub answers: String,
+    /// How often it called `accept`.
+    pub accepts: u64,
+    /// How often it paused.
+    pub pauses: u64,
+}
+
+/// Those who call a server.
+pub trait Callers {
+    /// Calls the server, and adds what is answered.
+    fn call<R: Wait + Clock + Net<Listener = TcpListener, Stream = TcpStream>>(
+        &self,
+        rt: &R,
+        address: SocketAddr,
+        queues: &[Queue],
+        answers: &mut String,
+    ) -> io::Result<()>;
+}
+
+/// Each sends a text and reads to the end, one after another.
+#[derive(Drop)]
+pub struct InTurn(pub &'static [&'static str]);
+
+/// The second one sends a text and reads to the end, while the first one is silent.
+#[derive(Drop)]
+pub struct BesideASilentOne(pub &'static str);
+
+/// The second one waits behind the first one until all queues are closed. Then the first one, which was silent, ends.
+#[derive(Drop)]
+pub struct BehindASilentOne(pub &'static str);
+
+impl Callers for InTurn {
+    fn call<R: Wait + Clock + Net<Listener = TcpListener, Stream = TcpStream>>(
+        &self,
+        rt: &R,
+        address: SocketAddr,
+        _queues: &[Queue],
+        answers: &mut String,
+    ) -> io::Result<()> {
+        for text in self.0 {
+            exchange(&TcpStream::connect(rt, address)?, text, answers)?;
+        }
+        Ok(())
+    }
+}
+
+impl Callers for BesideASilentOne {
+    fn call<R: Wait + Clock + Net<Listener = TcpListener, Stream = TcpStream>>(
+        &self,
+        rt: &R,
+        address: SocketAddr,
+        _queues: &[Queue],
+        answers: &mut String,
+    ) -> io::Result<()> {
+        let _silent = TcpStream::connect(rt, address)?;
+        exchange(&TcpStream::connect(rt, address)?, self.0, answers)
+    }
+}
+
+impl Callers for BehindASilentOne {
+    fn call<R: Wait + Clock + Net<Listener = TcpListener, Stream = TcpStream>>(
+        &self,
+        rt: &R,
+        address: SocketAddr,
+        queues: &[Queue],
+        answers: &mut String,
+    ) -> io::Result<()> {
+        let silent = TcpStream::connect(rt, address)?;
+        let waiting = TcpStream::connect(rt, address)?;
+        send(&waiting, self.0)?;
+        if !become_closed(rt, queues) {
+            return Err(io::Error::from(io::ErrorKind::TimedOut));
+        }
+        drop(silent);
+        receive(&waiting, answers)
+    }
+}
+
+/// Sends a text, and ends its side.
+fn send(mut stream: &TcpStream, text: &str) -> io::Result<()> {
+    stream.write_all(text.as_bytes())?;
+    stream.shutdown(Shutdown::Write)
+}
+
+/// Reads to the end, for at most ten seconds.
+fn receive(mut stream: &TcpStream, answers: &mut String) -> io::Result<()> {
+    stream.set_read_timeout(Some(Duration::from_millis(1)))?;
+    let mut part = [0; 4096];
+    for _ in 0..TURNS {
+        match stream.read(&mut part) {
+            Ok(0) => return Ok(()),
+            Ok(count) => answers.push_str(str::from_utf8(&part[..count]).unwrap_or("?"))?,
+            Err(error) if error.kind() == io::ErrorKind::WouldBlock => {}
+            Err(error) => return Err(error),
+        }
+    }
+    Err(io::Error::from(io::ErrorKind::TimedOut))
+}
+
+/// Sends a text, ends its side, and reads what is answered.
+pub fn exchange(stream: &TcpStream, text: &str, answers: &mut String) -> io::Result<()> {
+    send(stream, text)?;
+    receive(stream, answers)
+}
+
+/// What the callers are answered.
+fn answers_of<R: Wait + Clock + Net<Listener = TcpListener, Stream = TcpStream>, C: Callers>(
+    rt: &R,
+    alloc: Global,
+    address: SocketAddr,
+    queues: &[Queue],
+    callers: &C,
+) -> io::Result<String> {
+    let mut answers = String::new(alloc);
+    callers.call(rt, address, queues, &mut answers)?;
+    Ok(answers)
+}
+
+/// Runs a server with a book of its own, and its callers.
+pub fn host<
+    R: Threads + Wait + Clock + Net<Listener = TcpListener, Stream = TcpStream> + Sync,
+    C: Callers,
+>(rt: &R, alloc: Global, plan: Plan<'_>, callers: &C) -> Result<Hosted, Fail>
+    requires workers { 0 < plan.workers }
+{
+    let domain = TrustDomain::parse(alloc, "ex.org")?;
+    let kept = domain.clone()?;
+    host_by::<Brand, _, _>(rt, alloc, Opened::new(), kept, &domain, plan, callers)
+}
+
+fn host_by<
+    J: Naming + Send + Sync,
+    R: Threads + Wait + Clock + Net<Listener = TcpListener, Stream = TcpStream> + Sync,
+    C: Callers,
+>(
+    rt: &R,
+    alloc: Global,
+    opened: Opened,
+    kept: TrustDomain,
+    domain: &TrustDomain,
+    plan: Plan<'_>,
+    callers: &C,
+) -> Result<Hosted, Fail>
+    requires history { opened.seen.book ≡ J.history }
+    requires kept { kept ≡ J.domain }
+    requires domain { domain.now ≡ J.domain }
+    requires workers { 0 < plan.workers }
+{
+    let registry = Registry::<J>::new(alloc, opened, kept)?;
+    let hosted = on_a_port(rt, alloc, &registry, domain, plan, callers);
+    registry.close(rt);
+    hosted
+}
+
+fn on_a_port<
+    J: Naming + Send + Sync,
+    R: Threads + Wait + Clock + Net<Listener = TcpListener, Stream = TcpStream> + Sync,
+    C: Callers,
+>(
+    rt: &R,
+    alloc: Global,
+    registry: &Registry<J>,
+    domain: &TrustDomain,
+    plan: Plan<'_>,
+    callers: &C,
+) -> Result<Hosted, Fail>
+    requires domain { domain.now ≡ J.domain }
+    requires workers { 0 < plan.workers }
+{
+    let listener = TcpListener::bind(rt, SocketAddrV4::new(Ipv4Addr::LOCALHOST, 0))?;
+    let queues = queues_of(alloc, plan.workers)?;
+    let Ok(seats) = seats_of(rt, alloc, registry, plan.workers) else {
+        return Err(Fail::from("no seats"));
+    };
+    both(
+        rt,
+        alloc,
+        registry,
+        domain,
+        seats,
+        queues.as_slice(),
+        listener,
+        plan,
+        callers,
+    )
+}
+
+/// The server and its callers, side by side.
+fn both<
+    J: Naming + Send + Sync,
+    R: Threads + Wait + Clock + Net<Listener = TcpListener, Stream = TcpStream> + Sync,
+    C: Callers,
+>(
+    rt: &R,
+    alloc: Global,
+    registry: &Registry<J>,
+    domain: &TrustDomain,
+    seats: Vec<Seat<J>>,
+    queues: &[Queue],
+    real: TcpListener,
+    plan: Plan<'_>,
+    callers: &C,
+) -> Result<Hosted, Fail>
+    requires domain { domain.now ≡ J.domain }
+    requires workers { 0 < length queues.now }
+    requires seats { vec_len seats ≡ length queues.now }
+{
+    let address = real.local_addr()?;
+    let watched = Watched::new(rt, alloc);
+    let runtime = &watched;
+    let calls = AtomicU64::new(0);
+    let listener = Staged {
+        rt,
+        real,
+        queues,
+        errors: plan.errors,
+        waits: plan.waits,
+        calls: &calls,
+    };
+    let connections = plan.connections;
+    let (ended, answers) = thread::join(
+        rt,
+        ||
+            requires domain { domain.now ≡ J.domain }
+            requires workers { 0 < length queues.now }
+            requires seats { vec_len seats ≡ length queues.now }
+        {
+            serve_connections(
+                runtime,
+                alloc,
+                registry,
+                domain,
+                [0; 32],
+                seats,
+                queues,
+                listener,
+                connections,
+            )
+        },
+        || answers_of(rt, alloc, address, queues, callers),
+    );
+    Ok(Hosted {
+        ended,
+        answers: answers?,
+        accepts: calls.load(Ordering::SeqCst),
+        pauses: watched.pauses(),
+    })
+}
