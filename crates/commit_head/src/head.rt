@@ -23,10 +23,11 @@ fn push_reserved(items: &mut Vec<Item>, item: Item)
     };
 }
 
-/// Drops all items but the last 64, and answers how many it dropped.
+/// Drops all items but the last 64, and answers how many it dropped. The capacity stays.
 fn drop_older(items: &mut Vec<Item>) -> usize
     ensures dropped { result + length items.new.items ≡ length items.old.items }
     ensures kept { items.new.items ≡ last_items items.old.items }
+    ensures capacity { vec_capacity items.new ≡ vec_capacity items.old }
 {
     let dropped = items.len().saturating_sub(64);
     items.drain(..dropped);
@@ -162,11 +163,13 @@ impl Head {
         }
     }
 
-    /// Drops all items but the last 64, and answers how many it dropped. Place, window and versions stay. Takes no memory.
+    /// Drops all items but the last 64, and answers how many it dropped. Place, window and versions stay, and the room is no
+    /// less, so that a commit that was prepared before can still be finished. Takes no memory.
     pub fn checkpoint(&mut self) -> u64
         ensures dropped { result + length self.new.kept ≡ length self.old.kept }
         ensures kept { self.new.kept ≡ last_items self.old.kept }
         ensures window { self.new.window ≡ self.old.window }
+        ensures room { self.old.room ≤ self.new.room }
     {
         drop_older(&mut self.kept) as u64
     }
