@@ -7,7 +7,7 @@
 //! - [`Head`]: the one place where the book changes: the window that is handed to those who begin, and the journal.
 //! - [`Item`]: what the journal has of one commit: seat, call, batch, replies and writes.
 //! - [`Commit`]: what became of a commit. [`Prepared`]: one that has passed its checks and has all its memory, so that it can be
-//!   shown to others before it is finished.
+//!   shown to others before it is finished. [`Window`]: the window that a head shows.
 //! - [`laws`]: what a head's journal says of its versions and of the plain book, and how the version on which a work began stays
 //!   an earlier one of its history.
 //!
@@ -25,6 +25,7 @@ pub mod laws;
 mod prepare;
 mod prepared;
 
+pub use batch_work::Window;
 pub use commit::Commit;
 pub use head::Head;
 pub use item::Item;
