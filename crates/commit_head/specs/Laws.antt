@@ -1,10 +1,12 @@
 -- The laws of journals and heads. Each is a clause of a function of the module `laws`.
-use Rattle.std.specs.Prelude.{◌≡◌, ℕ, ◌+◌, List, [], ◌∷◌, ◌++◌, length, Option, Some}
+use Rattle.std.specs.Prelude.{◌≡◌, ℕ, ◌+◌, ◌≤◌, ◌^◌, List, [], ◌∷◌, ◌++◌, length, Option, Some}
 use Rattle.entry_book.specs.Rows.{Bytes}
 use Rattle.entry_book.specs.declared.reply.Outcome.TheVariants.{Committed}
+use Rattle.entry_book.specs.Batches.{Batch, IsMadeFor}
 use Rattle.entry_book.specs.History.{books_after, books_of, reply_to}
 use Rattle.version_book.specs.CommittedRows.{State}
 use Rattle.version_book.specs.History.{Follows, IsLast}
+use Rattle.batch_work.specs.Reads.{footprint_of}
 use Rattle.batch_work.specs.Working.{Base}
 use Rattle.commit_head.specs.declared.item.Item.{Item}
 use Rattle.commit_head.specs.Heads.{BeganOn, Head, IsAppended, IsJournal, Stays, last_items, newest_of, place_of}
@@ -49,6 +51,10 @@ JournalLast = (items : List Item) (h : Head) → IsJournal items h → IsLast (n
 -- a journal in which no two items have the same seat and call is a lawful one
 abbrev pub JournalIsLawful : Type 0
 JournalIsLawful = (own : Bytes) (items : List Item) (s : State) → Leads (first_state own) items s → EachCallOnce items → IsLawfulJournal own items
+
+-- on the list of a journal's books no batch makes more reads than this number
+abbrev pub JournalReadsFew : Type 0
+JournalReadsFew = (own : Bytes) (items : List Item) (s : State) (batch : Batch) → Leads (first_state own) items s → IsMadeFor own batch → length (footprint_of batch (books_of (batches_of items))) ≤ 2 ^ 21
 
 -- a checkpoint leaves the journal as it was
 abbrev pub JournalStays : Type 0

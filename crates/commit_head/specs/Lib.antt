@@ -1,3 +1,4 @@
 pub mod Heads
 pub mod Journals
 pub mod Laws
+pub mod Outcomes

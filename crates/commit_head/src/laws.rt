@@ -1,9 +1,10 @@
 //! Which laws hold of journals and heads?
 //!
-//! Each function does nothing. What it ensures is a law of the definitions, stated in `specs/Laws.antt`; a caller
-//! that calls it may rest on the law.
+//! Each function does nothing. What it ensures is a law of the definitions, stated in `specs/Laws.antt` or
+//! `specs/Outcomes.antt`; a caller that calls it may rest on the law.
 
-ghost use Rattle.commit_head.specs.Laws.{BeganGoesOn, BeganHere, BeganInside, BeganKept, BeganStays, ItemsFollow, JoinsOnBooks, JournalBegins, JournalGoesOn, JournalIsLawful, JournalKept, JournalLast, JournalStays, LeadsInParts, LeadsToOne, WholeJournal};
+ghost use Rattle.commit_head.specs.Laws.{BeganGoesOn, BeganHere, BeganInside, BeganKept, BeganStays, ItemsFollow, JoinsOnBooks, JournalBegins, JournalGoesOn, JournalIsLawful, JournalKept, JournalLast, JournalReadsFew, JournalStays, LeadsInParts, LeadsToOne, WholeJournal};
+ghost use Rattle.commit_head.specs.Outcomes.{CommitOnBooks};
 
 /// What a head's journal says of its versions and of the plain book.
 pub fn journals()
@@ -18,6 +19,12 @@ pub fn journals()
     ensures whole { WholeJournal }
     ensures last { JournalLast }
     ensures lawful { JournalIsLawful }
+    ensures few { JournalReadsFew }
+{}
+
+/// What a head's answer to a commit says in the words of the plain book.
+pub fn commits()
+    ensures { CommitOnBooks }
 {}
 
 /// How the version on which a work began stays an earlier one of a head's history.

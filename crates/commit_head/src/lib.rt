@@ -12,7 +12,8 @@
 //!   an earlier one of its history.
 //!
 //! The definitions stand in `specs/`: items and where they lead in `Journals`, what a head is and what a commit does to it in
-//! `Heads`, the laws in `Laws`. Nothing outside this crate knows how a commit is checked:
+//! `Heads`, what its answer says of the plain book in `Outcomes`, the laws in `Laws`. Nothing outside this crate knows how a
+//! commit is checked:
 //!
 //! - `check`: whether a later batch wrote what a work has read; `prepare`: what a work that is ready comes to.
 #![tactic(auto)]

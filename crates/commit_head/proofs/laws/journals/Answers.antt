@@ -1,4 +1,5 @@
 use Rattle.commit_head.proofs.Begun.{journal_kept, journal_stays}
+use Rattle.commit_head.proofs.FewReads.{journal_reads_few}
 use Rattle.commit_head.proofs.Journals.{items_follow, joins_on_books, journal_begins, journal_goes_on, journal_is_lawful, journal_last, leads_in_parts, leads_to_one, whole_journal}
 use Rattle.commit_head.proofs.laws.journals.Goals as goal
 
@@ -15,4 +16,5 @@ returns c = record {
   whole = whole_journal;
   last = journal_last;
   lawful = journal_is_lawful;
+  few = journal_reads_few;
 }

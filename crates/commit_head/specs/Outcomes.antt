@@ -1,0 +1,59 @@
+-- What a commit comes to, in the words of the plain book.
+use Rattle.std.specs.Prelude.{◌≡◌, ℕ, ◌+◌, ◌≤◌, true, List, [], ◌∷◌, ◌++◌, length, take, Some}
+use Rattle.entry_book.specs.declared.reply.Outcome.TheVariants.{Committed as WasCommitted, Refused as WasRefused}
+use Rattle.entry_book.specs.declared.reply.Refusal.TheVariants.{Full as TooMuch}
+use Rattle.entry_book.specs.Rows.{Bytes}
+use Rattle.entry_book.specs.Order.{Within}
+use Rattle.entry_book.specs.Writes.{RowWrite}
+use Rattle.entry_book.specs.Batches.{Batch, IsMadeFor}
+use Rattle.entry_book.specs.History.{books_after, books_of, last_book, reply_to}
+use Rattle.version_book.specs.declared.mark.MarkKind.{MarkKind}
+use Rattle.version_book.specs.History.{writes_of}
+use Rattle.version_book.specs.Marks.{hits}
+use Rattle.batch_work.specs.declared.status.Status.TheVariants.{Ready}
+use Rattle.batch_work.specs.Working.{Base, Work, footprint_there, status_of}
+use Rattle.commit_head.specs.declared.commit.Commit.{Commit}
+use Rattle.commit_head.specs.declared.commit.Commit.TheVariants.{Conflict, Full, Committed, NoMemory}
+use Rattle.commit_head.specs.declared.item.Item.{Item}
+use Rattle.commit_head.specs.Heads.{Head, IsCommit, IsItemOf, IsJournal}
+use Rattle.commit_head.specs.Journals.{Leads, batches_of, first_state}
+
+-- These committed batches have one, `other`, that was committed as book `length before + 1`, which is after book `base`. One of its writes, on the book that it found, hits one of these marks.
+pub record IsHitSince (journal : List Batch) (base : ℕ) (marks : List MarkKind) : Type 0 where
+  pub before : List Batch
+  pub other : Batch
+  pub later : List Batch
+  pub split : journal ≡ before ++ other ∷ later
+  pub since : base ≤ length before
+  pub mark : MarkKind
+  pub read : Within marks mark
+  pub write : RowWrite
+  pub is_made : Within (writes_of other (length before + 1) (last_book (books_of before))) write
+  pub hit : hits write mark ≡ true
+
+-- The work is ready, its batch was made for the trust domain, and it began on the version that the first items of this journal led to.
+pub record IsReadyOn (own : Bytes) (items : List Item) (w : Work) (base : Base) : Type 0 where
+  pub made : IsMadeFor own w.batch
+  pub ready : status_of w ≡ Ready
+  pub base_is : w.base ≡ Some base
+  pub leads : Leads (first_state own) (take base.newest.number items) base.newest
+
+-- The plain book commits the batch as the next book, with the replies of an item that is made of the work, and the head's journal is longer by this item.
+pub record CommitsOnBooks (items : List Item) (seat call : ℕ) (w : Work) (n : ℕ) (new : Head) : Type 0 where
+  pub item : Item
+  pub of_work : IsItemOf seat call w item
+  pub number : n ≡ length items + 1
+  pub reply : reply_to w.batch (books_of (batches_of items)) ≡ record { place = n; outcome = WasCommitted item.replies }
+  pub books : books_after w.batch (books_of (batches_of items)) ≡ books_of (batches_of (items ++ item ∷ []))
+  pub journal : IsJournal (items ++ item ∷ []) new
+
+-- Committed, the plain book commits the batch on the books of this journal. Full, it refuses the batch there for the same limit. A conflict, a batch that was committed since the work began has a write that hits what the work has read. Where the batch isn't committed, the journal stays.
+abbrev pub AnswersOnBooks : List Item → ℕ → ℕ → Work → Base → Commit → Head → Type 0
+AnswersOnBooks items seat call w base (Committed n) new = CommitsOnBooks items seat call w n new
+AnswersOnBooks items seat call w base (Full limit n) new = (n ≡ length items) × (reply_to w.batch (books_of (batches_of items)) ≡ record { place = n; outcome = WasRefused (TooMuch limit) }) × IsJournal items new
+AnswersOnBooks items seat call w base (Conflict n) new = (n ≡ length items) × IsHitSince (batches_of items) base.newest.number (footprint_there w.batch base) × IsJournal items new
+AnswersOnBooks items seat call w base NoMemory new = IsJournal items new
+
+-- what a head answers to a commit, and where it is then
+abbrev pub CommitOnBooks : Type 0
+CommitOnBooks = (items : List Item) (old : Head) (seat call : ℕ) (w : Work) (base : Base) (answer : Commit) (new : Head) → IsJournal items old → IsReadyOn old.window.newest.domain items w base → IsCommit old seat call w answer new → AnswersOnBooks items seat call w base answer new
