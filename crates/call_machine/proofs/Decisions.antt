@@ -11,12 +11,13 @@ use Rattle.batch_work.specs.Working.{Work, status_of}
 use Rattle.commit_head.specs.Heads.{BeganOn, Fits, Head, IsDue as IsDueThere, IsItemOf, Prepared, Stays, newest_of, place_of}
 use Rattle.commit_head.specs.Journals.{batches_of}
 use Rattle.commit_head.proofs.Journals.{joins_on_books}
+use Rattle.commit_head.proofs.OnBooks.{batches_join}
 use Rattle.call_answers.specs.declared.answer.Decision.TheVariants as to
 use Rattle.call_machine.specs.declared.slot.End.{End}
 use Rattle.call_machine.specs.declared.slot.End.TheVariants as is
 use Rattle.call_machine.specs.Calls.{answered, committed, conflict}
 use Rattle.call_machine.specs.Kept.{BeganInside, Finishes, GoesOn, IsDecided, IsWhole, RestsOn, domain_of, journal_of, stage_at_end}
-use Rattle.call_machine.proofs.Heads.{batches_more, began_on, due_there, full_there, place_is, stayed, went_on}
+use Rattle.call_machine.proofs.Heads.{began_on, due_there, full_there, place_is, stayed, went_on}
 use Rattle.call_machine.proofs.Slots.{IsAwaiting, began_at, ready_is}
 
 -- what a work that is ready has to do with the journal
@@ -54,7 +55,7 @@ decided_committed old between new w seat call p end place whole s stays fits ite
         stage_is = ap stage_at_end done.end_is ∙ ap committed (sym reply);
         decision_is = refl;
         place_is = let n = done.place_is in let l = ap length same in omega arith;
-        journal_is = ap batches_of done.appended.kept ∙ (batches_more between.kept (p.item ∷ []) ∙ (λ i. same i ++ batch i ∷ []));
+        journal_is = ap batches_of done.appended.kept ∙ (batches_join between.kept (p.item ∷ []) ∙ (λ i. same i ++ batch i ∷ []));
       });
       goes_on = goes_from old between new stays (went_on between new p.item there joins done.appended);
     }
