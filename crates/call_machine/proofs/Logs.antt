@@ -1,9 +1,12 @@
 -- What a machine knows of its calls is what was handed in and given out.
-use Rattle.std.proofs.Common.{◌≡◌, ◌≢◌, ℕ, ◌+◌, ◌≤◌, ◌⊎◌, List, [], ◌∷◌, ◌++◌, length, take, Option, Some, None, refl, sym, ap, subst, ◌∙◌, inl, inr, ⊎_elim, arith, append_assoc, length-append}
+use Rattle.std.proofs.Common.{◌≡◌, ◌≢◌, ℕ, ◌+◌, ◌≤◌, ◌⊎◌, suc, List, [], ◌∷◌, ◌++◌, length, take, Option, Some, None, refl, sym, ap, subst, ◌∙◌, inl, inr, ⊎_elim, arith, append_assoc, length-append}
 use Rattle.std.specs.Prelude.{⊤, slice_get, map}
 use Rattle.std.proofs.lemmas.List.{append-nil, take-append-le}
 use Rattle.entry_book.specs.Order.{Within}
 use Rattle.entry_book.specs.Batches.{Batch}
+use Rattle.entry_book.specs.declared.limit.Limit.{Limit}
+use Rattle.entry_book.specs.declared.reply.Outcome.TheVariants.{Refused}
+use Rattle.entry_book.specs.declared.reply.Refusal.TheVariants.{Full as TooMuch}
 use Rattle.entry_book.specs.declared.reply.Reply.{Reply}
 use Rattle.call_events.specs.declared.event.Event.{Event}
 use Rattle.call_events.specs.declared.event.Event.TheVariants.{Invoke, Begin, Step, Commit, Reply as ReplyEvent}
@@ -13,7 +16,7 @@ use Rattle.call_answers.specs.declared.answer.Done.{Done}
 use Rattle.call_answers.specs.declared.answer.Done.TheVariants.{Invoked, Begun, Stepped, Decided, Answered}
 use Rattle.call_answers.specs.declared.answer.Told.{Told}
 use Rattle.batch_work.specs.declared.status.Status.{Status}
-use Rattle.call_machine.specs.Schedules.{Happened, At, HandedIn, BatchesOf, commit_of, commits_in, IsDueConflict, ConflictsAreDue, Different}
+use Rattle.call_machine.specs.Schedules.{Happened, At, HandedIn, BatchesOf, BeginsCountCommits, CountsCommits, commit_of, commits_in, IsDueConflict, ConflictsAreDue, Different}
 use Rattle.call_machine.specs.Calls.{Stage, waiting, running, ready, answered, committed, conflict, Call, State, with_call, told_of}
 use Rattle.call_machine.specs.Laws.{SettledAt, number_of}
 use Rattle.call_machine.proofs.Lists.{get_left, get_last, from_get_snoc, get_within}
@@ -35,6 +38,13 @@ batches_more log h [] [] b = tt
 batches_more log h [] (x ∷ xs) b = absurd b
 batches_more log h (c ∷ cs) [] b = absurd b
 batches_more log h (c ∷ cs) (x ∷ xs) b = (handed_more log h c x b.0, batches_more log h cs xs b.1)
+
+-- there are as many as there are calls
+pub batches_count : (log : List Happened) (cs : List ℕ) (bs : List Batch) → BatchesOf log cs bs → length cs ≡ length bs
+batches_count log [] [] b = refl
+batches_count log [] (x ∷ xs) b = absurd b
+batches_count log (c ∷ cs) [] b = absurd b
+batches_count log (c ∷ cs) (x ∷ xs) b = ap suc (batches_count log cs xs b.1)
 
 pub batches_snoc : (log : List Happened) (cs : List ℕ) (bs : List Batch) (c : ℕ) (b : Batch) → BatchesOf log cs bs → HandedIn log c b → BatchesOf log (cs ++ c ∷ []) (bs ++ b ∷ [])
 batches_snoc log [] [] c b h i = (i, tt)
@@ -73,7 +83,7 @@ pub record IsTold (log : List Happened) (c : Call) : Type 0 where
   pub replied : ReplyTold log c.replied c
 
 pub settled_more : (log : List Happened) (h : Happened) (n c : ℕ) (r : Reply) → SettledAt log n c r → SettledAt (log ++ h ∷ []) n c r
-settled_more log h n c r t = ⊎_elim (λ b. inl (b.0, b.1, at_more log h n _ _ b.2)) (λ f. inr (f.0, f.1, at_more log h n _ _ f.2)) t
+settled_more log h n c r t = ⊎_elim (λ b. inl (b.0, b.1, b.2, at_more log h n _ _ b.3)) (λ f. inr (f.0, f.1, at_more log h n _ _ f.2)) t
 
 stage_more : (log : List Happened) (h : Happened) (g : Stage) (c : Call) → StageTold log g c → StageTold (log ++ h ∷ []) g c
 stage_more log h waiting c t = tt
@@ -102,6 +112,21 @@ KeepsInvoke calls n c batch = (x : Call) × Within calls x × (x.number ≡ c) �
 abbrev pub KeepsCommit : List Call → ℕ → ℕ → ℕ → Type 0
 KeepsCommit calls n c place = (x : Call) × Within calls x × (x.number ≡ c) × (x.turn ≡ n) × (r : Reply) × (x.stage ≡ committed r) × (r.place ≡ place)
 
+abbrev pub KeepsFull : List Call → ℕ → ℕ → Type 0
+KeepsFull calls n c = (x : Call) × Within calls x × (x.number ≡ c) × (x.turn ≡ n) × (r : Reply) × (x.stage ≡ answered r)
+
+-- a call that stands here with this turn has begun under this number, if no commit took the number's place
+abbrev pub HasTurn : Stage → ℕ → ℕ → Type 0
+HasTurn waiting turn n = ⊥
+HasTurn (running base made) turn n = turn ≡ n
+HasTurn (ready base) turn n = turn ≡ n
+HasTurn (answered r) turn n = ((limit : Limit) × (r.outcome ≡ Refused (TooMuch limit))) ⊎ (turn ≡ n)
+HasTurn (committed r) turn n = ⊤
+HasTurn (conflict place) turn n = ⊤
+
+abbrev pub KeepsBegin : List Call → ℕ → ℕ → Type 0
+KeepsBegin calls n c = (x : Call) × Within calls x × (x.number ≡ c) × HasTurn x.stage x.turn n
+
 abbrev pub KeepsConflict : List Call → ℕ → ℕ → Type 0
 KeepsConflict calls c place = (x : Call) × Within calls x × (x.number ≡ c) × (x.stage ≡ conflict place)
 
@@ -111,7 +136,7 @@ KeepsReply calls n c d = (x : Call) × Within calls x × (x.number ≡ c) × (x.
 abbrev pub KeepsDecision : List Call → ℕ → ℕ → Decision → ℕ → Type 0
 KeepsDecision calls n c Committed place = KeepsCommit calls n c place
 KeepsDecision calls n c Conflict place = KeepsConflict calls c place
-KeepsDecision calls n c (Full l) place = ⊤
+KeepsDecision calls n c (Full l) place = KeepsFull calls n c
 
 abbrev pub KeepsDone : List Call → ℕ → ℕ → Done → Type 0
 KeepsDone calls n c (Invoked m) = ⊤
@@ -122,7 +147,7 @@ KeepsDone calls n c (Answered m t) = ⊤
 
 abbrev pub Keeps : List Call → ℕ → Event → Done → Type 0
 Keeps calls n (Invoke c batch) d = KeepsInvoke calls n c batch
-Keeps calls n (Begin c) d = ⊤
+Keeps calls n (Begin c) d = KeepsBegin calls n c
 Keeps calls n (Step c) d = ⊤
 Keeps calls n (Commit c) d = KeepsDone calls n c d
 Keeps calls n (ReplyEvent c) d = KeepsReply calls n c d
@@ -134,10 +159,12 @@ pub record Carries (r c : Call) : Type 0 where
   pub invoked : c.invoked ≡ r.invoked
   pub replied : (n : ℕ) → r.replied ≡ Some n → (c.replied ≡ Some n) × (c.stage ≡ r.stage)
   pub committed : (q : Reply) → r.stage ≡ committed q → (c.stage ≡ committed q) × (c.turn ≡ r.turn)
+  pub answered : (q : Reply) → r.stage ≡ answered q → (c.stage ≡ answered q) × (c.turn ≡ r.turn)
   pub conflict : (n : ℕ) → r.stage ≡ conflict n → c.stage ≡ conflict n
+  pub begun : (n : ℕ) → HasTurn r.stage r.turn n → HasTurn c.stage c.turn n
 
 pub carries_itself : (r : Call) → Carries r r
-carries_itself r = record { number = refl; batch = refl; invoked = refl; replied = λ n e. (e, refl); committed = λ q e. (e, refl); conflict = λ n e. e }
+carries_itself r = record { number = refl; batch = refl; invoked = refl; replied = λ n e. (e, refl); committed = λ q e. (e, refl); answered = λ q e. (e, refl); conflict = λ n e. e; begun = λ n t. t }
 
 abbrev pub AllCarried : List Call → List Call → Type 0
 AllCarried calls later = (x : Call) → Within calls x → (y : Call) × Within later y × Carries x y
@@ -150,7 +177,10 @@ decision_more calls later n c Committed place a k =
 decision_more calls later n c Conflict place a k =
     let y = a k.0 k.1 in
     (y.0, y.1, y.2.number ∙ k.2, y.2.conflict place k.3)
-decision_more calls later n c (Full l) place a k = tt
+decision_more calls later n c (Full l) place a k =
+    let y = a k.0 k.1 in
+    let s = y.2.answered k.4 k.5 in
+    (y.0, y.1, y.2.number ∙ k.2, s.1 ∙ k.3, k.4, s.0)
 
 done_more : (calls later : List Call) (n c : ℕ) (d : Done) → AllCarried calls later → KeepsDone calls n c d → KeepsDone later n c d
 done_more calls later n c (Invoked m) a k = tt
@@ -163,7 +193,9 @@ keeps_more : (calls later : List Call) (n : ℕ) (e : Event) (d : Done) → AllC
 keeps_more calls later n (Invoke c batch) d a k =
     let y = a k.0 k.1 in
     (y.0, y.1, y.2.number ∙ k.2, y.2.batch ∙ k.3, y.2.invoked ∙ k.4)
-keeps_more calls later n (Begin c) d a k = tt
+keeps_more calls later n (Begin c) d a k =
+    let y = a k.0 k.1 in
+    (y.0, y.1, y.2.number ∙ k.2, y.2.begun n k.3)
 keeps_more calls later n (Step c) d a k = tt
 keeps_more calls later n (Commit c) d a k = done_more calls later n c d a k
 keeps_more calls later n (ReplyEvent c) d a k =
@@ -178,16 +210,26 @@ pub record Tied (log : List Happened) (s : State) : Type 0 where
   pub told : (c : Call) → Within s.calls c → IsTold log c
   pub kept : (k : ℕ) (h : Happened) → slice_get log k ≡ Some h → Keeps s.calls (k + 1) h.event h.done
   pub journal : BatchesOf log (commits_in log) s.journal
+  pub begins : BeginsCountCommits log
   pub due : ConflictsAreDue log
 
--- where the new event is a conflict, it is due
-abbrev pub DueNow : List Happened → Event → Done → Type 0
-DueNow log e d = (c place : ℕ) → e ≡ Commit c → d ≡ Decided c Conflict place → IsDueConflict log c place
+-- What a new event and its answer are to those before it: a begin is told how many batches were committed, and a conflict is due.
+pub record IsRightNow (log : List Happened) (e : Event) (d : Done) : Type 0 where
+  pub begins : (c : ℕ) → e ≡ Begin c → CountsCommits log c d
+  pub due : (c place : ℕ) → e ≡ Commit c → d ≡ Decided c Conflict place → IsDueConflict log c place
 
-pub due_more : (log : List Happened) (e : Event) (d : Done) → ConflictsAreDue log → DueNow log e d → ConflictsAreDue (log ++ record { event = e; done = d } ∷ [])
+pub begins_more : (log : List Happened) (e : Event) (d : Done) → BeginsCountCommits log → IsRightNow log e d → BeginsCountCommits (log ++ record { event = e; done = d } ∷ [])
+begins_more log e d f g k c done q = ⊎_elim
+    (λ o. let l = get_within log k _ o in subst (λ t. CountsCommits t c done) (sym (take_more log _ k (omega arith))) (f k c done o))
+    (λ o.
+    let told = subst (CountsCommits log c) (ap (λ (h : Happened). h.done) o.1) (g.begins c (ap (λ (h : Happened). h.event) o.1)) in
+    subst (λ t. CountsCommits t c done) (sym (ap (λ n. take n (log ++ record { event = e; done = d } ∷ [])) o.0 ∙ take_whole log _)) told)
+    (from_get_snoc log (record { event = e; done = d }) k _ q)
+
+pub due_more : (log : List Happened) (e : Event) (d : Done) → ConflictsAreDue log → IsRightNow log e d → ConflictsAreDue (log ++ record { event = e; done = d } ∷ [])
 due_more log e d f g k c place q = ⊎_elim
     (λ o. let l = get_within log k _ o in subst (λ t. IsDueConflict t c place) (sym (take_more log _ k (omega arith))) (f k c place o))
-    (λ o. subst (λ t. IsDueConflict t c place) (sym (ap (λ n. take n (log ++ record { event = e; done = d } ∷ [])) o.0 ∙ take_whole log _)) (g c place (ap (λ (h : Happened). h.event) o.1) (ap (λ (h : Happened). h.done) o.1)))
+    (λ o. subst (λ t. IsDueConflict t c place) (sym (ap (λ n. take n (log ++ record { event = e; done = d } ∷ [])) o.0 ∙ take_whole log _)) (g.due c place (ap (λ (h : Happened). h.event) o.1) (ap (λ (h : Happened). h.done) o.1)))
     (from_get_snoc log (record { event = e; done = d }) k _ q)
 
 pub kept_more : (log : List Happened) (calls later : List Call) (count : ℕ) (e : Event) (d : Done) → length log ≡ count → ((k : ℕ) (h : Happened) → slice_get log k ≡ Some h → Keeps calls (k + 1) h.event h.done) → AllCarried calls later → Keeps later (count + 1) e d → (k : ℕ) (h : Happened) → slice_get (log ++ record { event = e; done = d } ∷ []) k ≡ Some h → Keeps later (k + 1) h.event h.done
@@ -197,8 +239,8 @@ kept_more log calls later count e d l f a now k h q = ⊎_elim
     (from_get_snoc log (record { event = e; done = d }) k h q)
 
 -- a call moves on
-pub tied_moved : (log : List Happened) (s t : State) (r c : Call) (e : Event) (d : Done) (entry : List Batch) → Tied log s → Different (map number_of s.calls) → Within s.calls r → Carries r c → t.count ≡ s.count + 1 → t.calls ≡ with_call c s.calls → t.journal ≡ s.journal ++ entry → IsTold (log ++ record { event = e; done = d } ∷ []) c → Keeps t.calls (s.count + 1) e d → BatchesOf (log ++ record { event = e; done = d } ∷ []) (commits_in log ++ commit_of d) (s.journal ++ entry) → DueNow log e d → Tied (log ++ record { event = e; done = d } ∷ []) t
-tied_moved log s t r c e d entry h n w y tc tl tj told keeps batches due =
+pub tied_moved : (log : List Happened) (s t : State) (r c : Call) (e : Event) (d : Done) (entry : List Batch) → Tied log s → Different (map number_of s.calls) → Within s.calls r → Carries r c → t.count ≡ s.count + 1 → t.calls ≡ with_call c s.calls → t.journal ≡ s.journal ++ entry → IsTold (log ++ record { event = e; done = d } ∷ []) c → Keeps t.calls (s.count + 1) e d → BatchesOf (log ++ record { event = e; done = d } ∷ []) (commits_in log ++ commit_of d) (s.journal ++ entry) → IsRightNow log e d → Tied (log ++ record { event = e; done = d } ∷ []) t
+tied_moved log s t r c e d entry h n w y tc tl tj told keeps batches now =
     let carried : AllCarried s.calls (with_call c s.calls) = λ x v. ⊎_elim
     (λ q. (c, within_new c s.calls r w (sym y.number), subst (λ z. Carries z c) (same_call s.calls r x n w v (sym y.number ∙ sym q)) y))
     (λ q. (x, within_other c s.calls x v q, carries_itself x))
@@ -208,7 +250,8 @@ tied_moved log s t r c e d entry h n w y tc tl tj told keeps batches due =
       told = λ x v. ⊎_elim (λ q. subst (IsTold (log ++ record { event = e; done = d } ∷ [])) (sym q) told) (λ q. told_more log _ x (h.told x q.0)) (from_with_call c s.calls x n (subst (λ l. Within l x) tl v));
       kept = kept_more log s.calls t.calls s.count e d h.count h.kept (subst (AllCarried s.calls) (sym tl) carried) keeps;
       journal = subst (BatchesOf (log ++ record { event = e; done = d } ∷ []) (commits_in (log ++ record { event = e; done = d } ∷ []))) (sym tj) (subst (λ l. BatchesOf (log ++ record { event = e; done = d } ∷ []) l (s.journal ++ entry)) (sym (commits-snoc log (record { event = e; done = d }))) batches);
-      due = due_more log e d h.due due;
+      begins = begins_more log e d h.begins now;
+      due = due_more log e d h.due now;
     }
   where
     same_or_not : (a b : ℕ) → (a ≡ b) ⊎ (a ≢ b)

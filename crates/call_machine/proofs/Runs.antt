@@ -1,12 +1,16 @@
 -- One event more.
-use Rattle.std.proofs.Common.{◌≡◌, ◌+◌, ◌≤◌, [], ◌∷◌, Ok, Err, refl, sym, ap, subst, ⊎_elim, arith}
+use Rattle.std.proofs.Common.{◌≡◌, ◌+◌, ◌≤◌, true, false, [], ◌∷◌, length, Some, None, Ok, Err, refl, sym, ap, subst, ◌∙◌, ⊎_elim, arith}
+use Rattle.std.specs.Prelude.{◌&&◌, is_none, is_some, nat_lt, if◌then◌else◌}
+use Rattle.std.proofs.lemmas.Bool.{lt-ltb}
 use Rattle.call_events.specs.declared.event.Event.{Event}
 use Rattle.call_events.specs.declared.event.Event.TheVariants.{Invoke, Begin, Step, Commit, Reply as ReplyEvent}
+use Rattle.call_events.specs.declared.event.EventRefusal.TheVariants.{CallTaken, NotNow, TooManyCalls}
+use Rattle.call_events.specs.declared.event.RefusedEvent.{RefusedEvent}
 use Rattle.call_answers.specs.declared.answer.Done.{Done}
 use Rattle.call_machine.specs.Schedules.{Answer}
-use Rattle.call_machine.specs.Calls.{State}
-use Rattle.call_machine.specs.Laws.{EventLeaves, RunsGoOn}
-use Rattle.call_machine.specs.Machine.{Applies, Accepts}
+use Rattle.call_machine.specs.Calls.{State, call_at}
+use Rattle.call_machine.specs.Laws.{AcceptedUnrefused, EventLeaves, RefusedWhereDue, RunsGoOn}
+use Rattle.call_machine.specs.Machine.{Applies, Accepts, is_over, is_ready, is_running, is_waiting, refusal_at}
 
 pub runs_go_on : RunsGoOn
 runs_go_on [] [] s t u e a r p = (u, subst (λ x. Applies x e a u) (sym r) p, refl)
@@ -38,3 +42,30 @@ applied_domain s e (Err r) t p = ap (λ (s : State). s.domain) p.1
 
 pub event_leaves : EventLeaves
 event_leaves s e a t p = record { domain = applied_domain s e a t p; count = applied_count s e a t p }
+
+-- ---- which events are refused
+
+pub accepted_unrefused : AcceptedUnrefused
+accepted_unrefused s (Invoke n batch) d t a =
+    let unknown : is_some (call_at n s.calls) ≡ false = ap is_some a.unknown in
+    let room : nat_lt (length s.calls) 4096 ≡ true = lt-ltb (length s.calls) 4096 a.room in
+    ap (λ b. if b then Some CallTaken else (if nat_lt (length s.calls) 4096 then None else Some TooManyCalls)) unknown ∙ ap (λ b. if b then None else Some TooManyCalls) room
+accepted_unrefused s (Begin n) d t a = ap (λ o. refusal_at o (λ c. is_waiting c.stage)) a.found ∙ ap (λ g. if is_waiting g then None else Some NotNow) a.in_turn
+accepted_unrefused s (Step n) d t a = ap (λ o. refusal_at o (λ c. is_running c.stage)) a.found ∙ ap (λ g. if is_running g then None else Some NotNow) a.in_turn
+accepted_unrefused s (Commit n) d t a = ap (λ o. refusal_at o (λ c. is_ready c.stage)) a.found ∙ ap (λ g. if is_ready g then None else Some NotNow) a.in_turn
+accepted_unrefused s (ReplyEvent n) d t a = ap (λ o. refusal_at o (λ c. is_none c.replied && is_over c.stage)) a.found ∙ (λ i. if is_none (a.once i) && is_some (a.in_turn i) then None else Some NotNow)
+
+pub refused_where_due : RefusedWhereDue
+refused_where_due s e (Ok d) t r p n = (
+  λ q. let k = sym (accepted_unrefused s e d t p) ∙ q in absurd (cc),
+  λ q. absurd (cc),
+)
+refused_where_due s e (Err x) t r p n = (
+  λ q. ⊎_elim
+      (λ d. let k = sym d ∙ q in let same : x.refusal ≡ r = cc in λ i. Err (record { refusal = same i; event = p.0.back i }))
+      (λ d. let k = sym d.0 ∙ q in absurd (cc))
+      p.0.due,
+  λ q.
+      let same : x ≡ record { refusal = r; event = e } = cc in
+      ⊎_elim (λ d. d ∙ ap (λ (y : RefusedEvent). Some y.refusal) same) (λ d. absurd (n (sym (ap (λ (y : RefusedEvent). y.refusal) same) ∙ d.1))) p.0.due,
+)

@@ -2,6 +2,8 @@
 use Rattle.std.proofs.Common.{◌≡◌, ℕ, ◌+◌, true, false, cond, List, [], ◌∷◌, ◌++◌, length, take, Option, Some, None, refl, sym, ap, subst, ◌∙◌, inl, inr, ⊎_elim, length-append}
 use Rattle.std.specs.Prelude.{nat_lt}
 use Rattle.std.proofs.lemmas.List.{append-nil}
+use Rattle.entry_book.specs.declared.reply.Outcome.TheVariants.{Refused}
+use Rattle.entry_book.specs.declared.reply.Refusal.TheVariants.{Full as TooMuch}
 use Rattle.entry_book.specs.declared.reply.Reply.{Reply}
 use Rattle.entry_book.specs.Rows.{Bytes}
 use Rattle.entry_book.specs.Order.{Within}
@@ -25,8 +27,8 @@ use Rattle.call_machine.specs.Machine.{Invokes, Begins, Steps, CommitsNow, IsFul
 use Rattle.call_machine.proofs.Rows.{call_within, within_new}
 use Rattle.call_machine.proofs.Sound.{Sound, Stamped}
 use Rattle.call_machine.proofs.Events.{not_replied}
-use Rattle.call_machine.proofs.Logs.{at_more, at_last, batches_more, batches_snoc, commits-snoc, handed_more, StageTold, ReplyTold, IsTold, settled_more, told_more, Keeps, Carries, carries_itself, Tied, DueNow, due_more, kept_more, tied_moved}
-use Rattle.call_machine.proofs.PlainBook.{commit_place}
+use Rattle.call_machine.proofs.Logs.{at_more, at_last, batches_more, batches_snoc, commits-snoc, handed_more, StageTold, ReplyTold, IsTold, settled_more, told_more, HasTurn, Keeps, Carries, carries_itself, Tied, IsRightNow, batches_count, begins_more, due_more, kept_more, tied_moved}
+use Rattle.call_machine.proofs.PlainBook.{commit_place, never_full}
 use Rattle.call_machine.proofs.Journal.{sound_journal}
 
 none_entered : (log : List Happened) (h : Happened) (cs : List ℕ) (bs : List Batch) → BatchesOf log cs bs → BatchesOf (log ++ h ∷ []) (cs ++ []) (bs ++ [])
@@ -39,18 +41,29 @@ none_told log (Some n) c f = absurd (f n refl)
 told_on : (log : List Happened) (batch : Batch) (books : List Book) (base made : ℕ) (c : Call) (p : Status) → At log c.turn (Begin c.number) (Begun c.number base p) → StageTold log (stage_on batch books base made) c
 told_on log batch books base made c p a = elim (nat_lt made (length (footprint_of batch books))) as (λ b. StageTold log (cond b (running base made) (stage_settled (awaits_commit batch books) base (reply_to batch books))) c) [
   | true ↦ (p, a)
-  | false ↦ elim (awaits_commit batch books) as (λ b. StageTold log (stage_settled b base (reply_to batch books)) c) [ true ↦ (p, a) | false ↦ inl (base, p, a) ]
+  | false ↦ elim (awaits_commit batch books) as (λ b. awaits_commit batch books ≡ b → StageTold log (stage_settled b base (reply_to batch books)) c) [
+    | true ↦ λ w. (p, a)
+    | false ↦ λ w. inl (base, p, never_full batch books w, a)
+  ] refl
+]
+
+turn_on : (batch : Batch) (books : List Book) (base made turn : ℕ) → HasTurn (stage_on batch books base made) turn turn
+turn_on batch books base made turn = elim (nat_lt made (length (footprint_of batch books))) as (λ b. HasTurn (cond b (running base made) (stage_settled (awaits_commit batch books) base (reply_to batch books))) turn turn) [
+  | true ↦ refl
+  | false ↦ elim (awaits_commit batch books) as (λ b. HasTurn (stage_settled b base (reply_to batch books)) turn turn) [ true ↦ refl | false ↦ inr refl ]
 ]
 
 -- a call that had no reply to give carries on where it stands next
-carries_on : (count : ℕ) (r : Call) (stage : Stage) (turn : ℕ) → Stamped count r → told_of r.stage ≡ None → Carries r (record r { stage = stage; turn = turn })
-carries_on count r stage turn k e = record {
+carries_on : (count : ℕ) (r : Call) (stage : Stage) (turn : ℕ) → Stamped count r → told_of r.stage ≡ None → ((n : ℕ) → HasTurn r.stage r.turn n → HasTurn stage turn n) → Carries r (record r { stage = stage; turn = turn })
+carries_on count r stage turn k e begun = record {
   number = refl;
   batch = refl;
   invoked = refl;
   replied = λ n q. absurd (not_replied count r k e n q);
   committed = λ q i. let z : told_of r.stage ≡ Some (Replied q) = ap told_of i in absurd (no_reply e z);
+  answered = λ q i. let z : told_of r.stage ≡ Some (Replied q) = ap told_of i in absurd (no_reply e z);
   conflict = λ n i. let z : told_of r.stage ≡ Some (Conflicted n) = ap told_of i in absurd (no_reply e z);
+  begun = begun;
 }
   where
     no_reply : {o : Option Told} {t : Told} → o ≡ None → o ≡ Some t → ⊥
@@ -61,6 +74,7 @@ invokes log s n batch d t h i =
     let c : Call = record { number = n; batch = batch; stage = waiting; invoked = s.count + 1; turn = 0; replied = None } in
     let e : Event = Invoke n batch in
     let f : Happened = record { event = e; done = Invoked n } in
+    let now : IsRightNow log e (Invoked n) = record { begins = λ c q. cc; due = λ c place q. cc } in
     let tied : Tied (log ++ f ∷ []) (record s { count = s.count + 1; calls = s.calls ++ c ∷ [] }) = record {
       count = length-append log (f ∷ []) ∙ ap (λ k. k + 1) h.count;
       told = λ x v. ⊎_elim
@@ -69,7 +83,8 @@ invokes log s n batch d t h i =
           (from_within_append s.calls (c ∷ []) x v);
       kept = kept_more log s.calls (s.calls ++ c ∷ []) s.count e (Invoked n) h.count h.kept (λ x v. (x, within_left s.calls (c ∷ []) x v, carries_itself x)) (c, within_right s.calls (c ∷ []) c (inl refl), refl, refl, refl);
       journal = subst (λ l. BatchesOf (log ++ f ∷ []) l s.journal) (sym (commits-snoc log f ∙ append-nil (commits_in log))) (batches_more log f (commits_in log) s.journal h.journal);
-      due = due_more log e (Invoked n) h.due (λ c place q. cc);
+      begins = begins_more log e (Invoked n) h.begins now;
+      due = due_more log e (Invoked n) h.due now;
     } in
     subst (λ d. Tied (log ++ record { event = e; done = d } ∷ []) t) (sym i.answer) (subst (Tied (log ++ f ∷ [])) (sym i.after) tied)
 
@@ -81,17 +96,24 @@ begins log s n d t g h i =
     let none : told_of i.call.stage ≡ None = ap told_of i.in_turn in
     let c : Call = record i.call { stage = i.stage; turn = s.count + 1 } in
     let done : Done = Begun n (length s.journal) (status_at i.stage) in
+    let tl : t.calls ≡ with_call c s.calls = ap (λ (s : State). s.calls) i.after in
+    let count : length s.journal ≡ length (commits_in log) = sym (batches_count log (commits_in log) s.journal h.journal) in
     let f : Happened = record { event = Begin n; done = done } in
     let a : At (log ++ f ∷ []) (s.count + 1) (Begin i.call.number) (Begun i.call.number (length s.journal) (status_at i.stage)) = subst (λ m. At (log ++ f ∷ []) (s.count + 1) (Begin m) (Begun m (length s.journal) (status_at i.stage))) (sym w.1) (at_last log f s.count h.count) in
     subst (λ d. Tied (log ++ record { event = Begin n; done = d } ∷ []) t) (sym i.answer)
-    (tied_moved log s t i.call c (Begin n) done [] h g.numbers w.0 (carries_on s.count i.call i.stage (s.count + 1) k none)
+    (tied_moved log s t i.call c (Begin n) done [] h g.numbers w.0 (carries_on s.count i.call i.stage (s.count + 1) k none (λ m b. absurd (subst (λ z. HasTurn z i.call.turn m) i.in_turn b)))
     (ap (λ (s : State). s.count) i.after) (ap (λ (s : State). s.calls) i.after) (ap (λ (s : State). s.journal) i.after ∙ sym (append-nil s.journal))
     (record {
       invoked = (o.invoked.0, at_more log f i.call.invoked _ _ o.invoked.1);
       stage = subst (λ z. StageTold (log ++ f ∷ []) z c) (sym i.stage_is) (told_on (log ++ f ∷ []) i.call.batch (books_of (take (length s.journal) s.journal)) (length s.journal) 0 c (status_at i.stage) a);
       replied = none_told (log ++ f ∷ []) i.call.replied c (not_replied s.count i.call k none);
     })
-    tt (none_entered log f (commits_in log) s.journal h.journal) (λ c place q. cc))
+    (c, subst (λ l. Within l c) (sym tl) (within_new c s.calls i.call w.0 refl), w.1, subst (λ z. HasTurn z (s.count + 1) (s.count + 1)) (sym i.stage_is) (turn_on i.call.batch (books_of (take (length s.journal) s.journal)) (length s.journal) 0 (s.count + 1)))
+    (none_entered log f (commits_in log) s.journal h.journal)
+    (record {
+      begins = λ c q. (status_at i.stage, let same : n ≡ c = cc in λ x. Begun (same x) (count x) (status_at i.stage));
+      due = λ c place q. cc;
+    }))
 
 steps : (log : List Happened) (s : State) (n : ℕ) (d : Done) (t : State) → Sound s → Tied log s → Steps s n d t → Tied (log ++ record { event = Step n; done = d } ∷ []) t
 steps log s n d t g h i =
@@ -104,30 +126,32 @@ steps log s n d t g h i =
     let f : Happened = record { event = Step n; done = done } in
     let b : StageTold log (running i.base i.made) i.call = subst (λ z. StageTold log z i.call) i.in_turn o.stage in
     subst (λ d. Tied (log ++ record { event = Step n; done = d } ∷ []) t) (sym i.answer)
-    (tied_moved log s t i.call c (Step n) done [] h g.numbers w.0 (carries_on s.count i.call i.stage i.call.turn k none)
+    (tied_moved log s t i.call c (Step n) done [] h g.numbers w.0 (carries_on s.count i.call i.stage i.call.turn k none (λ m b.
+    let same : i.call.turn ≡ m = subst (λ z. HasTurn z i.call.turn m) i.in_turn b in
+    subst (HasTurn i.stage i.call.turn) same (subst (λ z. HasTurn z i.call.turn i.call.turn) (sym i.stage_is) (turn_on i.call.batch (books_of (take i.base s.journal)) i.base (i.made + 1) i.call.turn))))
     (ap (λ (s : State). s.count) i.after) (ap (λ (s : State). s.calls) i.after) (ap (λ (s : State). s.journal) i.after ∙ sym (append-nil s.journal))
     (record {
       invoked = (o.invoked.0, at_more log f i.call.invoked _ _ o.invoked.1);
       stage = subst (λ z. StageTold (log ++ f ∷ []) z c) (sym i.stage_is) (told_on (log ++ f ∷ []) i.call.batch (books_of (take i.base s.journal)) i.base (i.made + 1) c b.0 (at_more log f i.call.turn _ _ b.1));
       replied = none_told (log ++ f ∷ []) i.call.replied c (not_replied s.count i.call k none);
     })
-    tt (none_entered log f (commits_in log) s.journal h.journal) (λ c place q. cc))
+    tt (none_entered log f (commits_in log) s.journal h.journal) (record { begins = λ c q. cc; due = λ c place q. cc }))
 
 -- the parts that each answer to a commit has in common
-decides : (log : List Happened) (s : State) (n : ℕ) (t : State) (r : Call) (base : ℕ) (stage : Stage) (decision : Decision) (place : ℕ) (entry : List Batch) → Sound s → Tied log s → Within s.calls r → r.number ≡ n → r.stage ≡ ready base → t.count ≡ s.count + 1 → t.calls ≡ with_call (record r { stage = stage; turn = s.count + 1 }) s.calls → t.journal ≡ s.journal ++ entry → (At (log ++ record { event = Commit n; done = Decided n decision place } ∷ []) (s.count + 1) (Commit n) (Decided n decision place) → StageTold (log ++ record { event = Commit n; done = Decided n decision place } ∷ []) stage (record r { stage = stage; turn = s.count + 1 })) → Keeps t.calls (s.count + 1) (Commit n) (Decided n decision place) → BatchesOf (log ++ record { event = Commit n; done = Decided n decision place } ∷ []) (commits_in log ++ commit_of (Decided n decision place)) (s.journal ++ entry) → DueNow log (Commit n) (Decided n decision place) → Tied (log ++ record { event = Commit n; done = Decided n decision place } ∷ []) t
-decides log s n t r base stage decision place entry g h w e q tc tl tj told keeps batches due =
+decides : (log : List Happened) (s : State) (n : ℕ) (t : State) (r : Call) (base : ℕ) (stage : Stage) (decision : Decision) (place : ℕ) (entry : List Batch) → Sound s → Tied log s → Within s.calls r → r.number ≡ n → r.stage ≡ ready base → t.count ≡ s.count + 1 → t.calls ≡ with_call (record r { stage = stage; turn = s.count + 1 }) s.calls → t.journal ≡ s.journal ++ entry → ((m : ℕ) → HasTurn stage (s.count + 1) m) → (At (log ++ record { event = Commit n; done = Decided n decision place } ∷ []) (s.count + 1) (Commit n) (Decided n decision place) → StageTold (log ++ record { event = Commit n; done = Decided n decision place } ∷ []) stage (record r { stage = stage; turn = s.count + 1 })) → Keeps t.calls (s.count + 1) (Commit n) (Decided n decision place) → BatchesOf (log ++ record { event = Commit n; done = Decided n decision place } ∷ []) (commits_in log ++ commit_of (Decided n decision place)) (s.journal ++ entry) → IsRightNow log (Commit n) (Decided n decision place) → Tied (log ++ record { event = Commit n; done = Decided n decision place } ∷ []) t
+decides log s n t r base stage decision place entry g h w e q tc tl tj turn told keeps batches now =
     let k = g.stamped r w in
     let o = h.told r w in
     let none : told_of r.stage ≡ None = ap told_of q in
     let c : Call = record r { stage = stage; turn = s.count + 1 } in
     let f : Happened = record { event = Commit n; done = Decided n decision place } in
-    tied_moved log s t r c (Commit n) (Decided n decision place) entry h g.numbers w (carries_on s.count r stage (s.count + 1) k none) tc tl tj
+    tied_moved log s t r c (Commit n) (Decided n decision place) entry h g.numbers w (carries_on s.count r stage (s.count + 1) k none (λ m b. turn m)) tc tl tj
     (record {
       invoked = (o.invoked.0, at_more log f r.invoked _ _ o.invoked.1);
       stage = told (at_last log f s.count h.count);
       replied = none_told (log ++ f ∷ []) r.replied c (not_replied s.count r k none);
     })
-    keeps batches due
+    keeps batches now
 
 commits_now : (log : List Happened) (s : State) (n : ℕ) (d : Done) (t : State) (r : Call) (base : ℕ) → Sound s → Tied log s → Within s.calls r → r.number ≡ n → r.stage ≡ ready base → CommitsNow s r d t → Tied (log ++ record { event = Commit n; done = d } ∷ []) t
 commits_now log s n d t r base g h w e q i =
@@ -142,11 +166,11 @@ commits_now log s n d t r base g h w e q i =
     let tl : t.calls ≡ with_call c s.calls = ap (λ (s : State). s.calls) i.after in
     subst (λ d. Tied (log ++ record { event = Commit n; done = d } ∷ []) t) (sym a)
     (decides log s n t r base (committed reply) Committed place (r.batch ∷ []) g h w e q
-    (ap (λ (s : State). s.count) i.after) tl (ap (λ (s : State). s.journal) i.after)
+    (ap (λ (s : State). s.count) i.after) tl (ap (λ (s : State). s.journal) i.after) (λ m. tt)
     (λ at. subst (λ m. At (log ++ f ∷ []) (s.count + 1) (Commit r.number) (Decided r.number Committed m)) (sym p) (subst (λ m. At (log ++ f ∷ []) (s.count + 1) (Commit m) (Decided m Committed place)) (sym e) at))
     (c, subst (λ l. Within l c) (sym tl) (within_new c s.calls r w refl), e, refl, reply, refl, p)
     (batches_snoc (log ++ f ∷ []) (commits_in log) s.journal n r.batch (batches_more log f (commits_in log) s.journal h.journal) (handed_more log f n r.batch handed))
-    (λ c place x y. cc))
+    (record { begins = λ c q. cc; due = λ c place x y. cc }))
 
 is_full : (log : List Happened) (s : State) (n : ℕ) (d : Done) (t : State) (r : Call) (base : ℕ) → Sound s → Tied log s → Within s.calls r → r.number ≡ n → r.stage ≡ ready base → IsFull s r d t → Tied (log ++ record { event = Commit n; done = d } ∷ []) t
 is_full log s n d t r base g h w e q i =
@@ -154,13 +178,17 @@ is_full log s n d t r base g h w e q i =
     let a : d ≡ Decided n (Full i.limit) place = i.answer ∙ ap (λ m. Decided m (Full i.limit) place) e in
     let reply = reply_to r.batch (books_of s.journal) in
     let f : Happened = record { event = Commit n; done = Decided n (Full i.limit) place } in
+    let c : Call = record r { stage = answered reply; turn = s.count + 1 } in
+    let tl : t.calls ≡ with_call c s.calls = ap (λ (s : State). s.calls) i.after in
     let p : reply.place ≡ place = ap (λ (x : Reply). x.place) i.full in
+    let outcome : reply.outcome ≡ Refused (TooMuch i.limit) = ap (λ (x : Reply). x.outcome) i.full in
     subst (λ d. Tied (log ++ record { event = Commit n; done = d } ∷ []) t) (sym a)
     (decides log s n t r base (answered (reply_to r.batch (books_of s.journal))) (Full i.limit) place [] g h w e q
-    (ap (λ (s : State). s.count) i.after) (ap (λ (s : State). s.calls) i.after) (ap (λ (s : State). s.journal) i.after ∙ sym (append-nil s.journal))
-    (λ at. inr (i.limit, ap (λ (x : Reply). x.outcome) i.full, subst (λ m. At (log ++ f ∷ []) (s.count + 1) (Commit r.number) (Decided r.number (Full i.limit) m)) (sym p) (subst (λ m. At (log ++ f ∷ []) (s.count + 1) (Commit m) (Decided m (Full i.limit) place)) (sym e) at))) tt
+    (ap (λ (s : State). s.count) i.after) tl (ap (λ (s : State). s.journal) i.after ∙ sym (append-nil s.journal)) (λ m. inl (i.limit, outcome))
+    (λ at. inr (i.limit, outcome, subst (λ m. At (log ++ f ∷ []) (s.count + 1) (Commit r.number) (Decided r.number (Full i.limit) m)) (sym p) (subst (λ m. At (log ++ f ∷ []) (s.count + 1) (Commit m) (Decided m (Full i.limit) place)) (sym e) at)))
+    (c, subst (λ l. Within l c) (sym tl) (within_new c s.calls r w refl), e, refl, reply, refl)
     (none_entered log _ (commits_in log) s.journal h.journal)
-    (λ c place x y. cc))
+    (record { begins = λ c q. cc; due = λ c place x y. cc }))
 
 conflicts : (log : List Happened) (s : State) (n : ℕ) (d : Done) (t : State) (r : Call) (base : ℕ) → Sound s → Tied log s → Within s.calls r → r.number ≡ n → r.stage ≡ ready base → Conflicts s r base d t → Tied (log ++ record { event = Commit n; done = d } ∷ []) t
 conflicts log s n d t r base g h w e q i =
@@ -182,11 +210,14 @@ conflicts log s n d t r base g h w e q i =
     } in
     subst (λ d. Tied (log ++ record { event = Commit n; done = d } ∷ []) t) (sym a)
     (decides log s n t r base (conflict place) Conflict place [] g h w e q
-    (ap (λ (s : State). s.count) i.after) tl (ap (λ (s : State). s.journal) i.after ∙ sym (append-nil s.journal))
+    (ap (λ (s : State). s.count) i.after) tl (ap (λ (s : State). s.journal) i.after ∙ sym (append-nil s.journal)) (λ m. tt)
     (λ at. subst (λ m. At (log ++ record { event = Commit n; done = Decided n Conflict place } ∷ []) (s.count + 1) (Commit m) (Decided m Conflict place)) (sym e) at)
     (c, subst (λ l. Within l c) (sym tl) (within_new c s.calls r w refl), e, refl)
     (none_entered log _ (commits_in log) s.journal h.journal)
-    (λ c p x y. let u : n ≡ c = cc in let v : place ≡ p = cc in subst (IsDueConflict log c) v (subst (λ m. IsDueConflict log m place) u due)))
+    (record {
+      begins = λ c q. cc;
+      due = λ c p x y. let u : n ≡ c = cc in let v : place ≡ p = cc in subst (IsDueConflict log c) v (subst (λ m. IsDueConflict log m place) u due);
+    }))
 
 committing : (log : List Happened) (s : State) (n : ℕ) (d : Done) (t : State) → Sound s → Tied log s → Commits s n d t → Tied (log ++ record { event = Commit n; done = d } ∷ []) t
 committing log s n d t g h i =
@@ -205,7 +236,7 @@ replies log s n d t g h i =
     let tl : t.calls ≡ with_call c s.calls = ap (λ (s : State). s.calls) i.after in
     subst (λ d. Tied (log ++ record { event = ReplyEvent n; done = d } ∷ []) t) (sym i.answer)
     (tied_moved log s t i.call c (ReplyEvent n) done [] h g.numbers w.0
-    (record { number = refl; batch = refl; invoked = refl; replied = λ m q. let once = i.once in cc; committed = λ q e. (e, refl); conflict = λ n e. e })
+    (record { number = refl; batch = refl; invoked = refl; replied = λ m q. let once = i.once in cc; committed = λ q e. (e, refl); answered = λ q e. (e, refl); conflict = λ n e. e; begun = λ m b. b })
     (ap (λ (s : State). s.count) i.after) tl (ap (λ (s : State). s.journal) i.after ∙ sym (append-nil s.journal))
     (record {
       invoked = (o.invoked.0, at_more log f i.call.invoked _ _ o.invoked.1);
@@ -213,7 +244,7 @@ replies log s n d t g h i =
       replied = (i.told, i.in_turn, subst (λ m. At (log ++ f ∷ []) (s.count + 1) (ReplyEvent m) (Answered m i.told)) (sym w.1) (at_last log f s.count h.count));
     })
     (c, subst (λ l. Within l c) (sym tl) (within_new c s.calls i.call w.0 refl), w.1, refl, i.told, i.in_turn, refl)
-    (none_entered log f (commits_in log) s.journal h.journal) (λ c place q. cc))
+    (none_entered log f (commits_in log) s.journal h.journal) (record { begins = λ c q. cc; due = λ c place q. cc }))
   where
     stage_same : (log : List Happened) (f : Happened) (z : Stage) (r : Call) (m : Option ℕ) → StageTold log z r → StageTold (log ++ f ∷ []) z (record r { replied = m })
     stage_same log f waiting r m t = tt
@@ -236,5 +267,6 @@ first_tied own = record {
   told = λ c w. absurd w;
   kept = λ k h e. cc;
   journal = tt;
+  begins = λ k c done e. cc;
   due = λ k c place e. cc;
 }

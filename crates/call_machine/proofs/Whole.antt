@@ -1,20 +1,23 @@
 -- The headline, for every list of events.
-use Rattle.std.proofs.Common.{List, [], ◌∷◌, ◌++◌, Ok, Err, refl, sym, ◌∙◌, subst, append_assoc, Option, Some, None, ℕ, ◌≡◌}
+use Rattle.std.proofs.Common.{List, [], ◌∷◌, ◌++◌, Ok, Err, refl, sym, ap, ◌∙◌, ⊎_elim, subst, append_assoc, Option, Some, None, ℕ, ◌≡◌, ◌↔◌}
 use Rattle.std.proofs.lemmas.List.{append-nil}
+use Rattle.entry_book.specs.Order.{Within}
+use Rattle.entry_book.specs.Batches.{Batch}
 use Rattle.call_events.specs.declared.event.Event.{Event}
-use Rattle.call_events.specs.declared.event.Event.TheVariants.{Commit, Reply as ReplyEvent}
-use Rattle.call_answers.specs.declared.answer.Decision.TheVariants.{Committed}
-use Rattle.call_answers.specs.declared.answer.Done.TheVariants.{Answered, Decided}
+use Rattle.call_events.specs.declared.event.Event.TheVariants.{Begin, Commit, Invoke, Reply as ReplyEvent}
+use Rattle.call_answers.specs.declared.answer.Decision.TheVariants.{Committed, Full}
+use Rattle.call_answers.specs.declared.answer.Done.{Done}
+use Rattle.call_answers.specs.declared.answer.Done.TheVariants.{Answered, Begun, Decided}
 use Rattle.call_answers.specs.declared.answer.Told.{Told}
 use Rattle.call_machine.specs.Schedules.{Answer, At, Happened, accepted}
 use Rattle.call_machine.specs.Calls.{Stage, waiting, running, ready, answered, committed, conflict, Call, State, first_state, told_of}
 use Rattle.call_machine.specs.Known.{decided_of}
 use Rattle.call_machine.specs.Machine.{Runs}
-use Rattle.call_machine.specs.Laws.{CallsAreStamped, DecidedAt, HeadlineHolds, RepliesHeld, SettledAt}
+use Rattle.call_machine.specs.Laws.{CallsAreStamped, DecidedAt, HeadlineHolds, IsStamped, RepliesHeld, SettledAt}
 use Rattle.call_machine.proofs.Sound.{Sound}
 use Rattle.call_machine.proofs.Events.{accepts_sound, first_sound}
-use Rattle.call_machine.proofs.Logs.{ReplyTold, StageTold, Tied}
-use Rattle.call_machine.proofs.Rows.{call_within}
+use Rattle.call_machine.proofs.Logs.{HasTurn, Keeps, KeepsBegin, KeepsCommit, KeepsFull, KeepsInvoke, KeepsReply, ReplyTold, StageTold, Tied}
+use Rattle.call_machine.proofs.Rows.{call_within, same_call}
 use Rattle.call_machine.proofs.Ties.{accepts_tied, first_tied}
 use Rattle.call_machine.proofs.Order.{headline, held}
 
@@ -42,9 +45,11 @@ replies_held own events answers s order r o =
     let h = runs_stand events answers [] (first_state own) s (record { sound = first_sound own; tied = first_tied own }) r in
     held (accepted events answers) s h.sound h.tied order o
 
-reply_stamped : (log : List Happened) (call : Call) (n : ℕ) (o : Option ℕ) → o ≡ Some n → ReplyTold log o call → (told : Told) × (told_of call.stage ≡ Some told) × At log n (ReplyEvent call.number) (Answered call.number told)
-reply_stamped log call n None e t = cc
-reply_stamped log call n (Some m) e t = let q : m ≡ n = cc in (t.0, t.1, subst (λ k. At log k (ReplyEvent call.number) (Answered call.number t.0)) q t.2)
+-- ---- the numbers that a call tells, and those that the events have
+
+reply_told : (log : List Happened) (call : Call) (n : ℕ) (o : Option ℕ) → o ≡ Some n → ReplyTold log o call → (done : Done) × At log n (ReplyEvent call.number) done
+reply_told log call n None e t = absurd (cc)
+reply_told log call n (Some m) e t = let q : m ≡ n = cc in (Answered call.number t.0, subst (λ k. At log k (ReplyEvent call.number) (Answered call.number t.0)) q t.2)
 
 decided_at : (log : List Happened) (c turn n : ℕ) (g : Stage) (call : Call) → decided_of g turn ≡ Some n → call.turn ≡ turn → call.number ≡ c → StageTold log g call → DecidedAt log n c g
 decided_at log c turn n waiting call e t k s = cc
@@ -54,8 +59,64 @@ decided_at log c turn n (conflict place) call e t k s = cc
 decided_at log c turn n (answered r) call e t k s = let q : turn ≡ n = cc in subst (λ m. SettledAt log m c r) (t ∙ q) (subst (λ d. SettledAt log call.turn d r) k s)
 decided_at log c turn n (committed r) call e t k s = let q : turn ≡ n = cc in subst (λ m. At log m (Commit c) (Decided c Committed r.place)) (t ∙ q) (subst (λ d. At log call.turn (Commit d) (Decided d Committed r.place)) k s)
 
+module _ (log : List Happened) (s : State) (h : Stands log s) (call : Call) (w : Within s.calls call) where
+  -- what an event left of the call is left of this one
+  kept_at : (n : ℕ) (e : Event) (d : Done) → At log n e d → Keeps s.calls n e d
+  kept_at n e d a = subst (λ m. Keeps s.calls m e d) (sym a.1) (h.tied.kept a.0 _ a.2)
+
+  this : (x : Call) → Within s.calls x → x.number ≡ call.number → x ≡ call
+  this x v e = same_call s.calls x call h.sound.numbers v w e
+
+  invoke_stamped : (n : ℕ) (batch : Batch) → ((n ≡ call.invoked) × (batch ≡ call.batch)) ↔ ((done : Done) × At log n (Invoke call.number batch) done)
+  invoke_stamped n batch =
+      let t = (h.tied.told call w).invoked in (
+        λ e. (t.0, subst (λ m. At log m (Invoke call.number batch) t.0) (sym e.0) (subst (λ b. At log call.invoked (Invoke call.number b) t.0) (sym e.1) t.1)),
+        λ a.
+            let k : KeepsInvoke s.calls n call.number batch = kept_at n (Invoke call.number batch) a.0 a.1 in
+            let is = this k.0 k.1 k.2 in
+            (sym k.4 ∙ ap (λ (c : Call). c.invoked) is, sym k.3 ∙ ap (λ (c : Call). c.batch) is),
+      )
+
+  reply_stamped : (n : ℕ) → (call.replied ≡ Some n) ↔ ((done : Done) × At log n (ReplyEvent call.number) done)
+  reply_stamped n = (
+    λ e. reply_told log call n call.replied e (h.tied.told call w).replied,
+    λ a.
+        let k : KeepsReply s.calls n call.number a.0 = kept_at n (ReplyEvent call.number) a.0 a.1 in
+        ap (λ (c : Call). c.replied) (sym (this k.0 k.1 k.2)) ∙ k.3,
+  )
+
+  told_stamped : (n : ℕ) (done : Done) → At log n (ReplyEvent call.number) done → (told : Told) × (told_of call.stage ≡ Some told) × (done ≡ Answered call.number told)
+  told_stamped n done a =
+      let k : KeepsReply s.calls n call.number done = kept_at n (ReplyEvent call.number) done a in
+      (k.4, ap (λ (c : Call). told_of c.stage) (sym (this k.0 k.1 k.2)) ∙ k.5, k.6)
+
+  turn_is : (g : Stage) (n : ℕ) → call.stage ≡ g → DecidedAt log n call.number g → decided_of g call.turn ≡ Some n
+  turn_is waiting n e d = absurd d
+  turn_is (running base made) n e d = absurd d
+  turn_is (ready base) n e d = absurd d
+  turn_is (conflict place) n e d = absurd d
+  turn_is (answered r) n e d = ⊎_elim
+      (λ b.
+      let k : KeepsBegin s.calls n call.number = kept_at n (Begin call.number) (Begun call.number b.0 b.1) b.3 in
+      let turn : HasTurn (answered r) call.turn n = subst (λ z. HasTurn z call.turn n) e (subst (λ (c : Call). HasTurn c.stage c.turn n) (this k.0 k.1 k.2) k.3) in
+      ⊎_elim (λ f. absurd (b.2 f.0 f.1)) (λ q. ap Some q) turn)
+      (λ f.
+      let k : KeepsFull s.calls n call.number = kept_at n (Commit call.number) (Decided call.number (Full f.0) r.place) f.2 in
+      ap (λ (c : Call). Some c.turn) (sym (this k.0 k.1 k.2)) ∙ ap Some k.3)
+      d
+  turn_is (committed r) n e d =
+      let k : KeepsCommit s.calls n call.number r.place = kept_at n (Commit call.number) (Decided call.number Committed r.place) d in
+      ap (λ (c : Call). Some c.turn) (sym (this k.0 k.1 k.2)) ∙ ap Some k.3
+
+  is_stamped : IsStamped log call
+  is_stamped = record {
+    invoked = invoke_stamped;
+    decided = λ n. (λ e. decided_at log call.number call.turn n call.stage call e refl refl (h.tied.told call w).stage, λ d. turn_is call.stage n refl d);
+    replied = reply_stamped;
+    told = told_stamped;
+  }
+
 pub calls_are_stamped : CallsAreStamped
 calls_are_stamped own events answers s c call r f =
     let h = runs_stand events answers [] (first_state own) s (record { sound = first_sound own; tied = first_tied own }) r in
-    let t = h.tied.told call (call_within c s.calls call f).0 in
-    record { invoked = t.invoked; decided = λ n e. decided_at (accepted events answers) call.number call.turn n call.stage call e refl refl t.stage; replied = λ n e. reply_stamped (accepted events answers) call n call.replied e t.replied }
+    is_stamped (accepted events answers) s h call (call_within c s.calls call f).0

@@ -1,5 +1,5 @@
 -- The order that a machine answers, and the laws of it and of runs. Each law is a clause of a function of the module `laws`.
-use Rattle.std.specs.Prelude.{◌≡◌, ◌⊎◌, ℕ, ◌+◌, ◌<◌, ◌≤◌, Bool, true, false, ⊤, List, [], ◌∷◌, ◌++◌, filter, map, Option, Some, is_some}
+use Rattle.std.specs.Prelude.{◌≡◌, ◌↔◌, ◌⊎◌, ℕ, ◌+◌, ◌<◌, ◌≤◌, Bool, true, false, ⊤, List, [], ◌∷◌, ◌++◌, filter, map, Option, Some, None, Err, is_some}
 use Rattle.std.specs.List.{AllByRecursion}
 use Rattle.std.specs.List.Sorted.{IsPermutation, IsNonDecreasingBy}
 use Rattle.entry_book.specs.declared.limit.Limit.{Limit}
@@ -8,10 +8,13 @@ use Rattle.entry_book.specs.declared.reply.Refusal.TheVariants.{Full as TooMuch}
 use Rattle.entry_book.specs.declared.reply.Reply.{Reply}
 use Rattle.entry_book.specs.Rows.{Bytes}
 use Rattle.entry_book.specs.Book.{Book}
+use Rattle.entry_book.specs.Batches.{Batch}
 use Rattle.entry_book.specs.History.{books_after, first_books, reply_to}
 use Rattle.call_events.specs.declared.event.Event.{Event}
 use Rattle.call_events.specs.declared.event.Event.TheVariants.{Invoke, Begin, Commit}
 use Rattle.call_events.specs.declared.event.Event.TheVariants as on
+use Rattle.call_events.specs.declared.event.EventRefusal.{EventRefusal}
+use Rattle.call_events.specs.declared.event.EventRefusal.TheVariants.{NoMemory}
 use Rattle.batch_work.specs.declared.status.Status.{Status}
 use Rattle.call_answers.specs.declared.answer.Decision.TheVariants as is
 use Rattle.call_answers.specs.declared.answer.Done.{Done}
@@ -21,7 +24,7 @@ use Rattle.call_answers.specs.declared.answer.Told.TheVariants.{Replied}
 use Rattle.call_machine.specs.Schedules.{Answer, At, Happened, Headline, accepted}
 use Rattle.call_machine.specs.Calls.{Stage, waiting, running, ready, answered, committed, conflict, Call, State, call_at, first_state, told_of}
 use Rattle.call_machine.specs.Known.{decided_of}
-use Rattle.call_machine.specs.Machine.{Applies, Runs}
+use Rattle.call_machine.specs.Machine.{Accepts, Applies, Runs, refusal_of}
 
 -- committed, or replied otherwise than by a conflict
 abbrev pub is_listed_at : Stage → Option ℕ → Bool
@@ -65,9 +68,9 @@ HeadlineHolds = (own : Bytes) (events : List Event) (answers : List Answer) (s :
 
 -- ---- the accepted numbers that calls keep
 
--- This number is that of the call's begin, behind which it was settled, or of its commit, which passed the limit that its reply tells.
+-- This number is that of the call's begin, behind which it was settled with a reply that tells no limit, or of its commit, which passed the limit that its reply tells.
 abbrev pub SettledAt : List Happened → ℕ → ℕ → Reply → Type 0
-SettledAt log n c r = ((base : ℕ) × (status : Status) × At log n (Begin c) (Begun c base status)) ⊎ ((limit : Limit) × (r.outcome ≡ Refused (TooMuch limit)) × At log n (Commit c) (Decided c (is.Full limit) r.place))
+SettledAt log n c r = ((base : ℕ) × (status : Status) × ((limit : Limit) → r.outcome ≡ Refused (TooMuch limit) → ⊥) × At log n (Begin c) (Begun c base status)) ⊎ ((limit : Limit) × (r.outcome ≡ Refused (TooMuch limit)) × At log n (Commit c) (Decided c (is.Full limit) r.place))
 
 -- that of the event that decided the call
 abbrev pub DecidedAt : List Happened → ℕ → ℕ → Stage → Type 0
@@ -75,11 +78,12 @@ DecidedAt log n c (answered r) = SettledAt log n c r
 DecidedAt log n c (committed r) = At log n (Commit c) (Decided c is.Committed r.place)
 DecidedAt log n c stage = ⊥
 
--- The call has the number under which its batch was handed in, that of the event that decided it, and that under which it gave its answer out, as far as they came.
+-- The call has the number under which its batch was handed in, that of the event that decided it, and that under which it gave its answer out: each where the accepted events have this event of the call under this number, and nowhere else. What it gave out is the answer that it holds.
 pub record IsStamped (log : List Happened) (call : Call) : Type 0 where
-  pub invoked : (done : Done) × At log call.invoked (Invoke call.number call.batch) done
-  pub decided : (n : ℕ) → decided_of call.stage call.turn ≡ Some n → DecidedAt log n call.number call.stage
-  pub replied : (n : ℕ) → call.replied ≡ Some n → (told : Told) × (told_of call.stage ≡ Some told) × At log n (on.Reply call.number) (Answered call.number told)
+  pub invoked : (n : ℕ) (batch : Batch) → ((n ≡ call.invoked) × (batch ≡ call.batch)) ↔ ((done : Done) × At log n (Invoke call.number batch) done)
+  pub decided : (n : ℕ) → (decided_of call.stage call.turn ≡ Some n) ↔ DecidedAt log n call.number call.stage
+  pub replied : (n : ℕ) → (call.replied ≡ Some n) ↔ ((done : Done) × At log n (on.Reply call.number) done)
+  pub told : (n : ℕ) (done : Done) → At log n (on.Reply call.number) done → (told : Told) × (told_of call.stage ≡ Some told) × (done ≡ Answered call.number told)
 
 abbrev pub CallsAreStamped : Type 0
 CallsAreStamped = (own : Bytes) (events : List Event) (answers : List Answer) (s : State) (c : ℕ) (call : Call) → Runs (first_state own) events answers s → call_at c s.calls ≡ Some call → IsStamped (accepted events answers) call
@@ -97,6 +101,16 @@ pub record AreLeft (s t : State) : Type 0 where
 
 abbrev pub EventLeaves : Type 0
 EventLeaves = (s : State) (event : Event) (answer : Answer) (t : State) → Applies s event answer t → AreLeft s t
+
+-- ---- which events are refused
+
+-- an event is accepted only where no refusal is due
+abbrev pub AcceptedUnrefused : Type 0
+AcceptedUnrefused = (s : State) (event : Event) (done : Done) (t : State) → Accepts s event done t → refusal_of s event ≡ None
+
+-- a refusal other than want of memory is due exactly where the event is handed back with it
+abbrev pub RefusedWhereDue : Type 0
+RefusedWhereDue = (s : State) (event : Event) (answer : Answer) (t : State) (r : EventRefusal) → Applies s event answer t → (r ≡ NoMemory → ⊥) → (refusal_of s event ≡ Some r) ↔ (answer ≡ Err (record { refusal = r; event = event }))
 
 -- ---- the replies that calls hold
 

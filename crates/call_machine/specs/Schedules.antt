@@ -111,14 +111,7 @@ StandsBefore (c ∷ cs) a b = ((c ≡ a) × Within cs b) ⊎ StandsBefore cs a b
 abbrev pub IsStrict : List Happened → List ℕ → Type 0
 IsStrict log order = (a b : ℕ) → IsListed log a → IsListed log b → EndedBefore log a b → StandsBefore order a b
 
--- ---- conflicts
-
--- the batches of these calls
-abbrev pub BatchesOf : List Happened → List ℕ → List Batch → Type 0
-BatchesOf log [] [] = ⊤
-BatchesOf log [] (batch ∷ batches) = ⊥
-BatchesOf log (c ∷ cs) [] = ⊥
-BatchesOf log (c ∷ cs) (batch ∷ batches) = HandedIn log c batch × BatchesOf log cs batches
+-- ---- begins
 
 abbrev pub commit_of : Done → List ℕ
 commit_of (Invoked c) = []
@@ -133,6 +126,23 @@ commit_of (Answered c told) = []
 abbrev pub commits_in : List Happened → List ℕ
 commits_in [] = []
 commits_in (h ∷ hs) = commit_of h.done ++ commits_in hs
+
+-- the place that this answer tells the begin of the call is the number of the commits among these accepted events
+abbrev pub CountsCommits : List Happened → ℕ → Done → Type 0
+CountsCommits log c done = (status : Status) × (done ≡ Begun c (length (commits_in log)) status)
+
+-- each begin is told how many batches were committed before it
+abbrev pub BeginsCountCommits : List Happened → Type 0
+BeginsCountCommits log = (k c : ℕ) (done : Done) → slice_get log k ≡ Some (record { event = Begin c; done = done }) → CountsCommits (take k log) c done
+
+-- ---- conflicts
+
+-- the batches of these calls
+abbrev pub BatchesOf : List Happened → List ℕ → List Batch → Type 0
+BatchesOf log [] [] = ⊤
+BatchesOf log [] (batch ∷ batches) = ⊥
+BatchesOf log (c ∷ cs) [] = ⊥
+BatchesOf log (c ∷ cs) (batch ∷ batches) = HandedIn log c batch × BatchesOf log cs batches
 
 -- These committed batches have one, `other`, that was committed as book `length before + 1`, which is after book `base`. One of its writes, on the book that it found, hits a mark of the footprint that `batch` has on book `base`.
 pub record IsDue (journal : List Batch) (batch : Batch) (base : ℕ) : Type 0 where
@@ -175,12 +185,13 @@ ConflictsWereMet log = (n c place : ℕ) → At log n (on.Reply c) (Answered c (
 abbrev pub OneBatch : List Happened → Type 0
 OneBatch log = (c : ℕ) (batch other : Batch) → HandedIn log c batch → HandedIn log c other → batch ≡ other
 
--- Each call has one batch. The order is serial, legal and strict. Each conflict is due, and its call is over: it is listed nowhere, so that nobody runs its batch.
+-- Each call has one batch. The order is serial, legal and strict. Each begin is told how many batches were committed before it, and each conflict is due since the begin of its call; this call is over: it is listed nowhere, so that nobody runs its batch.
 pub record Headline (log : List Happened) (order : List ℕ) : Type 0 where
   pub one_batch : OneBatch log
   pub serial : IsSerial log order
   pub legal : IsLegal log order
   pub strict : IsStrict log order
+  pub begins : BeginsCountCommits log
   pub conflicts : ConflictsAreDue log
   pub over : ConflictsAreOver log
   pub met : ConflictsWereMet log

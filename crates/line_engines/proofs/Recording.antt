@@ -147,18 +147,23 @@ told_same a b e = cc
 has_stamps : (log : List Happened) (calls : List Call) (n : ℕ) (r : Recorded) (of : IsRecordOf calls n r) → IsStamped log of.call → HasStamps log r
 has_stamps log calls n r of s =
     let same : of.call.number ≡ r.call = (call_within n calls of.call of.found).1 ∙ sym of.number_is in
+    let invoked = (s.invoked of.call.invoked of.call.batch).0 (refl, refl) in
     record {
       invoked = (
-        s.invoked.0,
-        subst (λ b. At log r.invoked (Invoke r.call b) s.invoked.0) (sym of.batch_is)
-            (subst (λ k. At log r.invoked (Invoke k of.call.batch) s.invoked.0) same
-            (subst (λ i. At log i (Invoke of.call.number of.call.batch) s.invoked.0) (sym of.invoked_is) s.invoked.1)),
+        invoked.0,
+        subst (λ b. At log r.invoked (Invoke r.call b) invoked.0) (sym of.batch_is)
+            (subst (λ k. At log r.invoked (Invoke k of.call.batch) invoked.0) same
+            (subst (λ i. At log i (Invoke of.call.number of.call.batch) invoked.0) (sym of.invoked_is) invoked.1)),
       );
-      replied = λ i e.
-          let t = s.replied i (sym of.replied_is ∙ e) in
-          let is : t.0 ≡ Replied r.reply = told_same _ _ (sym t.1 ∙ of.holds) in
-          subst (λ k. At log i (on.Reply k) (Answered k (Replied r.reply))) same
-          (subst (λ (x : Told). At log i (on.Reply of.call.number) (Answered of.call.number x)) is t.2);
+      replied = λ i. (
+        λ e.
+            let at = (s.replied i).0 (sym of.replied_is ∙ e) in
+            let t = s.told i at.0 at.1 in
+            let is : t.0 ≡ Replied r.reply = told_same _ _ (sym t.1 ∙ of.holds) in
+            subst (λ k. At log i (on.Reply k) (Answered k (Replied r.reply))) same
+            (subst (λ d. At log i (on.Reply of.call.number) d) (t.2 ∙ ap (Answered of.call.number) is) at.1),
+        λ at. of.replied_is ∙ (s.replied i).1 (Answered r.call (Replied r.reply), subst (λ k. At log i (on.Reply k) (Answered r.call (Replied r.reply))) (sym same) at),
+      );
     }
 
 have_stamps : (log : List Happened) (calls : List Call) → ((n : ℕ) (call : Call) → call_at n calls ≡ Some call → IsStamped log call) → (order : List ℕ) (records : List Recorded) → AreRecords calls order records → AllByRecursion (HasStamps log) records
@@ -186,7 +191,7 @@ ended_before log first second k f s e l = record {
   told = Answered second.call (Replied second.reply);
   batch = first.batch;
   done = f.invoked.0;
-  reply = s.replied k e;
+  reply = (s.replied k).0 e;
   invoke = f.invoked.1;
   earlier = l;
 }
@@ -248,7 +253,7 @@ have_ended log s h one stamps books (n ∷ ns) (r ∷ rs) listed are legal runs 
     let call = of.call in
     let within = call_within n s.calls call of.found in
     let stamp = h.sound.stamped call within.0 in
-    let invoked = (stamps n call of.found).invoked in
+    let invoked = ((stamps n call of.found).invoked call.invoked call.batch).0 (refl, refl) in
     let begun = begun_told call.stage r.reply of.holds in
     let handed : HandedIn log n call.batch = subst (λ m. HandedIn log m call.batch) within.1 (call.invoked, invoked.0, invoked.1) in
     let batch : runs.0 ≡ r.batch = one n runs.0 call.batch runs.1 handed ∙ sym of.batch_is in

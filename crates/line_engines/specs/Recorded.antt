@@ -1,5 +1,5 @@
 -- What the engine `record` writes: nothing line by line, and in the end the records of the machine's calls.
-use Rattle.std.specs.Prelude.{◌≡◌, ◌<◌, ◌≤◌, ℕ, true, ⊤, List, [], ◌∷◌, Option, None, Some, Result, OnOk, IfSome, refl}
+use Rattle.std.specs.Prelude.{◌≡◌, ◌↔◌, ◌<◌, ◌≤◌, ℕ, true, ⊤, List, [], ◌∷◌, Option, None, Some, Result, OnOk, IfSome, refl}
 use Rattle.std.specs.Io.KnownBytes.{Appends}
 use Rattle.std.specs.List.{AllByRecursion, flat_map}
 use Rattle.entry_book.specs.declared.reply.Reply.{Reply}
@@ -65,10 +65,10 @@ IsWritten r = IsWrittenBatch r.batch × IsWrittenCall r.call r.invoked r.replied
 
 -- ---- records of a machine's calls
 
--- The stamps are numbers of accepted events: the one that handed in the batch, and the one that gave out the reply.
+-- The stamps are numbers of accepted events: the one that handed in the batch, and, exactly where there is one, the one that gave out the reply.
 pub record HasStamps (log : List Happened) (r : Recorded) : Type 0 where
   pub invoked : (done : Done) × At log r.invoked (Invoke r.call r.batch) done
-  pub replied : (n : ℕ) → r.replied ≡ Some n → At log n (on.Reply r.call) (Answered r.call (Replied r.reply))
+  pub replied : (n : ℕ) → (r.replied ≡ Some n) ↔ At log n (on.Reply r.call) (Answered r.call (Replied r.reply))
 
 -- the call of this number has this record: it holds the reply
 pub record IsRecordOf (calls : List Call) (number : ℕ) (r : Recorded) : Type 0 where
