@@ -1,5 +1,5 @@
 -- A call that is found, and moved on, and what that is to a machine.
-use Rattle.std.proofs.Common.{◌≡◌, ℕ, ◌+◌, Bool, false, List, [], ◌∷◌, ◌++◌, Option, Some, None, refl, sym, ap, subst, ◌∙◌, inl, inr, ⊎_elim}
+use Rattle.std.proofs.Common.{◌≡◌, ℕ, ◌+◌, ◌≤◌, ◌<◌, length, length-append, arith, Bool, false, List, [], ◌∷◌, ◌++◌, Option, Some, None, refl, sym, ap, subst, ◌∙◌, inl, inr, ⊎_elim}
 use Rattle.std.specs.Prelude.{nat_eq, option_map, is_some, if◌then◌else◌}
 use Rattle.std.specs.Map.{lookup, set_value}
 use Rattle.entry_book.specs.Batches.{Batch, IsMadeFor}
@@ -12,7 +12,8 @@ use Rattle.call_events.specs.declared.event.EventRefusal.TheVariants.{NotNow, Un
 use Rattle.call_machine.specs.declared.slot.Slot.{Slot}
 use Rattle.call_machine.specs.Calls.{Call, Stage, State, call_at, with_call}
 use Rattle.call_machine.specs.Machine.{Commits, refusal_at}
-use Rattle.call_machine.specs.Kept.{AllRest, GoesOn, Holds, IsRefusalOr, RestsOn, SlotDecides, SlotRefuses, call_kept, calls_kept, domain_of, new_work, stage_of_slot, state_of}
+use Rattle.call_machine.specs.Kept.{AllRest, GoesOn, Holds, IsRefusalOr, RestsOn, SlotDecides, SlotRefuses, all_events, call_kept, calls_kept, domain_of, new_work, slot_events, stage_of_slot, state_of}
+use Rattle.call_machine.proofs.Counts.{counted_set, events_more, few_set}
 use Rattle.call_machine.proofs.Heads.{stayed}
 use Rattle.call_machine.proofs.Slots.{all_rest_more, lookup_call, rest_set, rests_new, set_call, set_same}
 
@@ -39,10 +40,12 @@ module _ (h : Head) (count : ℕ) (es : List (ℕ × Slot)) (s : State) (view : 
 pub unchanged : (n : ℕ) (es entries : List (ℕ × Slot)) (slot later : Slot) → lookup (nat_eq n) es ≡ Some slot → entries ≡ set_value (nat_eq n) es later → later ≡ slot → entries ≡ es
 unchanged n es entries slot later found changed same = changed ∙ (ap (set_value (nat_eq n) es) same ∙ set_same n slot es found)
 
-pub holds_stays : (old new : Head) (es : List (ℕ × Slot)) → Holds old es → Stays old new → Holds new es
-holds_stays old new es h s = record {
+pub holds_stays : (old new : Head) (count : ℕ) (es : List (ℕ × Slot)) → Holds old count es → Stays old new → Holds new count es
+holds_stays old new count es h s = record {
   whole = (stayed old new h.whole s).whole;
   rest = subst (λ l. AllRest (domain_of new) l es) (sym s.kept) (subst (λ w. AllRest w.newest.domain old.kept es) (sym s.window) h.rest);
+  few = h.few;
+  counted = h.counted;
 }
 
 pub state_stays : (old new : Head) (count : ℕ) (es : List (ℕ × Slot)) → Stays old new → state_of new count es ≡ state_of old count es
@@ -50,22 +53,26 @@ state_stays old new count es s = λ i. record { domain = (s.window i).newest.dom
 
 -- ---- one call has changed
 
-pub holds_set : (h : Head) (n : ℕ) (es entries : List (ℕ × Slot)) (later : Slot) → Holds h es → entries ≡ set_value (nat_eq n) es later → RestsOn (domain_of h) h.kept later.work → Holds h entries
-holds_set h n es entries later holds changed rests = record {
+pub holds_set : (h : Head) (count n : ℕ) (es entries : List (ℕ × Slot)) (slot later : Slot) → Holds h count es → lookup (nat_eq n) es ≡ Some slot → entries ≡ set_value (nat_eq n) es later → RestsOn (domain_of h) h.kept later.work → slot_events slot + 1 ≤ slot_events later → Holds h (count + 1) entries
+holds_set h count n es entries slot later holds found changed rests more = record {
   whole = holds.whole;
   rest = subst (AllRest (domain_of h) h.kept) (sym changed) (rest_set (domain_of h) h.kept n later es holds.rest rests);
+  few = subst (λ l. length l ≤ 4096) (sym changed) (few_set n later es holds.few);
+  counted = subst (λ l. count + 1 ≤ all_events l) (sym changed) (counted_set count n es slot later found more holds.counted);
 }
 
 pub calls_set : (n : ℕ) (es entries : List (ℕ × Slot)) (later : Slot) → entries ≡ set_value (nat_eq n) es later → calls_kept entries ≡ with_call (call_kept n later) (calls_kept es)
 calls_set n es entries later changed = ap calls_kept changed ∙ set_call n later es
 
 -- and the journal goes on
-pub holds_on : (old new : Head) (n : ℕ) (es entries : List (ℕ × Slot)) (later : Slot) (batch : Batch) → Holds old es → GoesOn old new → entries ≡ set_value (nat_eq n) es later → IsMadeFor (domain_of old) batch → later.work ≡ new_work batch → Holds new entries
-holds_on old new n es entries later batch holds on changed made fresh =
+pub holds_on : (old new : Head) (count n : ℕ) (es entries : List (ℕ × Slot)) (slot later : Slot) (batch : Batch) → Holds old count es → GoesOn old new → lookup (nat_eq n) es ≡ Some slot → entries ≡ set_value (nat_eq n) es later → IsMadeFor (domain_of old) batch → later.work ≡ new_work batch → slot_events slot + 1 ≤ slot_events later → Holds new (count + 1) entries
+holds_on old new count n es entries slot later batch holds on found changed made fresh more =
     let all : AllRest (domain_of new) new.kept es = subst (λ own. AllRest own new.kept es) (sym on.domain) (subst (λ l. AllRest (domain_of old) l es) (sym on.kept) (all_rest_more (domain_of old) old.kept on.more es holds.rest)) in
     record {
       whole = on.whole;
       rest = subst (AllRest (domain_of new) new.kept) (sym changed) (rest_set (domain_of new) new.kept n later es all (rests_new (domain_of new) new.kept later.work batch (subst (λ own. IsMadeFor own batch) (sym on.domain) made) fresh));
+      few = subst (λ l. length l ≤ 4096) (sym changed) (few_set n later es holds.few);
+      counted = subst (λ l. count + 1 ≤ all_events l) (sym changed) (counted_set count n es slot later found more holds.counted);
     }
 
 pub commits_kept : (old new : Head) (count n : ℕ) (es entries : List (ℕ × Slot)) (slot later : Slot) (decision : Decision) (place : ℕ) → lookup (nat_eq n) es ≡ Some slot → SlotDecides old slot (count + 1) decision place later new → entries ≡ set_value (nat_eq n) es later → Commits (state_of old count es) n (Decided n decision place) (state_of new (count + 1) entries)
@@ -117,8 +124,10 @@ rest_more : (h : Head) (es : List (ℕ × Slot)) (n : ℕ) (slot : Slot) → All
 rest_more h [] n slot a r = (r, tt)
 rest_more h (e ∷ es) n slot a r = (a.0, rest_more h es n slot a.1 r)
 
-pub holds_more : (h : Head) (n : ℕ) (es entries : List (ℕ × Slot)) (slot : Slot) → Holds h es → entries ≡ es ++ (n, slot) ∷ [] → RestsOn (domain_of h) h.kept slot.work → Holds h entries
-holds_more h n es entries slot holds e rests = record {
+pub holds_more : (h : Head) (count n : ℕ) (es entries : List (ℕ × Slot)) (slot : Slot) → Holds h count es → entries ≡ es ++ (n, slot) ∷ [] → RestsOn (domain_of h) h.kept slot.work → length es < 4096 → 1 ≤ slot_events slot → Holds h (count + 1) entries
+holds_more h count n es entries slot holds e rests few some = record {
   whole = holds.whole;
   rest = subst (AllRest (domain_of h) h.kept) (sym e) (rest_more h es n slot holds.rest rests);
+  few = subst (λ l. length l ≤ 4096) (sym e) (let k = length-append es ((n, slot) ∷ []) in omega arith);
+  counted = subst (λ l. count + 1 ≤ all_events l) (sym e) (let k = events_more n slot es in let c = holds.counted in omega arith);
 }

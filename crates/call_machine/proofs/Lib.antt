@@ -1,4 +1,5 @@
 pub mod Changed
+pub mod Counts
 pub mod Decisions
 pub mod Events
 pub mod Heads

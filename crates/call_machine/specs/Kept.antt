@@ -1,5 +1,5 @@
 -- What a machine's fields stand for, and what an event does to one call. For this crate's own contracts.
-use Rattle.std.specs.Prelude.{◌≡◌, ℕ, ◌+◌, ◌≤◌, Bool, true, false, ◌&&◌, ◌⊎◌, List, ◌∷◌, ◌++◌, [], map, length, take, slice_get, nat_lt, Option, Some, None, Result, Ok, Err, is_none, if◌then◌else◌}
+use Rattle.std.specs.Prelude.{◌≡◌, ℕ, ◌+◌, ◌≤◌, ◌^◌, Bool, true, false, ◌&&◌, ◌⊎◌, List, ◌∷◌, ◌++◌, [], map, length, take, slice_get, nat_lt, Option, Some, None, Result, Ok, Err, is_none, if◌then◌else◌}
 use Rattle.std.specs.List.{AllByRecursion}
 use Rattle.entry_book.specs.declared.limit.Limit.{Limit}
 use Rattle.entry_book.specs.declared.reply.Outcome.TheVariants.{Committed, Refused}
@@ -98,10 +98,32 @@ journal_of h = batches_of h.kept
 abbrev pub state_of : Head → ℕ → List (ℕ × Slot) → State
 state_of h count es = record { domain = domain_of h; journal = journal_of h; count = count; calls = calls_kept es }
 
--- What always holds of a machine's fields.
-pub record Holds (h : Head) (es : List (ℕ × Slot)) : Type 0 where
+-- how many events were accepted of a call that stands here, at most: its invoke, its begin, a step for each of its reads, and its commit
+abbrev pub stage_events : Stage → ℕ
+stage_events waiting = 1
+stage_events (running base made) = 2 + made
+stage_events (ready base) = 2 + 2 ^ 21
+stage_events (answered r) = 3 + 2 ^ 21
+stage_events (committed r) = 3 + 2 ^ 21
+stage_events (conflict n) = 3 + 2 ^ 21
+
+abbrev pub reply_events : Option ℕ → ℕ
+reply_events None = 0
+reply_events (Some n) = 1
+
+abbrev pub slot_events : Slot → ℕ
+slot_events slot = stage_events (stage_of_slot slot) + reply_events slot.replied
+
+abbrev pub all_events : List (ℕ × Slot) → ℕ
+all_events [] = 0
+all_events (e ∷ es) = slot_events e.1 + all_events es
+
+-- What always holds of a machine's fields. That the calls are few and that no event is another call's keeps the count far below 2^64.
+pub record Holds (h : Head) (count : ℕ) (es : List (ℕ × Slot)) : Type 0 where
   pub whole : IsWhole h
   pub rest : AllRest (domain_of h) h.kept es
+  pub few : length es ≤ 4096
+  pub counted : count ≤ all_events es
 
 -- want of memory comes only where no other refusal is due
 abbrev pub IsRefusalOr : Option EventRefusal → EventRefusal → Type 0

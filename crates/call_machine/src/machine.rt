@@ -19,7 +19,8 @@ use std::marker::Model;
 /// domain, the committed batches, the count of accepted events, and its calls in the order of their invokes.
 ///
 /// A machine has at most 4,096 calls, and keeps each as long as it lives, with its batch and its reply; of a call that is over no
-/// version is kept. An event costs what its work or its commit costs, and finding the call, by a hash.
+/// version is kept. As a batch makes at most 2^21 reads, a machine accepts fewer than 2^34 events in its life. An event costs
+/// what its work or its commit costs, and finding the call, by a hash.
 #[derive(Drop)]
 pub struct Machine {
     alloc: Global,
@@ -36,11 +37,11 @@ impl Model for Machine {
 
     ghost view = { λ machine. state_of machine.head machine.count machine.calls.entries };
 
-    ghost invariant = { λ machine. Holds machine.head machine.calls.entries };
+    ghost invariant = { λ machine. Holds machine.head machine.count machine.calls.entries };
 }
 
 impl Machine {
-    ghost use Rattle.std.specs.Prelude.{◌≡◌, ◌+◌, ◌<◌, ◌^◌, ◌⊎◌, List, length, IfOk, IfErr, OnOk, OnErr, MatchResult, Some};
+    ghost use Rattle.std.specs.Prelude.{◌≡◌, ◌+◌, ◌⊎◌, List, IfOk, IfErr, OnOk, OnErr, MatchResult, Some};
     ghost use Rattle.entry_book.specs.Rows.{Bytes};
     ghost use Rattle.entry_book.specs.History.{first_books};
     ghost use Rattle.call_events.specs.declared.event.Event.{Event as AnEvent};
@@ -66,9 +67,8 @@ impl Machine {
     }
 
     /// One event: what it is answered, or why it is refused; then nothing has changed. A batch that is handed in was made for
-    /// the machine's trust domain, and fewer than 2^64 events are accepted in all.
+    /// the machine's trust domain.
     pub fn apply(&mut self, event: Event) -> Result<Done, RefusedEvent>
-        requires numbers { self.old.count + 1 < 2 ^ 64 }
         requires domain { IsFor self.old.domain event }
         ensures { Applies self.old event result self.new }
     {
@@ -90,7 +90,6 @@ impl Machine {
     /// Each event in turn, as `apply` does it, and the answer to each. The error is want of memory for the list of answers, and nothing has
     /// changed then.
     pub fn run(&mut self, events: Vec<Event>) -> Result<Vec<Result<Done, RefusedEvent>>, AllocError>
-        requires numbers { self.old.count + length events.items < 2 ^ 64 }
         requires domain { AreFor self.old.domain events.items }
         ensures ran { IfOk result (λ answers. Runs self.old events.items answers.items self.new) }
         ensures err { OnErr result (self.new ≡ self.old) }
@@ -130,7 +129,6 @@ impl Machine {
 
     /// A call's batch is handed in. Refused, it is handed back.
     fn invoke(&mut self, number: u64, batch: Batch) -> Result<Done, (EventRefusal, Batch)>
-        requires numbers { self.old.count + 1 < 2 ^ 64 }
         requires domain { batch.domain ≡ self.old.domain }
         ensures ok { IfOk result (λ done. Invokes self.old number batch done self.new) }
         ensures err { IfErr result (λ r. (r.1 ≡ batch) × IsRefusalOr (refusal_of self.old (event.Invoke number batch)) r.0) }
@@ -156,7 +154,6 @@ impl Machine {
 
     /// A call's work begins on the newest book.
     fn begin(&mut self, number: u64) -> Result<Done, EventRefusal>
-        requires numbers { self.old.count + 1 < 2 ^ 64 }
         ensures ok { IfOk result (λ done. Begins self.old number done self.new) }
         ensures err { IfErr result (IsRefusalOr (refusal_of self.old (event.Begin number))) }
         ensures stays { OnErr result (self.new ≡ self.old) }
@@ -175,7 +172,6 @@ impl Machine {
 
     /// A call's work makes its next read.
     fn step(&mut self, number: u64) -> Result<Done, EventRefusal>
-        requires numbers { self.old.count + 1 < 2 ^ 64 }
         ensures ok { IfOk result (λ done. Steps self.old number done self.new) }
         ensures err { IfErr result (IsRefusalOr (refusal_of self.old (event.Step number))) }
         ensures stays { OnErr result (self.new ≡ self.old) }
@@ -193,7 +189,6 @@ impl Machine {
 
     /// A call's changes are to be committed.
     fn commit(&mut self, number: u64) -> Result<Done, EventRefusal>
-        requires numbers { self.old.count + 1 < 2 ^ 64 }
         ensures ok { IfOk result (λ done. Commits self.old number done self.new) }
         ensures err { IfErr result (IsRefusalOr (refusal_of self.old (event.Commit number))) }
         ensures stays { OnErr result (self.new ≡ self.old) }
@@ -212,7 +207,6 @@ impl Machine {
 
     /// A call's answer is given out.
     fn reply(&mut self, number: u64) -> Result<Done, EventRefusal>
-        requires numbers { self.old.count + 1 < 2 ^ 64 }
         ensures ok { IfOk result (λ done. Replies self.old number done self.new) }
         ensures err { IfErr result (IsRefusalOr (refusal_of self.old (event.Reply number))) }
         ensures stays { OnErr result (self.new ≡ self.old) }

@@ -3,12 +3,13 @@
 //! The crate has tests alone, over the public calls of `call_machine`:
 //!
 //! - `worked`: small schedules, told by tables, which `playing` plays. `making` reads events, `telling` tells answers.
-//! - `counted`: a machine, and what a test has to know of it; `refused`: that a refused event is handed back and changes nothing.
+//! - `domain_machine`: a machine, and what a test has to know of it; `refused`: that a refused event is handed back and
+//!   changes nothing.
 //! - `values`: values of any type; `wanted`: what a test wants to see.
 #![tactic(auto)]
 
 #[cfg(test)]
-mod counted;
+mod domain_machine;
 #[cfg(test)]
 mod making;
 #[cfg(test)]

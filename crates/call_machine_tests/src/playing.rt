@@ -2,7 +2,7 @@
 
 ghost use Rattle.std.specs.Prelude.{◌<◌};
 
-use crate::counted::{Counted, lacks_memory, run_at_once};
+use crate::domain_machine::{DomainMachine, lacks_memory, run_at_once};
 use crate::making::{bundles, event};
 use crate::refused::answer;
 use crate::telling::{answer_text, known_text, numbers_text};
@@ -18,17 +18,17 @@ use std::test::Fail;
 /// The calls up to this number are looked at where an event is refused.
 const LAST: u64 = 8;
 
-fn first_machine(alloc: Global) -> Result<Counted, Fail> {
-    Counted::new(alloc, trust_domain(alloc, "ex.org")?)
+fn first_machine(alloc: Global) -> Result<DomainMachine, Fail> {
+    DomainMachine::new(alloc, trust_domain(alloc, "ex.org")?)
 }
 
 /// The answer to an event that has to be accepted.
-fn accepted(machine: &mut Counted, event: Event) -> Result<Done, Fail> {
+fn accepted(machine: &mut DomainMachine, event: Event) -> Result<Done, Fail> {
     had(machine.apply(event)?, "refused")
 }
 
 /// Hands in an event that has to be accepted.
-fn does(machine: &mut Counted, event: Event) -> Result<(), Fail> {
+fn does(machine: &mut DomainMachine, event: Event) -> Result<(), Fail> {
     drop(accepted(machine, event)?);
     Ok(())
 }
@@ -42,7 +42,7 @@ fn status_begun(done: &Done) -> Option<Status> {
 }
 
 /// What the call waits for after its begin.
-fn begins(machine: &mut Counted, call: u64) -> Result<Status, Fail> {
+fn begins(machine: &mut DomainMachine, call: u64) -> Result<Status, Fail> {
     let done = accepted(machine, Event::Begin(call))?;
     let status = status_begun(&done);
     drop(done);
@@ -58,7 +58,7 @@ fn status_stepped(done: &Done) -> Option<Status> {
 }
 
 /// What the call waits for after its next step.
-fn steps(machine: &mut Counted, call: u64) -> Result<Status, Fail> {
+fn steps(machine: &mut DomainMachine, call: u64) -> Result<Status, Fail> {
     let done = accepted(machine, Event::Step(call))?;
     let status = status_stepped(&done);
     drop(done);
@@ -66,7 +66,7 @@ fn steps(machine: &mut Counted, call: u64) -> Result<Status, Fail> {
 }
 
 /// Makes a call of the batch that a text tells, from its invoke to its reply.
-fn runs(alloc: Global, machine: &mut Counted, call: u64, text: &str) -> Result<(), Fail> {
+fn runs(alloc: Global, machine: &mut DomainMachine, call: u64, text: &str) -> Result<(), Fail> {
     does(machine, Event::Invoke(call, batch(alloc, text)?))?;
     let mut status = begins(machine, call)?;
     for _ in 0..1_000_u64 {
@@ -82,7 +82,7 @@ fn runs(alloc: Global, machine: &mut Counted, call: u64, text: &str) -> Result<(
 }
 
 /// So many new bundles, 64 in each call, from this call on.
-fn fills(alloc: Global, machine: &mut Counted, first: u64, count: u64) -> Result<(), Fail> {
+fn fills(alloc: Global, machine: &mut DomainMachine, first: u64, count: u64) -> Result<(), Fail> {
     for index in 0..count.div_ceil(64) {
         let from = index.wrapping_mul(64);
         let text = bundles(alloc, from, count.wrapping_sub(from).min(64))?;
@@ -92,7 +92,7 @@ fn fills(alloc: Global, machine: &mut Counted, first: u64, count: u64) -> Result
 }
 
 /// The calls up to this number are handed in, each with the batch that a text tells.
-fn hands_in(alloc: Global, machine: &mut Counted, last: u64, text: &str) -> Result<(), Fail> {
+fn hands_in(alloc: Global, machine: &mut DomainMachine, last: u64, text: &str) -> Result<(), Fail> {
     for call in 0..last {
         does(
             machine,
@@ -103,7 +103,7 @@ fn hands_in(alloc: Global, machine: &mut Counted, last: u64, text: &str) -> Resu
 }
 
 /// A line with no answer: a word, a number, and what the word needs.
-fn prepares(alloc: Global, machine: &mut Counted, line: &str) -> Result<(), Fail> {
+fn prepares(alloc: Global, machine: &mut DomainMachine, line: &str) -> Result<(), Fail> {
     let Some((word, rest)) = line.split_once(" ") else {
         return Err(Fail::from("no such line"));
     };
@@ -122,7 +122,7 @@ fn prepares(alloc: Global, machine: &mut Counted, line: &str) -> Result<(), Fail
 fn reply_to(
     rt: &impl Abort,
     alloc: Global,
-    machine: &mut Counted,
+    machine: &mut DomainMachine,
     question: &str,
 ) -> Result<String, Fail> {
     if question == "ORDER" {
@@ -138,7 +138,7 @@ fn reply_to(
 fn plays_line(
     rt: &impl Abort,
     alloc: Global,
-    machine: &mut Counted,
+    machine: &mut DomainMachine,
     line: &str,
 ) -> Result<(), Fail> {
     if let Some((question, want)) = line.split_once(" => ") {
@@ -153,7 +153,7 @@ fn plays_line(
 fn plays_lines(
     rt: &impl Abort,
     alloc: Global,
-    machine: &mut Counted,
+    machine: &mut DomainMachine,
     table: &str,
 ) -> Result<(), Fail> {
     for line in table.lines() {

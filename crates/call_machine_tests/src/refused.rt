@@ -1,6 +1,6 @@
 //! An event that is refused is handed back, and has changed nothing.
 
-use crate::counted::Counted;
+use crate::domain_machine::DomainMachine;
 use crate::making::event;
 use crate::telling::{answer_text, known_text, numbers_text};
 use crate::wanted::{holds, is_text};
@@ -57,7 +57,7 @@ fn is_told(alloc: Global, told: &str, refused: &Event) -> Result<bool, Fail> {
 }
 
 /// All that a machine tells of its order, and of the calls up to this number.
-fn machine_text(alloc: Global, machine: &Counted, last: u64) -> Result<String, Fail> {
+fn machine_text(alloc: Global, machine: &DomainMachine, last: u64) -> Result<String, Fail> {
     let mut text = numbers_text(alloc, machine.order()?.as_slice())?;
     for number in 0..last {
         text.push_str(" | ")?;
@@ -70,7 +70,7 @@ fn machine_text(alloc: Global, machine: &Counted, last: u64) -> Result<String, F
 fn check_refused(
     rt: &impl Abort,
     alloc: Global,
-    machine: &Counted,
+    machine: &DomainMachine,
     told: &str,
     refused: &Event,
     (last, before): (u64, &str),
@@ -85,7 +85,7 @@ fn check_refused(
 fn checked_text(
     rt: &impl Abort,
     alloc: Global,
-    machine: &Counted,
+    machine: &DomainMachine,
     told: &str,
     answer: &Result<Done, RefusedEvent>,
     before: (u64, &str),
@@ -101,7 +101,7 @@ fn checked_text(
 pub fn answer(
     rt: &impl Abort,
     alloc: Global,
-    machine: &mut Counted,
+    machine: &mut DomainMachine,
     told: &str,
     last: u64,
 ) -> Result<String, Fail> {

@@ -1,5 +1,5 @@
 -- What the engine `schedule` answers to one line.
-use Rattle.std.proofs.Common.{◌≡◌, ◌+◌, ℕ, List, refl, ap, subst, sym, ◌∙◌, arith}
+use Rattle.std.proofs.Common.{◌≡◌, ◌+◌, ℕ, List, refl, ap, subst, sym, ◌∙◌}
 use Rattle.std.specs.Prelude.{Ok}
 use Rattle.rand_chacha.specs.ChaCha.{ChaCha}
 use Rattle.spiffe_name.specs.declared.refusals.Failure.{Failure}
@@ -31,7 +31,6 @@ event_refused domain now line text machine ids NoMemory m i e t = record {
   ids_is = i;
   lines_is = refl;
   domain_is = ap (λ (s : State). s.domain) (sym m);
-  count = let k = ap (λ (s : State). s.count) m in omega arith;
   runs = λ first r. r;
   made = λ m. m;
 }
@@ -42,7 +41,6 @@ event_refused domain now line text machine ids (Refused fault) m i e t = record 
   ids_is = i;
   lines_is = refl;
   domain_is = ap (λ (s : State). s.domain) (sym m);
-  count = let k = ap (λ (s : State). s.count) m in omega arith;
   runs = λ first r. r;
   made = λ m. m;
 }
@@ -60,7 +58,6 @@ event_applied domain now line text after ids event e a =
       ids_is = refl;
       lines_is = refl;
       domain_is = left_is.domain;
-      count = left_is.count;
       runs = λ first r. runs_go_on now.events now.answers first now.machine after event a.0 r a.1;
       made = λ m. All-more (IsFor domain) now.events event m (spelled_event-domain domain now.ids ids line event e);
     }

@@ -1,5 +1,5 @@
 -- What the engine `schedule` answers, line by line, and what it tells in the end.
-use Rattle.std.specs.Prelude.{◌≡◌, ◌≤◌, ℕ, ◌+◌, ⊤, List, [], ◌∷◌, ◌++◌, Result, Ok, Err, refl}
+use Rattle.std.specs.Prelude.{◌≡◌, ℕ, ◌+◌, ⊤, List, [], ◌∷◌, ◌++◌, Result, Ok, Err, refl}
 use Rattle.rand_chacha.specs.ChaCha.{ChaCha}
 use Rattle.call_machine.specs.Calls.{State, first_state}
 use Rattle.call_machine.specs.Laws.{IsOrder}
@@ -85,11 +85,6 @@ pub record StandsFor (kept : ScheduleKept) (now : Scheduled) : Type 0 where
   pub ids : now.ids ≡ kept.ids
   pub lines : now.lines ≡ kept.lines
 
--- the machine is that of the trust domain, and has accepted no more events than lines were read
-pub record Counts (domain : List ℕ) (machine : State) (lines : ℕ) : Type 0 where
-  pub of_domain : machine.domain ≡ domain
-  pub count : machine.count ≤ lines
-
 -- what a line is answered, as it is printed
 abbrev pub line_answer_json : LineAnswer → List ℕ
 line_answer_json (Done done) = event_json done
@@ -108,7 +103,6 @@ pub record TakesEventLine (domain : List ℕ) (now : Scheduled) (line : List ℕ
   pub ids_is : next.ids ≡ ids
   pub lines_is : next.lines ≡ now.lines + 1
   pub domain_is : machine.domain ≡ now.machine.domain
-  pub count : machine.count ≤ now.machine.count + 1
   pub runs : (first : State) → Runs first now.events now.answers now.machine → Runs first next.events next.answers next.machine
   pub made : AreFor domain now.events → AreFor domain next.events
 

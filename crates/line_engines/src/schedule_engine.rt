@@ -46,13 +46,14 @@ pub(crate) struct ScheduleRun {
 }
 
 impl Model for ScheduleRun {
-    ghost use Rattle.line_engines.specs.Schedules.{Counts, ScheduleKept};
+    ghost use Rattle.std.specs.Prelude.{◌≡◌};
+    ghost use Rattle.line_engines.specs.Schedules.{ScheduleKept};
 
     ghost Value = { ScheduleKept };
 
     ghost view = { λ r. record { machine = r.machine; ids = r.ids; lines = r.lines } };
 
-    ghost invariant = { λ r. Counts r.domain r.machine r.lines };
+    ghost invariant = { λ r. r.machine.domain ≡ r.domain };
 }
 
 impl ScheduleRun {
@@ -182,7 +183,6 @@ fn take(
     line: &[u8],
 ) -> LineAnswer
     requires domain { domain.now ≡ machine.old.domain }
-    requires numbers { machine.old.count + 1 < 2 ^ 64 }
     requires lines { lines + 1 < 2 ^ 64 }
     ensures line { (now : Scheduled) → now.machine ≡ machine.old → now.ids ≡ ids.old → now.lines ≡ lines
         → TakesEventLine domain.now now line.now (line_answer_json result) machine.new ids.new }
@@ -196,7 +196,6 @@ fn take(
 /// Applies the event of the line of this number: what it is answered.
 fn apply(machine: &mut Machine, event: Event, line: u64) -> LineAnswer
     requires domain { IsFor machine.old.domain event }
-    requires numbers { machine.old.count + 1 < 2 ^ 64 }
     ensures { Applied machine.old event line (line_answer_json result) machine.new }
 {
     match machine.apply(event) {

@@ -1,10 +1,14 @@
-use Rattle.std.proofs.Common.{◌+◌, sym, ap, subst, ◌∙◌, inl}
+use Rattle.std.proofs.Common.{◌+◌, sym, ap, subst, ◌∙◌, inl, arith}
 use Rattle.call_machine.specs.Machine.{Commits, is_ready}
 use Rattle.call_answers.specs.declared.answer.Done.TheVariants.{Decided}
 use Rattle.call_machine.specs.Kept.{Holds, domain_of, state_of}
 use Rattle.call_machine.proofs.Changed.{commits_kept, holds_on, holds_stays, refused_slot, refused_unknown, state_stays, unchanged}
+use Rattle.call_machine.proofs.Counts.{has_room, more_decided}
 use Rattle.call_machine.proofs.Slots.{rests_at}
 use Rattle.call_machine.proofs.machine.Machine.commit.Goals as goal
+
+pub overflow_add-turn : goal.overflow_add-turn
+overflow_add-turn c = let room = has_room c.self.inside.head c.self.inside.count c.self.inside.calls.entries c.self.invariant in omega arith
 
 pub returns-in_default-clause-err : goal.returns-in_default-clause-err
 returns-in_default-clause-err c = inl (refused_unknown c.self.inside.head c.self.inside.count c.self.inside.calls.entries c.args.self.now c.self.view_is c.args.number (λ d. is_ready d.stage) (sym c.in_default.ensures.value))
@@ -14,7 +18,7 @@ invariant_of-self-in-Err c =
     let es = c.self.inside.calls.entries in
     let n = c.args.number in
     let later = c.commit.new.self in
-    subst (Holds c.commit.new.head) (sym (unchanged n es _ c.in-Some.slot.now later (sym c.in-Some.ensures.value) (c.get_mut.follows.holds later).0 c.in-Err.ensures.stays)) (holds_stays c.self.inside.head c.commit.new.head es c.self.invariant c.in-Err.ensures.head_stays)
+    subst (Holds c.commit.new.head c.self.inside.count) (sym (unchanged n es _ c.in-Some.slot.now later (sym c.in-Some.ensures.value) (c.get_mut.follows.holds later).0 c.in-Err.ensures.stays)) (holds_stays c.self.inside.head c.commit.new.head c.self.inside.count es c.self.invariant c.in-Err.ensures.head_stays)
 
 pub returns-in-Err-clause-stays : goal.returns-in-Err-clause-stays
 returns-in-Err-clause-stays c =
@@ -37,8 +41,11 @@ invariant_of-self-2 c =
     let h = c.self.inside.head in
     let es = c.self.inside.calls.entries in
     let d = c.in-Ok.ensures.ok in
-    let rests = rests_at (domain_of h) h.kept c.args.number es c.in-Some.slot.now c.self.invariant.rest (sym c.in-Some.ensures.value) in
-    holds_on h c.commit.new.head c.args.number es _ c.commit.new.self c.in-Some.slot.now.work.batch c.self.invariant d.goes_on (c.get_mut.follows.holds c.commit.new.self).0 rests.made d.let_go
+    let old = c.in-Some.slot.now in
+    let found = sym c.in-Some.ensures.value in
+    let rests = rests_at (domain_of h) h.kept c.args.number es old c.self.invariant.rest found in
+    holds_on h c.commit.new.head c.self.inside.count c.args.number es _ old c.commit.new.self old.work.batch c.self.invariant d.goes_on found (c.get_mut.follows.holds c.commit.new.self).0 rests.made d.let_go
+    (more_decided h c.commit.new.head old c.commit.new.self _ _ _ d)
 
 pub returns-clause-ok : goal.returns-clause-ok
 returns-clause-ok c =

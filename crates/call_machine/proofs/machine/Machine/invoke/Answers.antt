@@ -10,10 +10,14 @@ use Rattle.call_answers.specs.declared.answer.Done.TheVariants.{Invoked}
 use Rattle.call_machine.specs.declared.slot.Slot.{Slot}
 use Rattle.call_machine.specs.Calls.{State, call_at}
 use Rattle.call_machine.specs.Machine.{Invokes}
-use Rattle.call_machine.specs.Kept.{call_kept, calls_kept, domain_of, state_of}
+use Rattle.call_machine.specs.Kept.{call_kept, calls_kept, domain_of, slot_events, state_of}
+use Rattle.call_machine.proofs.Counts.{has_room}
 use Rattle.call_machine.proofs.Changed.{holds_more, known_call, none_found}
 use Rattle.call_machine.proofs.Slots.{lookup_call, rests_new}
 use Rattle.call_machine.proofs.machine.Machine.invoke.Goals as goal
+
+pub overflow_add-invoked : goal.overflow_add-invoked
+overflow_add-invoked c = let room = has_room c.self.inside.head c.self.inside.count c.self.inside.calls.entries c.self.invariant in omega arith
 
 from_ok : {A E : Type 0} (r : Result A E) (P : Type 0) → is_err r ≡ false → OnOk r P → P
 from_ok (Ok x) P k h = h
@@ -55,7 +59,10 @@ invariant_of-self-2 c =
     let there : lookup (nat_eq n) c.reserve.new.self.entries ≡ None = ap (lookup (nat_eq n)) c.reserve.ensures.entries ∙ absent in
     let entries : c.insert.new.self.entries ≡ es ++ (n, slot) ∷ [] = was_ok c.insert.result _ ok c.insert.ensures.entries ∙ (insert_entry-new nat_eq c.reserve.new.self n slot there ∙ ap (λ l. l ++ (n, slot) ∷ []) c.reserve.ensures.entries) in
     let own : domain_of h ≡ c.args.self.now.domain = ap (λ (s : State). s.domain) c.self.view_is in
-    holds_more h n es _ slot c.self.invariant entries (rests_new (domain_of h) h.kept slot.work c.args.batch (subst (λ d. IsMadeFor d c.args.batch) (c.requires.domain ∙ sym own) c.ops.ensures.made) (ap (λ (s : Slot). s.work) c.new-slot.ensures))
+    let len : c.len.result ≡ length es = c.len.ensures.len in
+    let few = c.if-len-ge4096.false in
+    let one = ap slot_events c.new-slot.ensures in
+    holds_more h c.self.inside.count n es _ slot c.self.invariant entries (rests_new (domain_of h) h.kept slot.work c.args.batch (subst (λ d. IsMadeFor d c.args.batch) (c.requires.domain ∙ sym own) c.ops.ensures.made) (ap (λ (s : Slot). s.work) c.new-slot.ensures)) (omega (arith, len, few)) (omega (arith, one))
 
 pub returns-clause-ok : goal.returns-clause-ok
 returns-clause-ok c =

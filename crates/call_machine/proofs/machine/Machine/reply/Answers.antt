@@ -1,4 +1,4 @@
-use Rattle.std.proofs.Common.{◌+◌, refl, sym, ap, subst, ◌∙◌, inl}
+use Rattle.std.proofs.Common.{◌+◌, refl, sym, ap, subst, ◌∙◌, inl, arith}
 use Rattle.std.specs.Prelude.{option_map, is_none, ◌&&◌}
 use Rattle.call_machine.specs.Machine.{Replies, is_over}
 use Rattle.call_answers.specs.declared.answer.Done.TheVariants.{Answered}
@@ -6,8 +6,12 @@ use Rattle.call_machine.specs.declared.slot.Slot.{Slot}
 use Rattle.call_machine.specs.Calls.{with_call}
 use Rattle.call_machine.specs.Kept.{Holds, RestsOn, call_kept, calls_kept, domain_of, state_of}
 use Rattle.call_machine.proofs.Changed.{calls_set, holds_set, refused_slot, refused_unknown, unchanged}
+use Rattle.call_machine.proofs.Counts.{has_room, more_replied}
 use Rattle.call_machine.proofs.Slots.{lookup_call, rests_at}
 use Rattle.call_machine.proofs.machine.Machine.reply.Goals as goal
+
+pub overflow_add-turn : goal.overflow_add-turn
+overflow_add-turn c = let room = has_room c.self.inside.head c.self.inside.count c.self.inside.calls.entries c.self.invariant in omega arith
 
 pub returns-in_default-clause-err : goal.returns-in_default-clause-err
 returns-in_default-clause-err c = inl (refused_unknown c.self.inside.head c.self.inside.count c.self.inside.calls.entries c.args.self.now c.self.view_is c.args.number (λ d. is_none d.replied && is_over d.stage) (sym c.in_default.ensures.value))
@@ -17,7 +21,7 @@ invariant_of-self-in-Err c =
     let es = c.self.inside.calls.entries in
     let n = c.args.number in
     let later = c.reply.new.self in
-    subst (Holds c.self.inside.head) (sym (unchanged n es _ c.in-Some.slot.now later (sym c.in-Some.ensures.value) (c.get_mut.follows.holds later).0 c.in-Err.ensures.stays)) c.self.invariant
+    subst (Holds c.self.inside.head c.self.inside.count) (sym (unchanged n es _ c.in-Some.slot.now later (sym c.in-Some.ensures.value) (c.get_mut.follows.holds later).0 c.in-Err.ensures.stays)) c.self.invariant
 
 pub returns-in-Err-clause-stays : goal.returns-in-Err-clause-stays
 returns-in-Err-clause-stays c =
@@ -33,8 +37,12 @@ pub invariant_of-self-2 : goal.invariant_of-self-2
 invariant_of-self-2 c =
     let h = c.self.inside.head in
     let es = c.self.inside.calls.entries in
-    let rests = rests_at (domain_of h) h.kept c.args.number es c.in-Some.slot.now c.self.invariant.rest (sym c.in-Some.ensures.value) in
-    holds_set h c.args.number es _ c.reply.new.self c.self.invariant (c.get_mut.follows.holds c.reply.new.self).0 (subst (λ (s : Slot). RestsOn (domain_of h) h.kept s.work) (sym c.in-Ok.ensures.ok.2) rests)
+    let old = c.in-Some.slot.now in
+    let found = sym c.in-Some.ensures.value in
+    let b = c.in-Ok.ensures.ok in
+    let rests = rests_at (domain_of h) h.kept c.args.number es old c.self.invariant.rest found in
+    holds_set h c.self.inside.count c.args.number es _ old c.reply.new.self c.self.invariant found (c.get_mut.follows.holds c.reply.new.self).0 (subst (λ (s : Slot). RestsOn (domain_of h) h.kept s.work) (sym b.2) rests)
+    (more_replied old c.reply.new.self _ b.0 b.2)
 
 pub returns-clause-ok : goal.returns-clause-ok
 returns-clause-ok c =

@@ -8,15 +8,15 @@ use Rattle.call_machine.specs.Machine.{Runs}
 use Rattle.call_machine.proofs.Runs.{event_leaves, runs_go_on}
 use Rattle.call_machine.proofs.machine.Machine.run.Goals as goal
 
-pub apply-answer-requires-clause-domain : goal.apply-answer-requires-clause-domain
-apply-answer-requires-clause-domain c =
+pub apply-answer-requires : goal.apply-answer-requires
+apply-answer-requires c =
     let i = c.loop-event.invariant in
     let seen = c.loop-event.yielded in
     let e = c.in-Some.event in
     let left = into_iter_items c.next.new.self in
     let step : into_iter_items c.loop-event.event-iterator ≡ e ∷ left = c.in-Some.ensures.steps.0 in
     let whole : seen ++ e ∷ left ≡ c.args.events.items = ap (λ l. seen ++ l) (sym step) ∙ i.front in
-    subst (λ d. IsFor d e) (sym i.domain) (All-within (IsFor c.args.self.now.domain) c.args.events.items e c.requires.domain (subst (λ l. Within l e) whole (within_right seen (e ∷ left) e (inl refl))))
+    record { domain = subst (λ d. IsFor d e) (sym i.domain) (All-within (IsFor c.args.self.now.domain) c.args.events.items e c.requires.domain (subst (λ l. Within l e) whole (within_right seen (e ∷ left) e (inl refl)))) }
 
 pub loop-event-preserved : goal.loop-event-preserved
 loop-event-preserved c =
@@ -33,7 +33,6 @@ loop-event-preserved c =
     let items : c.push.new.self.items ≡ c.loop-event.answers.items ++ c.apply-answer.result ∷ [] = c.push.ensures.items ∙ ap (λ b. if b then c.loop-event.answers.items ++ c.apply-answer.result ∷ [] else c.loop-event.answers.items) ok in
     let told : vec_len c.push.new.self ≡ vec_len c.loop-event.answers + 1 = c.push.ensures.len ∙ ap (λ b. if b then vec_len c.loop-event.answers + 1 else vec_len c.loop-event.answers) ok in
     let left_is = event_leaves c.loop-event.self e c.apply-answer.result c.apply-answer.new.self c.apply-answer.ensures in
-    let count = left_is.count in
     record {
       can_next = tt;
       is_finite = tt;
@@ -42,5 +41,4 @@ loop-event-preserved c =
       told = omega arith;
       room = omega (arith, c.push.ensures.capacity);
       domain = left_is.domain ∙ i.domain;
-      count = omega arith;
     }

@@ -1,4 +1,4 @@
-use Rattle.std.proofs.Common.{◌≡◌, ◌+◌, ◌≤◌, ◌++◌, length, vec_len}
+use Rattle.std.proofs.Common.{◌≡◌, ◌≤◌, ◌++◌, length, vec_len}
 use Rattle.std.specs.Prelude.{vec_capacity}
 use Rattle.std.specs.Vec.Iter.{into_iter_items}
 use Rattle.call_machine.specs.Machine.{Runs}
@@ -13,5 +13,4 @@ invariant-loop-event l = record {
   told : vec_len l.answers ≡ length l.yielded;
   room : length l.fn.events.items ≤ vec_capacity l.answers;
   domain : l.self.domain ≡ l.fn.self.domain;
-  count : l.self.count ≤ l.fn.self.count + length l.yielded;
 }

@@ -1,4 +1,4 @@
-use Rattle.std.proofs.Common.{◌+◌, [], ap, arith, refl, subst, sym, ◌∙◌}
+use Rattle.std.proofs.Common.{◌+◌, [], ap, refl, subst, sym, ◌∙◌}
 use Rattle.line_engines.specs.Schedules.{ScheduleKept, Scheduled, StandsFor, TakesKept, line_answer_json}
 use Rattle.line_engines.proofs.Scheduling.{scheduled}
 use Rattle.line_engines.proofs.schedule_engine.ScheduleRun.take.Goals as goal
@@ -7,10 +7,7 @@ pub invariant_of-self : goal.invariant_of-self
 invariant_of-self c =
     let run = c.self.inside in
     let line = c.take-answer.ensures.line (record { events = []; answers = []; machine = run.machine; ids = run.ids; lines = run.lines }) refl refl refl in
-    record {
-      of_domain = line.domain_is ∙ c.self.invariant.of_domain;
-      count = let a = line.count in let b = c.self.invariant.count in omega arith;
-    }
+    line.domain_is ∙ c.self.invariant
 
 pub returns-clause-domain : goal.returns-clause-domain
 returns-clause-domain c =
@@ -26,5 +23,5 @@ returns-clause-taken c =
     let text = line_answer_json c.take-answer.result in
     let P : ScheduleKept → Type 0 = λ k. (now : Scheduled) → StandsFor k now → TakesKept k.machine.domain after now c.args.line.now text in
     subst P c.self.view_is (λ now stands.
-    subst (λ d. TakesKept d after now c.args.line.now text) (sym c.self.invariant.of_domain)
-    (scheduled run.domain before after now c.args.line.now text c.self.invariant.of_domain stands (c.take-answer.ensures.line now stands.machine stands.ids stands.lines) refl))
+    subst (λ d. TakesKept d after now c.args.line.now text) (sym c.self.invariant)
+    (scheduled run.domain before after now c.args.line.now text c.self.invariant stands (c.take-answer.ensures.line now stands.machine stands.ids stands.lines) refl))

@@ -1,4 +1,4 @@
-//! A machine, and what a test has to know of it: its trust domain, how many events it was handed, and its calls.
+//! A machine, and what a test has to know of it: its trust domain, and its calls.
 
 ghost use Rattle.std.specs.Prelude.{◌≡◌, IfOk, true};
 ghost use Rattle.call_events.specs.Events.{IsFor};
@@ -10,9 +10,6 @@ use spiffe_name::TrustDomain;
 use std::alloc::Global;
 use std::marker::Model;
 use std::test::Fail;
-
-/// No test hands in so many events.
-const EVENTS: u64 = 1_000_000;
 
 /// May the event be handed to a machine of this trust domain?
 fn is_for(domain: &TrustDomain, event: &Event) -> bool
@@ -42,43 +39,37 @@ pub fn lacks_memory(answer: &Result<Done, RefusedEvent>) -> bool {
     }
 }
 
-/// A machine, with a bound on the events that it has accepted.
+/// A machine, with its trust domain.
 #[derive(Drop)]
-pub struct Counted {
+pub struct DomainMachine {
     domain: TrustDomain,
     machine: Machine,
-    events: u64,
 }
 
-impl Model for Counted {
-    ghost use Rattle.std.specs.Prelude.{◌≡◌, ◌≤◌};
+impl Model for DomainMachine {
+    ghost use Rattle.std.specs.Prelude.{◌≡◌};
     ghost use Rattle.call_machine.specs.Calls.{State};
 
     ghost Value = { State };
 
-    ghost view = { λ counted. counted.machine };
+    ghost view = { λ kept. kept.machine };
 
-    ghost invariant = { λ counted. (counted.machine.domain ≡ counted.domain) × (counted.machine.count ≤ counted.events) };
+    ghost invariant = { λ kept. kept.machine.domain ≡ kept.domain };
 }
 
-impl Counted {
+impl DomainMachine {
     /// The machine of a trust domain's server.
-    pub fn new(alloc: Global, domain: TrustDomain) -> Result<Counted, Fail> {
+    pub fn new(alloc: Global, domain: TrustDomain) -> Result<DomainMachine, Fail> {
         let machine = new_machine(alloc, &domain)?;
-        Ok(Counted {
-            domain,
-            machine,
-            events: 0,
-        })
+        Ok(DomainMachine { domain, machine })
     }
 
     /// One event. Want of memory is an error.
     pub fn apply(&mut self, event: Event) -> Result<Result<Done, RefusedEvent>, Fail> {
-        if self.events >= EVENTS || !is_for(&self.domain, &event) {
+        if !is_for(&self.domain, &event) {
             drop(event);
             return Err(Fail::from("not for this machine"));
         }
-        self.events += 1;
         let answer = self.machine.apply(event);
         unless(lacks_memory(&answer), "no memory", answer)
     }
@@ -94,8 +85,7 @@ impl Counted {
 
 /// A machine of this trust domain, which was handed no event.
 fn new_machine(alloc: Global, domain: &TrustDomain) -> Result<Machine, Fail>
-    ensures domain { IfOk result (λ machine. machine.domain ≡ domain.now) }
-    ensures count { IfOk result (λ machine. machine.count ≡ 0) }
+    ensures { IfOk result (λ machine. machine.domain ≡ domain.now) }
 {
     Ok(Machine::new(alloc, domain.clone()?)?)
 }
@@ -107,9 +97,8 @@ fn answers_of(
     events: Vec<Event>,
 ) -> Result<Vec<Result<Done, RefusedEvent>>, Fail>
     requires domain { machine.domain ≡ domain.now }
-    requires count { machine.count ≡ 0 }
 {
-    if events.len() > 1_000 || !are_for(domain, events.as_slice()) {
+    if !are_for(domain, events.as_slice()) {
         drop(machine);
         drop(events);
         return Err(Fail::from("not for this machine"));
