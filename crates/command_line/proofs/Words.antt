@@ -132,7 +132,7 @@ server-parse app words m program server is has asks = subst (λ met. AsksServer 
 
 server_fault : (words : List Text) (program : Program) (fault : LineFault) → AsksWell words → IsServerFault (subcommand_of regd_command words) program fault → IsFaultOf words fault
 server_fault words program Address well is = (well, is.1)
-server_fault words program Number well is = (well, is.1)
+server_fault words program Number well is = (well, is.1, is.2)
 server_fault words program Seed well is = absurd is
 server_fault words program NotText well is = absurd is
 server_fault words program NoMemory well is = absurd is

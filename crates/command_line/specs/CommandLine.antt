@@ -178,6 +178,10 @@ AsksServer met Serve None = ⊥
 AsksServer met program (Some plan) = ⊥
 AsksServer met program None = ⊤
 
+-- the text tells an address
+abbrev pub TellsAddress : Text → Type 0
+TellsAddress text = (a : SocketAddrV4) × IsSocketV4Text text a
+
 -- the text tells no address
 abbrev pub TellsNoAddress : Text → Type 0
 TellsNoAddress text = (a : SocketAddrV4) → IsSocketV4Text text a → ⊥
@@ -191,7 +195,7 @@ TellsNoNumbers met = ((n : ℕ) → TellsNumber most_workers (server_word (codes
 -- what a server is asked for is refused so
 abbrev pub IsServerFault : Option (Text × List Row) → Program → LineFault → Type 0
 IsServerFault met program Address = (program ≡ Serve) × TellsNoAddress (server_word (codes "listen") met)
-IsServerFault met program Number = (program ≡ Serve) × TellsNoNumbers met
+IsServerFault met program Number = (program ≡ Serve) × TellsAddress (server_word (codes "listen") met) × TellsNoNumbers met
 IsServerFault met program fault = ⊥
 
 -- The parser takes the words, and they ask for a server, with a trust domain and a seed.
@@ -211,6 +215,6 @@ IsFaultOf words (Domain refusal) =
 IsFaultOf words Seed =
     (line_faults words ≡ []) × (domain_refusal (unwrap_or (domain_word words) []) ≡ None) × TellsNoSeed (seed_text words)
 IsFaultOf words Address = AsksWell words × TellsNoAddress (server_word (codes "listen") (subcommand_of regd_command words))
-IsFaultOf words Number = AsksWell words × TellsNoNumbers (subcommand_of regd_command words)
+IsFaultOf words Number = AsksWell words × TellsAddress (server_word (codes "listen") (subcommand_of regd_command words)) × TellsNoNumbers (subcommand_of regd_command words)
 IsFaultOf words NotText = ⊥
 IsFaultOf words NoMemory = ⊤
