@@ -1,6 +1,6 @@
 -- The records of a machine's calls.
-use Rattle.std.proofs.Common.{◌≡◌, ◌+◌, ◌≤◌, ◌<◌, ℕ, zero, suc, true, inl, inr, ⊎_elim, List, [], ◌∷◌, ◌++◌, take, length, get_or, Option, None, Some, Result, Ok, Err, refl, sym, ap, ◌∙◌, subst, arith}
-use Rattle.std.specs.Prelude.{OnOk, IfSome, slice_get}
+use Rattle.std.proofs.Common.{◌≡◌, ◌+◌, ◌≤◌, ◌<◌, ℕ, zero, suc, true, inl, inr, ⊎_elim, List, [], ◌∷◌, ◌++◌, take, length, get_or, Option, None, Some, Result, Ok, Err, refl, sym, ap, ◌∙◌, append_assoc, subst, arith}
+use Rattle.std.specs.Prelude.{⊤, Bool, IfSome, false, slice_get}
 use Rattle.std.specs.Io.KnownBytes.{Appends}
 use Rattle.std.specs.List.{AllByRecursion, flat_map}
 use Rattle.std.proofs.lemmas.Grind.{flat_map-append}
@@ -29,20 +29,23 @@ use Rattle.call_answers.specs.declared.answer.Told.{Told}
 use Rattle.call_answers.specs.declared.answer.Told.TheVariants.{Replied}
 use Rattle.call_machine.proofs.Events.{first_sound}
 use Rattle.call_machine.proofs.Line.{is_begun}
+use Rattle.call_machine.proofs.Runs.{runs_go_on}
 use Rattle.call_machine.proofs.Rows.{call_within, same_call}
 use Rattle.call_machine.proofs.Ties.{first_tied}
 use Rattle.call_machine.proofs.Whole.{Stands, calls_are_stamped, runs_stand}
 use Rattle.reg_lines.specs.CallRecords.{record_of, record_with}
 use Rattle.reg_lines.specs.RecordLines.{record_json}
-use Rattle.reg_lines.specs.Runs.{IsRun}
+use Rattle.reg_lines.specs.Runs.{IsRun, first_lines}
 use Rattle.reg_lines.specs.Spelled.{IsWrittenBatch, IsWrittenCall}
-use Rattle.reg_lines.specs.Stream.{OutputState, Puts}
+use Rattle.reg_lines.specs.Stream.{InputState, OutputState, Puts}
+use Rattle.line_devices.proofs.Puts.{Puts-nil}
 use Rattle.reg_lines.specs.declared.printing.records.CallRecord.{CallRecord}
 use Rattle.line_engines.specs.Answers.{as_line}
-use Rattle.line_engines.specs.Driver.{AppendsClosed, Closes}
-use Rattle.line_engines.specs.Recorded.{AppendsRecords, AreLegal, AreRecords, ClosesWithRecords, HasStamps, IsEnded, IsEndedAt, IsNotPast, IsRecordOf, IsWritten, Recorded, StampsInOrder, TakesEvent, TellsRecords, record_line}
-use Rattle.line_engines.specs.Schedules.{Scheduled, start}
+use Rattle.reg_lines.specs.Lines.{most_lines}
+use Rattle.line_engines.specs.Driver.{AnswersKept, AppendsClosed, Closes, ClosesAs, RunsOver}
+use Rattle.line_engines.specs.Recorded.{AppendsAllRecords, AppendsRecords, AreLegal, AreRecords, ClosesRecording, ClosesWithRecords, HasStamps, IsEnded, IsEndedAt, IsNotPast, IsRecordOf, IsWritten, KeepsRecording, RecordKept, Recorded, Recording, RecordsLine, RunsRecord, StampsInOrder, TellsRecords, events_by, events_of, first_recording, record_line, was_lost, was_taken}
 use Rattle.line_engines.specs.declared.fault.RunFault.{RunFault}
+use Rattle.line_engines.specs.Schedules.{ScheduleKept, Scheduled, TakesEvent, TakesKept, lacks_memory, passed, start, stepped, took, took_none}
 
 -- ---- one record after another
 
@@ -322,27 +325,130 @@ tells_records own last order runs made is headline held written =
 
 -- ---- nothing else is written
 
-nothing_told : (domain : List ℕ) (first last : Scheduled) (lines : List (List ℕ)) (text : List ℕ) → IsRun (TakesEvent domain) first lines last text → text ≡ []
+no_reply : (domain : List ℕ) (now next : Recording) (line reply : List ℕ) → RecordsLine domain now line next reply → reply ≡ []
+no_reply domain now next line reply (was_taken t l r) = r
+no_reply domain now next line reply (was_lost t l r) = r
+
+nothing_told : (domain : List ℕ) (first last : Recording) (lines : List (List ℕ)) (text : List ℕ) → IsRun (RecordsLine domain) first lines last text → text ≡ []
 nothing_told domain first last [] text r = r.1
 nothing_told domain first last (l ∷ lines) text r =
-    r.4 ∙ (ap (λ x. x ++ r.2) r.3.0 ∙ nothing_told domain r.0 last lines r.2 r.5)
+    r.4 ∙ (ap (λ x. x ++ r.2) (no_reply domain first r.0 l r.1 r.3) ∙ nothing_told domain r.0 last lines r.2 r.5)
 
-records_alone : (domain seed : List ℕ) (lines : List (List ℕ)) (old new : Option (List ℕ)) → AppendsClosed (TakesEvent domain) (ClosesWithRecords domain) (start domain seed) lines old new → AppendsRecords domain seed lines old new
-records_alone domain seed lines old new a =
+-- ---- how many lines were lost
+
+lost_more : (domain : List ℕ) (now next : Recording) (line reply : List ℕ) → RecordsLine domain now line next reply → now.lost ≤ next.lost
+lost_more domain now next line reply (was_taken t l r) = omega arith
+lost_more domain now next line reply (was_lost t l r) = omega arith
+
+lost_so_far : (domain : List ℕ) (first last : Recording) (lines : List (List ℕ)) (text : List ℕ) → IsRun (RecordsLine domain) first lines last text → first.lost ≤ last.lost
+lost_so_far domain first last [] text r =
+    let same : last.lost ≡ first.lost = ap (λ (s : Recording). s.lost) r.0 in
+    omega arith
+lost_so_far domain first last (l ∷ lines) text r =
+    let here = lost_more domain first r.0 l r.1 r.3 in
+    let later = lost_so_far domain r.0 last lines r.2 r.5 in
+    omega arith
+
+-- where no line is lost, the machine is run through all events that the lines spell
+record Went (domain : List ℕ) (lines : List (List ℕ)) (first last : Scheduled) : Type 0 where
+  events : last.events ≡ first.events ++ events_of domain first.ids lines
+  memory : AllByRecursion (λ answer. lacks_memory answer ≡ false) first.answers → AllByRecursion (λ answer. lacks_memory answer ≡ false) last.answers
+  runs : (s : State) → Runs s first.events first.answers first.machine → Runs s last.events last.answers last.machine
+
+went_on : (domain : List ℕ) (line : List ℕ) (lines : List (List ℕ)) (first next last : Scheduled) → TakesEvent domain first line next → Went domain lines next last → Went domain (line ∷ lines) first last
+went_on domain line lines first next last (took_none fault e n) w =
+    let then : Went domain lines (passed first) last = subst (λ s. Went domain lines s last) n w in
+    record {
+      events = then.events ∙ ap (λ r. first.events ++ events_by r (λ event left. event ∷ events_of domain left lines) (events_of domain first.ids lines)) (sym e);
+      memory = then.memory;
+      runs = then.runs;
+    }
+went_on domain line lines first next last (took event ids answer machine e a m n) w =
+    let then : Went domain lines (stepped first event answer machine ids) last = subst (λ s. Went domain lines s last) n w in
+    record {
+      events = then.events
+          ∙ (append_assoc first.events (event ∷ []) (events_of domain ids lines)
+          ∙ ap (λ r. first.events ++ events_by r (λ event left. event ∷ events_of domain left lines) (events_of domain first.ids lines)) (sym e));
+      memory = λ h. then.memory (All-more (λ answer. lacks_memory answer ≡ false) first.answers answer h m);
+      runs = λ s r. then.runs s (runs_go_on first.events first.answers s first.machine machine event answer r a);
+    }
+
+none_lost : (domain : List ℕ) (line : List ℕ) (first next : Recording) (reply : List ℕ) → RecordsLine domain first line next reply → next.lost ≡ 0 → TakesEvent domain first.scheduled line next.scheduled
+none_lost domain line first next reply (was_taken t l r) z = t
+none_lost domain line first next reply (was_lost t l r) z = absurd (omega arith)
+
+went : (domain : List ℕ) (lines : List (List ℕ)) (first last : Recording) (text : List ℕ) → IsRun (RecordsLine domain) first lines last text → last.lost ≡ 0 → Went domain lines first.scheduled last.scheduled
+went domain [] first last text run z =
+    let same : last.scheduled ≡ first.scheduled = ap (λ (s : Recording). s.scheduled) run.0 in
+    subst (λ s. Went domain [] first.scheduled s) (sym same) (record {
+      events = sym (append-nil first.scheduled.events);
+      memory = λ h. h;
+      runs = λ s r. r;
+    })
+went domain (line ∷ lines) first last text run z =
+    let later = lost_so_far domain run.0 last lines run.2 run.5 in
+    let none : (run.0).lost ≡ 0 = omega arith in
+    went_on domain line lines first.scheduled (run.0).scheduled last.scheduled (none_lost domain line first run.0 run.1 run.3 none) (went domain lines run.0 last run.2 run.5 z)
+
+-- ---- the end of a run
+
+records_alone : (domain seed : List ℕ) (kept : RecordKept) (lines : List (List ℕ)) (old new : Option (List ℕ)) → AppendsClosed (RecordsLine domain) (ClosesAs (ClosesRecording domain) (KeepsRecording kept)) (first_recording domain seed) lines old new → AppendsRecords domain seed lines kept.lost old new
+records_alone domain seed kept lines old new a =
     let run = a.1 in
-    let none = nothing_told domain (start domain seed) run.0 lines run.1 run.3 in
+    let none = nothing_told domain (first_recording domain seed) run.0 lines run.1 run.3 in
     let text : a.0 ≡ run.2 = run.5 ∙ ap (λ x. x ++ run.2) none in (
       run.0,
       run.2,
-      subst (λ (x : List ℕ). IsRun (TakesEvent domain) (start domain seed) lines run.0 x) none run.3,
-      run.4,
+      subst (λ (x : List ℕ). IsRun (RecordsLine domain) (first_recording domain seed) lines run.0 x) none run.3,
+      run.4.1.1,
+      run.4.0,
       subst (λ (x : List ℕ). Appends old new x) text a.2,
     )
 
-pub alone : {V : Type 0} (domain seed : List ℕ) (result : Result V RunFault) (all : Option (List ℕ)) (lines : List ℕ → List (List ℕ)) (old new : Option (List ℕ)) → OnOk result (IfSome all (λ bytes. AppendsClosed (TakesEvent domain) (ClosesWithRecords domain) (start domain seed) (lines bytes) old new)) → OnOk result (IfSome all (λ bytes. AppendsRecords domain seed (lines bytes) old new))
-alone domain seed (Err e) all lines old new h = tt
-alone domain seed (Ok x) None lines old new h = tt
-alone domain seed (Ok x) (Some bytes) lines old new h = records_alone domain seed (lines bytes) old new h
+all_records : (domain seed : List ℕ) (lines : List (List ℕ)) (lost : ℕ) (old new : Option (List ℕ)) → AppendsRecords domain seed lines lost old new → lost ≡ 0 → AppendsAllRecords domain seed lines old new
+all_records domain seed lines lost old new a z =
+    let w = went domain lines (first_recording domain seed) a.0 [] a.2 (a.3 ∙ z) in
+    record {
+      last = (a.0).scheduled;
+      text = a.1;
+      events = w.events;
+      runs = w.runs (first_state domain) refl;
+      memory = w.memory tt;
+      closes = a.4;
+      appends = a.5;
+    }
+
+pub alone : (domain seed : List ℕ) (kept : RecordKept) (lost : ℕ) (left : Option (List ℕ)) (old new : Option (List ℕ)) → lost ≡ kept.lost → IfSome left (λ bytes. AppendsClosed (RecordsLine domain) (ClosesAs (ClosesRecording domain) (KeepsRecording kept)) (first_recording domain seed) (first_lines most_lines bytes) old new) → IfSome left (λ bytes. AppendsRecords domain seed (first_lines most_lines bytes) lost old new)
+alone domain seed kept lost None old new e h = tt
+alone domain seed kept lost (Some bytes) old new e h =
+    subst (λ n. AppendsRecords domain seed (first_lines most_lines bytes) n old new) (sym e) (records_alone domain seed kept (first_lines most_lines bytes) old new h)
+
+pub all : (domain seed : List ℕ) (lost : ℕ) (left : Option (List ℕ)) (old new : Option (List ℕ)) → IfSome left (λ bytes. AppendsRecords domain seed (first_lines most_lines bytes) lost old new) → lost ≡ 0 → IfSome left (λ bytes. AppendsAllRecords domain seed (first_lines most_lines bytes) old new)
+all domain seed lost None old new h z = tt
+all domain seed lost (Some bytes) old new h z = all_records domain seed (first_lines most_lines bytes) lost old new h z
+
+pub fault_recorded : (domain seed : List ℕ) (input rest : InputState) (output out : OutputState) (result : Result ℕ RunFault) (e : RunFault) → result ≡ Err e → RunsOver (RecordsLine domain) (ClosesRecording domain) ⊤ (first_recording domain seed) input rest output out result → RunsRecord domain seed input rest output out result
+fault_recorded domain seed input rest output out (Ok lost) e is run = absurd (cc)
+fault_recorded domain seed input rest output out (Err f) e is run = record { run = run; alone = tt; all = tt }
+
+-- ---- one line
+
+abbrev pub counted : Bool → ℕ → ℕ
+counted true n = n + 1
+counted false n = n
+
+abbrev pub recorded_as_lost : ScheduleKept → ℕ → Bool → RecordKept
+recorded_as_lost schedule before lost = record { schedule = schedule; lost = counted lost before }
+
+pub recorded_line : (domain : List ℕ) (before after : RecordKept) (schedule : ScheduleKept) (now : Recording) (bytes text : List ℕ) (lost : Bool) (out : OutputState) → KeepsRecording before now → TakesKept domain schedule now.scheduled bytes text lost → after ≡ recorded_as_lost schedule before.lost lost → AnswersKept (RecordsLine domain) (λ _. false) (KeepsRecording after) now bytes out out true
+recorded_line domain before after schedule now bytes text true out keeps t e =
+    let next : Recording = record { scheduled = t.0; lost = now.lost + 1 } in
+    let kept : KeepsRecording (recorded_as_lost schedule before.lost true) next = (t.2, ap (λ n. n + 1) keeps.1) in
+    (next, [], (λ line is k. was_lost (t.1 line is k).1 refl refl), Puts-nil out, subst (λ r. KeepsRecording r next) (sym e) kept, refl)
+recorded_line domain before after schedule now bytes text false out keeps t e =
+    let next : Recording = record { scheduled = t.0; lost = now.lost } in
+    let kept : KeepsRecording (recorded_as_lost schedule before.lost false) next = (t.2, keeps.1) in
+    (next, [], (λ line is k. was_taken (t.1 line is k).1 refl refl), Puts-nil out, subst (λ r. KeepsRecording r next) (sym e) kept, refl)
 
 -- the records were put behind what was put before
 pub closed_with_records : (own : List ℕ) (now : Scheduled) (m : State) (order : List ℕ) → now.machine ≡ m → Runs (first_state own) now.events now.answers now.machine → AreFor own now.events → IsOrder m order → ((own : List ℕ) (events : List Event) (answers : List Answer) → Runs (first_state own) events answers m → Headline (accepted events answers) order) → ((own : List ℕ) (events : List Event) (answers : List Answer) → Runs (first_state own) events answers m → HoldReplies m.calls first_books order) → (a b : OutputState) → ((records : List Recorded) → AreRecords m.calls order records → Puts a b (flat_map record_line records)) → ((records : List Recorded) → AreRecords m.calls order records → AllByRecursion IsWritten records) → Closes (ClosesWithRecords own) now a b

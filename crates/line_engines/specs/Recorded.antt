@@ -1,19 +1,25 @@
 -- What the engine `record` writes: nothing line by line, and in the end the records of the machine's calls.
-use Rattle.std.specs.Prelude.{◌≡◌, ◌↔◌, ◌<◌, ◌≤◌, ℕ, true, ⊤, List, [], ◌∷◌, Option, None, Some, Result, OnOk, IfSome, refl}
+use Rattle.std.specs.Prelude.{◌≡◌, ◌↔◌, ◌+◌, ◌<◌, ◌≤◌, ℕ, true, false, ⊤, List, [], ◌∷◌, Option, None, Some, Result, Ok, Err, IfOk, IfSome, refl}
 use Rattle.std.specs.Io.KnownBytes.{Appends}
 use Rattle.std.specs.List.{AllByRecursion, flat_map}
+use Rattle.rand_chacha.specs.ChaCha.{ChaCha}
 use Rattle.entry_book.specs.declared.reply.Reply.{Reply}
 use Rattle.entry_book.specs.Batches.{Batch}
 use Rattle.entry_book.specs.Book.{Book}
 use Rattle.entry_book.specs.History.{books_after, first_books, is_committed, reply_to}
-use Rattle.call_machine.specs.Calls.{Call, call_at, told_of}
+use Rattle.call_machine.specs.Calls.{Call, call_at, first_state, told_of}
 use Rattle.call_machine.specs.Laws.{IsOrder}
+use Rattle.call_machine.specs.Machine.{Runs}
 use Rattle.call_machine.specs.Schedules.{At, Happened, Headline, accepted}
 use Rattle.call_answers.specs.declared.answer.Done.{Done}
 use Rattle.call_answers.specs.declared.answer.Done.TheVariants.{Answered}
+use Rattle.call_events.specs.declared.event.Event.{Event}
 use Rattle.call_events.specs.declared.event.Event.TheVariants.{Invoke}
 use Rattle.call_events.specs.declared.event.Event.TheVariants as on
 use Rattle.call_answers.specs.declared.answer.Told.TheVariants.{Replied}
+use Rattle.line_reading.specs.declared.fault.Fault.{Fault}
+use Rattle.reg_lines.specs.Events.{spelled_event}
+use Rattle.reg_lines.specs.Ids.{first_ids}
 use Rattle.reg_lines.specs.Lines.{most_lines}
 use Rattle.reg_lines.specs.RecordLines.{record_json}
 use Rattle.reg_lines.specs.Runs.{IsRun, first_lines}
@@ -21,7 +27,7 @@ use Rattle.reg_lines.specs.Spelled.{IsWrittenBatch, IsWrittenCall}
 use Rattle.reg_lines.specs.Stream.{InputState, OutputState}
 use Rattle.line_engines.specs.Answers.{as_line}
 use Rattle.line_engines.specs.Driver.{RunsOver}
-use Rattle.line_engines.specs.Schedules.{AnswersEvent, Scheduled, an_event_answer, start}
+use Rattle.line_engines.specs.Schedules.{LosesLine, ScheduleKept, Scheduled, StandsFor, TakesEvent, lacks_memory, passed, start, unread}
 use Rattle.line_engines.specs.declared.fault.RunFault.{RunFault}
 
 -- ---- a record, and what holds of a list of them, whoever reads it
@@ -89,9 +95,19 @@ AreRecords calls (n ∷ ns) (r ∷ rs) = IsRecordOf calls n r × AreRecords call
 
 -- ---- what the engine does
 
--- A line changes what `schedule` changes by it, and what it is answered isn't written.
-abbrev pub TakesEvent : List ℕ → Scheduled → List ℕ → Scheduled → List ℕ → Type 0
-TakesEvent domain now line next reply = (reply ≡ []) × (answer : List ℕ) × AnswersEvent domain now line next answer
+-- What a run has come to: what `schedule` comes to by the same lines, and how many of them were lost for lack of memory.
+pub record Recording : Type 0 where
+  pub scheduled : Scheduled
+  pub lost : ℕ
+
+-- before the first line
+abbrev pub first_recording : List ℕ → List ℕ → Recording
+first_recording domain seed = record { scheduled = start domain seed; lost = 0 }
+
+-- A line is taken, or it is lost and counted. What it is answered isn't written.
+pub data RecordsLine (domain : List ℕ) (now : Recording) (line : List ℕ) (next : Recording) (reply : List ℕ) : Type 0 where
+  was_taken : TakesEvent domain now.scheduled line next.scheduled → next.lost ≡ now.lost → reply ≡ [] → RecordsLine domain now line next reply
+  was_lost : LosesLine domain now.scheduled line next.scheduled → next.lost ≡ now.lost + 1 → reply ≡ [] → RecordsLine domain now line next reply
 
 -- The text in the end is the records of the machine's calls, a line each, in an order of which the headline holds for the events and for what they were answered. Their stamps are those of the events, each was replied after its invoke or was committed, the plain book gives them their replies in this order, and by their stamps alone it is strict. Their batches were made for the trust domain.
 pub record TellsRecords (domain : List ℕ) (last : Scheduled) (order : List ℕ) (recorded : List Recorded) (end : List ℕ) : Type 0 where
@@ -109,17 +125,49 @@ pub record TellsRecords (domain : List ℕ) (last : Scheduled) (order : List ℕ
 abbrev pub ClosesWithRecords : List ℕ → Scheduled → List ℕ → Type 0
 ClosesWithRecords domain last end = (order : List ℕ) × (recorded : List Recorded) × TellsRecords domain last order recorded end
 
--- each line may be taken in every state
-pub an_event_taken : (domain : List ℕ) (now : Scheduled) (line : List ℕ) → (next : Scheduled) × (reply : List ℕ) × TakesEvent domain now line next reply
-an_event_taken domain now line =
-    let a = an_event_answer domain now line in
-    (a.0, [], (refl, a.1, a.2))
+abbrev pub ClosesRecording : List ℕ → Recording → List ℕ → Type 0
+ClosesRecording domain last end = ClosesWithRecords domain last.scheduled end
 
--- the lines were taken, in order, and known bytes grow by the records alone
-abbrev pub AppendsRecords : List ℕ → List ℕ → List (List ℕ) → Option (List ℕ) → Option (List ℕ) → Type 0
-AppendsRecords domain seed lines old new = (last : Scheduled) × (end : List ℕ) × IsRun (TakesEvent domain) (start domain seed) lines last [] × ClosesWithRecords domain last end × Appends old new end
+-- each line may be lost in every state
+pub a_line_recorded : (domain : List ℕ) (now : Recording) (line : List ℕ) → (next : Recording) × (reply : List ℕ) × RecordsLine domain now line next reply
+a_line_recorded domain now line = (record { scheduled = passed now.scheduled; lost = now.lost + 1 }, [], was_lost (unread refl) refl refl)
 
--- What a run of the engine over an input and an output has done: it is a run of lines, and where it got to its end, the records and nothing else were written.
-pub record RunsRecord {T : Type 0} (domain seed : List ℕ) (input rest : InputState) (output out : OutputState) (result : Result T RunFault) : Type 0 where
-  pub run : RunsOver (TakesEvent domain) (ClosesWithRecords domain) ⊤ (start domain seed) input rest output out result
-  pub alone : OnOk result (IfSome input.left (λ bytes. AppendsRecords domain seed (first_lines most_lines bytes) output.written out.written))
+-- The lines were taken or lost, in order, as many of them lost as is told, and known bytes grow by the records alone.
+abbrev pub AppendsRecords : List ℕ → List ℕ → List (List ℕ) → ℕ → Option (List ℕ) → Option (List ℕ) → Type 0
+AppendsRecords domain seed lines lost old new = (last : Recording) × (end : List ℕ) × IsRun (RecordsLine domain) (first_recording domain seed) lines last [] × (last.lost ≡ lost) × ClosesRecording domain last end × Appends old new end
+
+-- ---- a run that lost no line
+
+abbrev pub events_by : Result (Event × ChaCha) Fault → (Event → ChaCha → List Event) → List Event → List Event
+events_by (Ok p) with_it without = with_it p.0 p.1
+events_by (Err fault) with_it without = without
+
+-- the events that the lines spell, in order; an event draws the ids of its creates, whatever it is answered
+abbrev pub events_of : List ℕ → ChaCha → List (List ℕ) → List Event
+events_of domain ids [] = []
+events_of domain ids (line ∷ lines) = events_by (spelled_event domain ids line) (λ event left. event ∷ events_of domain left lines) (events_of domain ids lines)
+
+-- The records are those of all events that the lines spell: the machine was run through these events, refused none of them for lack of memory, and known bytes grow by the records of its calls.
+pub record AppendsAllRecords (domain seed : List ℕ) (lines : List (List ℕ)) (old new : Option (List ℕ)) : Type 0 where
+  pub last : Scheduled
+  pub text : List ℕ
+  pub events : last.events ≡ events_of domain (first_ids seed) lines
+  pub runs : Runs (first_state domain) last.events last.answers last.machine
+  pub memory : AllByRecursion (λ answer. lacks_memory answer ≡ false) last.answers
+  pub closes : ClosesWithRecords domain last text
+  pub appends : Appends old new text
+
+-- What a run of the engine over an input and an output has done: it is a run of lines, and where it got to its end, the records and nothing else were written. It tells how many lines were lost: if none was, the records are those of all events.
+pub record RunsRecord (domain seed : List ℕ) (input rest : InputState) (output out : OutputState) (result : Result ℕ RunFault) : Type 0 where
+  pub run : RunsOver (RecordsLine domain) (ClosesRecording domain) ⊤ (first_recording domain seed) input rest output out result
+  pub alone : IfOk result (λ lost. IfSome input.left (λ bytes. AppendsRecords domain seed (first_lines most_lines bytes) lost output.written out.written))
+  pub all : IfOk result (λ lost. lost ≡ 0 → IfSome input.left (λ bytes. AppendsAllRecords domain seed (first_lines most_lines bytes) output.written out.written))
+
+-- ---- what the engine keeps of a run
+
+pub record RecordKept : Type 0 where
+  pub schedule : ScheduleKept
+  pub lost : ℕ
+
+abbrev pub KeepsRecording : RecordKept → Recording → Type 0
+KeepsRecording kept now = StandsFor kept.schedule now.scheduled × (now.lost ≡ kept.lost)

@@ -1,17 +1,21 @@
 -- What the engine `schedule` answers, line by line, and what it tells in the end.
-use Rattle.std.specs.Prelude.{◌≡◌, ℕ, ◌+◌, ⊤, List, [], ◌∷◌, ◌++◌, Result, Ok, Err, refl}
+use Rattle.std.specs.Prelude.{◌≡◌, ℕ, ◌+◌, ⊤, Bool, true, false, MatchBool, List, [], ◌∷◌, ◌++◌, Result, Ok, Err, refl}
 use Rattle.rand_chacha.specs.ChaCha.{ChaCha}
 use Rattle.call_machine.specs.Calls.{State, first_state}
 use Rattle.call_machine.specs.Laws.{IsOrder}
 use Rattle.call_machine.specs.Machine.{Applies, AreFor, Runs}
 use Rattle.call_machine.specs.Schedules.{Answer, Headline, accepted}
 use Rattle.call_events.specs.declared.event.Event.{Event}
+use Rattle.call_events.specs.declared.event.EventRefusal.{EventRefusal}
+use Rattle.call_events.specs.declared.event.EventRefusal.TheVariants as why
 use Rattle.reg_lines.specs.EventAnswers.{event_json, event_refusal_json, order_json}
 use Rattle.reg_lines.specs.Events.{spelled_event}
 use Rattle.reg_lines.specs.Ids.{first_ids}
 use Rattle.reg_lines.specs.Refusals.{fault_json, no_memory_json, refusal_json}
 use Rattle.reg_lines.specs.Runs.{StepsKept}
 use Rattle.reg_lines.specs.Stream.{InputState, OutputState}
+use Rattle.spiffe_name.specs.declared.refusals.Failure.{Failure}
+use Rattle.spiffe_name.specs.declared.refusals.Failure.TheVariants as failed
 use Rattle.line_reading.specs.declared.fault.Fault.{Fault}
 use Rattle.line_engines.specs.Answers.{as_line}
 use Rattle.line_engines.specs.Driver.{RunsOver}
@@ -53,6 +57,33 @@ pub data AnswersEvent (domain : List ℕ) (now : Scheduled) (line : List ℕ) (n
   applied : (event : Event) (ids : ChaCha) (answer : Answer) (machine : State) → spelled_event domain now.ids line ≡ Ok (event, ids) → Applies now.machine event answer machine → next ≡ stepped now event answer machine ids → reply ≡ as_line (answer_json (now.lines + 1) answer) → AnswersEvent domain now line next reply
   not_read : next ≡ passed now → reply ≡ as_line (no_memory_json (now.lines + 1)) → AnswersEvent domain now line next reply
 
+-- ---- whether memory was there for a line
+
+-- the machine refused the event for lack of memory, E5
+abbrev pub is_no_memory : EventRefusal → Bool
+is_no_memory why.CallTaken = false
+is_no_memory why.UnknownCall = false
+is_no_memory why.NotNow = false
+is_no_memory why.TooManyCalls = false
+is_no_memory why.NoMemory = true
+
+abbrev pub lacks_memory : Answer → Bool
+lacks_memory (Ok done) = false
+lacks_memory (Err r) = is_no_memory r.refusal
+
+-- The line was read. If it spells an event, the machine answered it otherwise than by E5.
+pub data TakesEvent (domain : List ℕ) (now : Scheduled) (line : List ℕ) (next : Scheduled) : Type 0 where
+  took_none : (fault : Fault) → spelled_event domain now.ids line ≡ Err fault → next ≡ passed now → TakesEvent domain now line next
+  took : (event : Event) (ids : ChaCha) (answer : Answer) (machine : State) → spelled_event domain now.ids line ≡ Ok (event, ids) → Applies now.machine event answer machine → lacks_memory answer ≡ false → next ≡ stepped now event answer machine ids → TakesEvent domain now line next
+
+-- The line was lost for lack of memory: it wasn't read, L6, or its event was refused for that, E5.
+pub data LosesLine (domain : List ℕ) (now : Scheduled) (line : List ℕ) (next : Scheduled) : Type 0 where
+  unread : next ≡ passed now → LosesLine domain now line next
+  unapplied : (event : Event) (ids : ChaCha) (answer : Answer) (machine : State) → spelled_event domain now.ids line ≡ Ok (event, ids) → Applies now.machine event answer machine → lacks_memory answer ≡ true → next ≡ stepped now event answer machine ids → LosesLine domain now line next
+
+abbrev pub LosesOrTakes : Bool → List ℕ → Scheduled → List ℕ → Scheduled → Type 0
+LosesOrTakes lost domain now line next = MatchBool lost (LosesLine domain now line next) (TakesEvent domain now line next)
+
 -- The order line is the last: it tells an order of the machine's calls, and the headline holds of the events and of what they were answered, and of this order.
 pub record TellsOrder (last : Scheduled) (order : List ℕ) (end : List ℕ) : Type 0 where
   pub is_order : IsOrder last.machine order
@@ -91,14 +122,26 @@ line_answer_json (Done done) = event_json done
 line_answer_json (Refused event) = event_refusal_json event.line event.refusal
 line_answer_json (NotRead refusal) = refusal_json refusal
 
--- one event was applied, and its answer is printed so
-abbrev pub Applied : State → Event → ℕ → List ℕ → State → Type 0
-Applied machine event line text after = (answer : Answer) × Applies machine event answer after × (text ≡ answer_json line answer)
+-- whether memory was lacking for the reading of a line
+abbrev pub is_unread : Failure Fault → Bool
+is_unread failed.NoMemory = true
+is_unread (failed.Refused fault) = false
 
--- One line was taken: its reply has this text, and this is where it left the machine and the ids; a run goes on by it.
-pub record TakesEventLine (domain : List ℕ) (now : Scheduled) (line : List ℕ) (text : List ℕ) (machine : State) (ids : ChaCha) : Type 0 where
+-- whether the line was lost for lack of memory
+abbrev pub is_lost : LineAnswer → Bool
+is_lost (Done done) = false
+is_lost (Refused event) = is_no_memory event.refusal
+is_lost (NotRead refusal) = is_unread refusal.failure
+
+-- One event was applied. Its answer is printed so, and tells whether memory was lacking.
+abbrev pub Applied : State → Event → ℕ → List ℕ → Bool → State → Type 0
+Applied machine event line text lost after = (answer : Answer) × Applies machine event answer after × (text ≡ answer_json line answer) × (lost ≡ lacks_memory answer)
+
+-- One line was taken, or lost: its reply has this text, and this is where it left the machine and the ids; a run goes on by it.
+pub record TakesEventLine (domain : List ℕ) (now : Scheduled) (line : List ℕ) (text : List ℕ) (lost : Bool) (machine : State) (ids : ChaCha) : Type 0 where
   pub next : Scheduled
   pub answers : AnswersEvent domain now line next (as_line text)
+  pub loses : LosesOrTakes lost domain now line next
   pub machine_is : next.machine ≡ machine
   pub ids_is : next.ids ≡ ids
   pub lines_is : next.lines ≡ now.lines + 1
@@ -106,6 +149,10 @@ pub record TakesEventLine (domain : List ℕ) (now : Scheduled) (line : List ℕ
   pub runs : (first : State) → Runs first now.events now.answers now.machine → Runs first next.events next.answers next.machine
   pub made : AreFor domain now.events → AreFor domain next.events
 
--- the line of which these bytes are kept was taken, whichever line it is, and what is kept of the run stands for what it has come to then
-abbrev pub TakesKept : List ℕ → ScheduleKept → Scheduled → List ℕ → List ℕ → Type 0
-TakesKept domain kept now bytes text = (next : Scheduled) × StepsKept (AnswersEvent domain) now bytes next (as_line text) × StandsFor kept next
+-- a line got this reply, and was lost or wasn't
+abbrev pub AnswersOrLoses : Bool → List ℕ → Scheduled → List ℕ → Scheduled → List ℕ → Type 0
+AnswersOrLoses lost domain now line next reply = AnswersEvent domain now line next reply × LosesOrTakes lost domain now line next
+
+-- the line of which these bytes are kept was taken or lost, whichever line it is, and what is kept of the run stands for what it has come to then
+abbrev pub TakesKept : List ℕ → ScheduleKept → Scheduled → List ℕ → List ℕ → Bool → Type 0
+TakesKept domain kept now bytes text lost = (next : Scheduled) × StepsKept (AnswersOrLoses lost domain) now bytes next (as_line text) × StandsFor kept next

@@ -18,6 +18,9 @@ use std::marker::Model;
 /// answers, but at the end of the input a record of each call of the machine's order, in this order. Creates that come without an
 /// id get the ids of the seed, in order.
 ///
+/// Returns how many lines were lost for lack of memory: those that `schedule` answers L6 or E5. If none was, the records are those
+/// of all events of the input.
+///
 /// Memory may be wanting before the first line, and for the order.
 pub fn record_schedule<S: Source, K: Sink>(
     alloc: Global,
@@ -25,62 +28,92 @@ pub fn record_schedule<S: Source, K: Sink>(
     seed: [u8; 32],
     input: &mut Input<S>,
     output: &mut Output<K>,
-) -> Result<(), RunFault>
+) -> Result<u64, RunFault>
     requires input { input.old.failures ≡ 0 }
     requires output { output.old.failures ≡ 0 }
     requires none_held { output.old.held ≡ [] }
     ensures { RunsRecord domain seed input.old input.new output.old output.new result }
 {
-    let mut run = RecordRun {
-        schedule: ScheduleRun::new(alloc, domain, seed)?,
-    };
-    run_lines(alloc, &mut run, input, output)
+    let mut run = RecordRun::new(alloc, domain, seed)?;
+    match run_lines(alloc, &mut run, input, output) {
+        Ok(()) => Ok(run.lost()),
+        Err(fault) => Err(fault),
+    }
 }
 
-/// A machine that takes event lines, and tells nothing of them before the end.
+/// A machine that takes event lines, and tells nothing of them before the end; and how many of them were lost.
 #[derive(Drop)]
 struct RecordRun {
     schedule: ScheduleRun,
+    lost: u64,
 }
 
 impl Model for RecordRun {
-    ghost use Rattle.line_engines.specs.Schedules.{ScheduleKept};
+    ghost use Rattle.std.specs.Prelude.{◌≤◌};
+    ghost use Rattle.line_engines.specs.Recorded.{RecordKept};
 
-    ghost Value = { ScheduleKept };
+    ghost Value = { RecordKept };
 
-    ghost view = { λ r. r.schedule };
+    ghost view = { λ r. record { schedule = r.schedule; lost = r.lost } };
+
+    ghost invariant = { λ r. r.lost ≤ r.schedule.lines };
+}
+
+impl RecordRun {
+    ghost use Rattle.std.specs.Prelude.{◌≡◌, IfOk};
+    ghost use Rattle.line_engines.specs.Recorded.{KeepsRecording, first_recording};
+
+    /// Before the first line. The error is that memory was refused.
+    fn new(alloc: Global, domain: TrustDomain, seed: [u8; 32]) -> Result<RecordRun, AllocError>
+        ensures stands { IfOk result (λ run. KeepsRecording run (first_recording domain seed)) }
+        ensures domain { IfOk result (λ run. run.schedule.machine.domain ≡ domain) }
+        ensures lines { IfOk result (λ run. run.schedule.lines ≡ 0) }
+    {
+        Ok(RecordRun {
+            schedule: ScheduleRun::new(alloc, domain, seed)?,
+            lost: 0,
+        })
+    }
+
+    /// How many lines were lost.
+    fn lost(&self) -> u64
+        ensures { result ≡ self.now.lost }
+    {
+        self.lost
+    }
 }
 
 impl Answerer for RecordRun {
     ghost use Rattle.std.specs.Prelude.{ℕ, List, false, ⊤};
-    ghost use Rattle.line_engines.specs.Recorded.{ClosesWithRecords, TakesEvent, an_event_taken};
-    ghost use Rattle.line_engines.specs.Schedules.{Scheduled, StandsFor};
+    ghost use Rattle.line_engines.specs.Recorded.{ClosesRecording, KeepsRecording, Recording, RecordsLine, a_line_recorded};
 
-    ghost State = { Scheduled };
+    ghost State = { Recording };
 
     ghost Setting = { List ℕ };
 
-    ghost setting = { λ r. r.machine.domain };
+    ghost setting = { λ r. r.schedule.machine.domain };
 
-    ghost stands = { StandsFor };
+    ghost stands = { KeepsRecording };
 
-    ghost lines = { λ r. r.lines };
+    ghost lines = { λ r. r.schedule.lines };
 
     ghost keeps = { λ _ _. ⊤ };
 
-    ghost answers = { TakesEvent };
+    ghost answers = { RecordsLine };
 
     ghost ends = { λ _. false };
 
-    ghost closes = { ClosesWithRecords };
+    ghost closes = { ClosesRecording };
 
     ghost wants = { ⊤ };
 
-    ghost some_answer = { an_event_taken };
+    ghost some_answer = { a_line_recorded };
 
-    /// A line gets no reply.
+    /// A line gets no reply, and is counted if it is lost.
     fn answer<K: Sink>(&mut self, alloc: Global, line: &[u8], _: &mut Output<K>) -> bool {
-        let _ = self.schedule.take(alloc, line);
+        if self.schedule.take(alloc, line).is_lost() {
+            self.lost += 1;
+        }
         true
     }
 

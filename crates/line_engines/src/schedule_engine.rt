@@ -2,16 +2,16 @@
 
 ghost use Rattle.std.specs.Prelude.{◌≡◌, ◌+◌, ◌<◌, ◌^◌, []};
 ghost use Rattle.call_events.specs.Events.{IsFor};
-ghost use Rattle.line_engines.specs.Schedules.{Applied, RunsSchedule, Scheduled, TakesEventLine, line_answer_json};
+ghost use Rattle.line_engines.specs.Schedules.{Applied, RunsSchedule, Scheduled, TakesEventLine, is_lost, line_answer_json};
 
 use crate::driver::{Answerer, run_lines};
 use crate::fault::RunFault;
-use call_machine::{Done, Event, Machine};
+use call_machine::{Done, Event, EventRefusal, Machine};
 use reg_lines::{
     CallOrder, EventRefused, Ids, Input, LineRefusal, Output, PrintJson, Sink, Source, print_line,
     read_event,
 };
-use spiffe_name::TrustDomain;
+use spiffe_name::{Failure, TrustDomain};
 use std::alloc::{AllocError, Global};
 use std::marker::Model;
 
@@ -58,7 +58,7 @@ impl Model for ScheduleRun {
 
 impl ScheduleRun {
     ghost use Rattle.std.specs.Prelude.{◌≡◌, ◌+◌, ◌<◌, ◌^◌, IfOk};
-    ghost use Rattle.line_engines.specs.Schedules.{Scheduled, StandsFor, TakesKept, line_answer_json, start};
+    ghost use Rattle.line_engines.specs.Schedules.{Scheduled, StandsFor, TakesKept, is_lost, line_answer_json, start};
 
     /// Before the first line. The error is that memory was refused.
     pub(crate) fn new(
@@ -84,7 +84,7 @@ impl ScheduleRun {
         ensures lines { self.new.lines ≡ self.old.lines + 1 }
         ensures domain { self.new.machine.domain ≡ self.old.machine.domain }
         ensures taken { (now : Scheduled) → StandsFor self.old now
-            → TakesKept self.old.machine.domain self.new now line.now (line_answer_json result) }
+            → TakesKept self.old.machine.domain self.new now line.now (line_answer_json result) (is_lost result) }
     {
         let answer = take(
             alloc,
@@ -161,6 +161,22 @@ pub(crate) enum LineAnswer {
     NotRead(LineRefusal),
 }
 
+impl LineAnswer {
+    ghost use Rattle.std.specs.Prelude.{◌≡◌};
+    ghost use Rattle.line_engines.specs.Schedules.{is_lost};
+
+    /// Whether its line was lost for lack of memory.
+    pub(crate) fn is_lost(self) -> bool
+        ensures { result ≡ is_lost self }
+    {
+        match self {
+            LineAnswer::Done(_) => false,
+            LineAnswer::Refused(event) => matches!(event.refusal, EventRefusal::NoMemory),
+            LineAnswer::NotRead(refusal) => matches!(refusal.failure, Failure::NoMemory),
+        }
+    }
+}
+
 impl PrintJson for LineAnswer {
     ghost text = { line_answer_json };
 
@@ -185,7 +201,7 @@ fn take(
     requires domain { domain.now ≡ machine.old.domain }
     requires lines { lines + 1 < 2 ^ 64 }
     ensures line { (now : Scheduled) → now.machine ≡ machine.old → now.ids ≡ ids.old → now.lines ≡ lines
-        → TakesEventLine domain.now now line.now (line_answer_json result) machine.new ids.new }
+        → TakesEventLine domain.now now line.now (line_answer_json result) (is_lost result) machine.new ids.new }
 {
     match read_event(alloc, domain, ids, line, lines + 1) {
         Err(refusal) => LineAnswer::NotRead(refusal),
@@ -196,7 +212,7 @@ fn take(
 /// Applies the event of the line of this number: what it is answered.
 fn apply(machine: &mut Machine, event: Event, line: u64) -> LineAnswer
     requires domain { IsFor machine.old.domain event }
-    ensures { Applied machine.old event line (line_answer_json result) machine.new }
+    ensures { Applied machine.old event line (line_answer_json result) (is_lost result) machine.new }
 {
     match machine.apply(event) {
         Ok(done) => LineAnswer::Done(done),

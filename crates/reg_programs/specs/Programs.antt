@@ -12,15 +12,15 @@ use Rattle.command_line.specs.declared.program.Program.{Program}
 use Rattle.command_line.specs.declared.program.Program.TheVariants.{Audit, Plain, Record, Schedule, Serve}
 
 -- a run that denies nothing
-abbrev pub done_of : Result Unit RunFault → Result Outcome RunFault
-done_of (Ok none) = Ok Done
+abbrev pub done_of : {T : Type 0} → Result T RunFault → Result Outcome RunFault
+done_of (Ok x) = Ok Done
 done_of (Err fault) = Err fault
 
 -- What a run of this program over an input and an output has done. Only an audit denies.
 abbrev pub RunsAs : Program → List ℕ → List ℕ → InputState → InputState → OutputState → OutputState → Result Outcome RunFault → Type 0
 RunsAs Plain domain seed input rest output out result = (ran : Result Unit RunFault) × (result ≡ done_of ran) × RunsPlain domain seed input rest output out ran
 RunsAs Schedule domain seed input rest output out result = (ran : Result Unit RunFault) × (result ≡ done_of ran) × RunsSchedule domain seed input rest output out ran
-RunsAs Record domain seed input rest output out result = (ran : Result Unit RunFault) × (result ≡ done_of ran) × RunsRecord domain seed input rest output out ran
+RunsAs Record domain seed input rest output out result = (ran : Result ℕ RunFault) × (result ≡ done_of ran) × RunsRecord domain seed input rest output out ran
 RunsAs Audit domain seed input rest output out result = RunsAudit domain input rest output out result
 -- a server has no input and no output of lines
 RunsAs Serve domain seed input rest output out result = ⊥

@@ -34,12 +34,12 @@ pub fn run_settings<S: Source, K: Sink>(
     }
 }
 
-/// What a run comes to that denies nothing.
-fn done(ran: Result<(), RunFault>) -> Result<Outcome, RunFault>
+/// What a run comes to that denies nothing, whatever it returns.
+fn done<T: Drop>(ran: Result<T, RunFault>) -> Result<Outcome, RunFault>
     ensures { result ≡ done_of ran }
 {
     match ran {
-        Ok(()) => Ok(Outcome::Done),
+        Ok(_) => Ok(Outcome::Done),
         Err(fault) => Err(fault),
     }
 }

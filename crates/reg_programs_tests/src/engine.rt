@@ -44,7 +44,25 @@ fn run_over(
     match engine {
         Engine::Plain | Engine::Session => plain(alloc, domain, seed, &mut input, &mut output),
         Engine::Schedule => schedule(alloc, domain, seed, &mut input, &mut output),
-        Engine::Record => record_schedule(alloc, domain, seed, &mut input, &mut output),
+        Engine::Record => {
+            match record_schedule(alloc, domain, seed, &mut input, &mut output) {
+                Ok(_) => Ok(()),
+                Err(fault) => Err(fault),
+            }
+        }
+    }
+}
+
+/// How many lines the engine that records a schedule of `ex.org` loses of these bytes.
+pub fn lines_lost(alloc: Global, bytes: &[u8]) -> Result<u64, Fail> {
+    let domain = TrustDomain::parse(alloc, "ex.org")?;
+    let mut giver = Giver::new(bytes, Pace::All, Trouble::NONE);
+    let mut taker = Taker::new(alloc, Pace::All, Trouble::NONE);
+    let mut input = Input::new(CountedDevice::new(&mut giver));
+    let mut output = Output::new(CountedDevice::new(&mut taker));
+    match record_schedule(alloc, domain, FIRST_SEED, &mut input, &mut output) {
+        Ok(lost) => Ok(lost),
+        Err(_) => Err(Fail::from("the run failed")),
     }
 }
 

@@ -1,8 +1,9 @@
 //! The records that a schedule leaves, and nothing else.
 
-use crate::engine::{Engine, Table, program_writes};
+use crate::engine::{Engine, Table, lines_lost, program_writes};
 use crate::failing::{fail_each_read, fail_each_write};
 use crate::schedules::OUT_OF_TURN;
+use crate::wanted::holds;
 use reg_programs::Outcome;
 use std::alloc::Global;
 use std::process::Abort;
@@ -182,6 +183,21 @@ fn refused_events_and_lines_leave_no_record(rt: HostRuntime) -> Result<(), Fail>
 #[test]
 fn no_events_leave_no_records(rt: HostRuntime) -> Result<(), Fail> {
     are_recorded(&rt, rt.alloc(), b"", "")
+}
+
+/// The engine takes each of these lines.
+fn none_is_lost(rt: &impl Abort, alloc: Global, asked: &[u8]) -> Result<(), Fail> {
+    holds(rt, lines_lost(alloc, asked)? == 0, "no line is lost");
+    Ok(())
+}
+
+/// A line that is refused for what stands in it isn't lost, and neither is an event that comes out of turn.
+#[test]
+fn no_line_is_lost_while_there_is_memory(rt: HostRuntime) -> Result<(), Fail> {
+    let table = Table::of(rt.alloc(), OUT_OF_TURN)?;
+    none_is_lost(&rt, rt.alloc(), b"\n{}\n{")?;
+    none_is_lost(&rt, rt.alloc(), &table.asked)?;
+    none_is_lost(&rt, rt.alloc(), PHANTOM_EVENTS.as_bytes())
 }
 
 /// At a failed read nothing was written, at a failed write a beginning of the records.

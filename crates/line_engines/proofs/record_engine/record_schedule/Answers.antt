@@ -1,24 +1,47 @@
-use Rattle.std.proofs.Common.{◌≡◌, List, ℕ, Err, refl, subst, arith}
-use Rattle.std.specs.Prelude.{⊤}
+use Rattle.std.proofs.Common.{◌≡◌, List, ℕ, Err, IfOk, refl, subst, sym, arith}
+use Rattle.std.specs.Prelude.{⊤, IfSome}
 use Rattle.std.proofs.lemmas.Grind.{common_steps}
 use Rattle.reg_lines.specs.Lines.{most_lines}
 use Rattle.reg_lines.specs.Runs.{first_lines}
-use Rattle.line_engines.specs.Driver.{RunsOver}
-use Rattle.line_engines.specs.Recorded.{ClosesWithRecords, TakesEvent, an_event_taken}
-use Rattle.line_engines.specs.Schedules.{start}
+use Rattle.line_engines.specs.Driver.{ClosesAs, RunsOver}
+use Rattle.line_engines.specs.Recorded.{AppendsAllRecords, AppendsRecords, ClosesRecording, KeepsRecording, RecordsLine, RunsRecord, a_line_recorded, first_recording}
 use Rattle.line_engines.specs.declared.fault.RunFault.TheVariants.{NoMemory}
-use Rattle.line_engines.proofs.Driving.{RunsOver-closes, RunsOver-no_memory}
-use Rattle.line_engines.proofs.Recording.{alone}
+use Rattle.line_engines.proofs.Driving.{RunsOver-closes, RunsOver-err, RunsOver-no_memory, RunsOver-ok}
+use Rattle.line_engines.proofs.Recording.{all, alone, fault_recorded}
 use Rattle.line_engines.proofs.record_engine.record_schedule.Goals as goal
 
-pub returns-in_err-new : goal.returns-in_err-new
-returns-in_err-new g c =
+pub returns-in_err-run : goal.returns-in_err-run
+returns-in_err-run g c =
     let is : c.from_residual.result ≡ Err NoMemory = grind (arith, common_steps) in
-    let run = RunsOver-no_memory (TakesEvent c.args.domain) (ClosesWithRecords c.args.domain) ⊤ c.from_residual.result (an_event_taken c.args.domain) (start c.args.domain c.args.seed) c.args.input.now c.args.output.now c.requires.output c.requires.none_held is in
-    record { run = run; alone = alone c.args.domain c.args.seed c.from_residual.result c.args.input.now.left (first_lines most_lines) _ _ run.text }
+    fault_recorded c.args.domain c.args.seed c.args.input.now c.args.input.now c.args.output.now c.args.output.now c.from_residual.result NoMemory is
+    (RunsOver-no_memory (RecordsLine c.args.domain) (ClosesRecording c.args.domain) ⊤ c.from_residual.result (a_line_recorded c.args.domain) (first_recording c.args.domain c.args.seed) c.args.input.now c.args.output.now c.requires.output c.requires.none_held is)
+
+pub returns-in-Ok : goal.returns-in-Ok
+returns-in-Ok g c =
+    let domain = c.args.domain in
+    let seed = c.args.seed in
+    let kept = c.run_lines.new.answerer in
+    let left = c.args.input.now.left in
+    let P : List ℕ → Type 0 = λ d. RunsOver (RecordsLine d) (ClosesAs (ClosesRecording d) (KeepsRecording kept)) ⊤ (first_recording domain seed) c.args.input.now c.run_lines.new.input c.args.output.now c.run_lines.new.output c.run_lines.result in
+    let ran = subst P c.in_ok-run.ensures.domain (c.run_lines.ensures.runs (first_recording domain seed) c.in_ok-run.ensures.stands refl) in
+    let done = RunsOver-ok {W = ℕ} _ _ _ _ _ _ _ _ c.run_lines.result _ c.lost.result c.in-Ok.is ran in
+    let told = alone domain seed kept c.lost.result left c.args.output.now.written c.run_lines.new.output.written c.lost.ensures done.text in
+    record {
+      run = RunsOver-closes _ _ (ClosesRecording domain) _ _ _ _ _ _ _ (λ now end k. k.0) done;
+      alone = told;
+      all = all domain seed c.lost.result left c.args.output.now.written c.run_lines.new.output.written told;
+    }
 
 pub returns : goal.returns
 returns g c =
-    let P : List ℕ → Type 0 = λ d. RunsOver (TakesEvent d) (ClosesWithRecords d) ⊤ (start c.args.domain c.args.seed) c.args.input.now c.run_lines.new.input c.args.output.now c.run_lines.new.output c.run_lines.result in
-    let run = subst P c.in_ok-new.ensures.domain (RunsOver-closes _ _ (ClosesWithRecords _) _ _ _ _ _ _ _ (λ now end k. k.0) (c.run_lines.ensures.runs (start c.args.domain c.args.seed) c.in_ok-new.ensures.stands refl)) in
-    record { run = run; alone = alone c.args.domain c.args.seed c.run_lines.result c.args.input.now.left (first_lines most_lines) _ _ run.text }
+    let domain = c.args.domain in
+    let seed = c.args.seed in
+    let kept = c.run_lines.new.answerer in
+    let P : List ℕ → Type 0 = λ d. RunsOver (RecordsLine d) (ClosesAs (ClosesRecording d) (KeepsRecording kept)) ⊤ (first_recording domain seed) c.args.input.now c.run_lines.new.input c.args.output.now c.run_lines.new.output c.run_lines.result in
+    let ran = subst P c.in_ok-run.ensures.domain (c.run_lines.ensures.runs (first_recording domain seed) c.in_ok-run.ensures.stands refl) in
+    let done = RunsOver-err {W = ℕ} _ _ _ _ _ _ _ _ c.run_lines.result _ c.in-Err.is ran in
+    record {
+      run = RunsOver-closes _ _ (ClosesRecording domain) _ _ _ _ _ _ _ (λ now end k. k.0) done;
+      alone = tt;
+      all = tt;
+    }

@@ -2,7 +2,7 @@ use Rattle.std.proofs.Common.{◌≡◌, ◌+◌, ap, subst, sym, ◌∙◌}
 use Rattle.std.specs.Prelude.{Ok}
 use Rattle.reg_lines.specs.Events.{spelled_event}
 use Rattle.reg_lines.specs.Fields.{Fails}
-use Rattle.line_engines.specs.Schedules.{Applied, line_answer_json}
+use Rattle.line_engines.specs.Schedules.{Applied, is_lost, line_answer_json}
 use Rattle.line_engines.proofs.Scheduling.{event_applied, line_refused}
 use Rattle.line_engines.proofs.schedule_engine.take.Goals as goal
 
@@ -19,8 +19,8 @@ returns-in-Err c = record {
 pub returns-in-Ok : goal.returns-in-Ok
 returns-in-Ok c = record {
   line = λ now m i l.
-      event_applied c.args.domain.now now c.args.line.now (line_answer_json c.apply.result) c.apply.new.machine c.read_event.new.ids c.in-Ok.event
+      event_applied c.args.domain.now now c.args.line.now (line_answer_json c.apply.result) (is_lost c.apply.result) c.apply.new.machine c.read_event.new.ids c.in-Ok.event
       (subst (λ d. spelled_event c.args.domain.now d c.args.line.now ≡ Ok (c.in-Ok.event, c.read_event.new.ids)) (sym i) c.in-Ok.ensures.spelled)
-      (subst (λ n. Applied now.machine c.in-Ok.event (n + 1) (line_answer_json c.apply.result) c.apply.new.machine) (sym l)
-      (subst (λ s. Applied s c.in-Ok.event (c.args.lines + 1) (line_answer_json c.apply.result) c.apply.new.machine) (sym m) c.apply.ensures));
+      (subst (λ n. Applied now.machine c.in-Ok.event (n + 1) (line_answer_json c.apply.result) (is_lost c.apply.result) c.apply.new.machine) (sym l)
+      (subst (λ s. Applied s c.in-Ok.event (c.args.lines + 1) (line_answer_json c.apply.result) (is_lost c.apply.result) c.apply.new.machine) (sym m) c.apply.ensures));
 }

@@ -1,15 +1,30 @@
-use Rattle.std.proofs.Common.{[], refl, false, true, subst}
-use Rattle.line_devices.proofs.Puts.{Puts-nil}
-use Rattle.line_engines.specs.Answers.{as_line}
+use Rattle.std.proofs.Common.{◌≡◌, ◌+◌, false, true, ap, subst, sym, ◌∙◌}
 use Rattle.line_engines.specs.Driver.{AnswersKept}
-use Rattle.line_engines.specs.Recorded.{TakesEvent}
-use Rattle.line_engines.specs.Schedules.{ScheduleKept, Scheduled, StandsFor, line_answer_json}
+use Rattle.line_engines.specs.Recorded.{KeepsRecording, RecordKept, Recording, RecordsLine}
+use Rattle.line_engines.specs.Schedules.{is_lost, line_answer_json}
+use Rattle.line_engines.proofs.Recording.{recorded_as_lost, recorded_line}
 use Rattle.line_engines.proofs.record_engine.RecordRunAnswerer.answer.Goals as goal
 
-pub returns-clause-answered : goal.returns-clause-answered
-returns-clause-answered g c =
+pub returns-then-is_lost-clause-answered : goal.returns-then-is_lost-clause-answered
+returns-then-is_lost-clause-answered g c =
+    let run = c.self.inside in
+    let schedule = c.take.new.self in
+    let lost = is_lost c.take.result in
     let output = c.args.arg4.now in
-    let P : ScheduleKept → Type 0 = λ k. (now : Scheduled) → StandsFor k now → AnswersKept (TakesEvent k.machine.domain) (λ _. false) (StandsFor c.take.new.self) now c.args.line.now output output true in
-    subst P c.self.view_is (λ now stands.
-    let taken = c.take.ensures.taken now stands in
-    (taken.0, [], (λ line is k. (refl, as_line (line_answer_json c.take.result), taken.1 line is k)), Puts-nil output, taken.2, refl))
+    let told : true ≡ lost = sym c.if-is_lost.true ∙ c.is_lost.ensures in
+    let before : RecordKept = record { schedule = run.schedule; lost = run.lost } in
+    let after : RecordKept = record { schedule = schedule; lost = run.lost + 1 } in
+    let P : RecordKept → Type 0 = λ k. (now : Recording) → KeepsRecording k now → AnswersKept (RecordsLine k.schedule.machine.domain) (λ _. false) (KeepsRecording after) now c.args.line.now output output true in
+    subst P c.self.view_is (λ now keeps. recorded_line run.schedule.machine.domain before after schedule now c.args.line.now (line_answer_json c.take.result) lost output keeps (c.take.ensures.taken now.scheduled keeps.0) (ap (recorded_as_lost schedule run.lost) told))
+
+pub returns-else-is_lost-clause-answered : goal.returns-else-is_lost-clause-answered
+returns-else-is_lost-clause-answered g c =
+    let run = c.self.inside in
+    let schedule = c.take.new.self in
+    let lost = is_lost c.take.result in
+    let output = c.args.arg4.now in
+    let told : false ≡ lost = sym c.if-is_lost.false ∙ c.is_lost.ensures in
+    let before : RecordKept = record { schedule = run.schedule; lost = run.lost } in
+    let after : RecordKept = record { schedule = schedule; lost = run.lost } in
+    let P : RecordKept → Type 0 = λ k. (now : Recording) → KeepsRecording k now → AnswersKept (RecordsLine k.schedule.machine.domain) (λ _. false) (KeepsRecording after) now c.args.line.now output output true in
+    subst P c.self.view_is (λ now keeps. recorded_line run.schedule.machine.domain before after schedule now c.args.line.now (line_answer_json c.take.result) lost output keeps (c.take.ensures.taken now.scheduled keeps.0) (ap (recorded_as_lost schedule run.lost) told))

@@ -1,5 +1,5 @@
 use Rattle.std.proofs.Common.{◌+◌, [], ap, refl, subst, sym, ◌∙◌}
-use Rattle.line_engines.specs.Schedules.{ScheduleKept, Scheduled, StandsFor, TakesKept, line_answer_json}
+use Rattle.line_engines.specs.Schedules.{ScheduleKept, Scheduled, StandsFor, TakesKept, is_lost, line_answer_json}
 use Rattle.line_engines.proofs.Scheduling.{scheduled}
 use Rattle.line_engines.proofs.schedule_engine.ScheduleRun.take.Goals as goal
 
@@ -21,7 +21,8 @@ returns-clause-taken c =
     let before : ScheduleKept = record { machine = run.machine; ids = run.ids; lines = run.lines } in
     let after : ScheduleKept = record { machine = c.take-answer.new.machine; ids = c.take-answer.new.ids; lines = run.lines + 1 } in
     let text = line_answer_json c.take-answer.result in
-    let P : ScheduleKept → Type 0 = λ k. (now : Scheduled) → StandsFor k now → TakesKept k.machine.domain after now c.args.line.now text in
+    let lost = is_lost c.take-answer.result in
+    let P : ScheduleKept → Type 0 = λ k. (now : Scheduled) → StandsFor k now → TakesKept k.machine.domain after now c.args.line.now text lost in
     subst P c.self.view_is (λ now stands.
-    subst (λ d. TakesKept d after now c.args.line.now text) (sym c.self.invariant)
-    (scheduled run.domain before after now c.args.line.now text c.self.invariant stands (c.take-answer.ensures.line now stands.machine stands.ids stands.lines) refl))
+    subst (λ d. TakesKept d after now c.args.line.now text lost) (sym c.self.invariant)
+    (scheduled run.domain before after now c.args.line.now text lost c.self.invariant stands (c.take-answer.ensures.line now stands.machine stands.ids stands.lines) refl))

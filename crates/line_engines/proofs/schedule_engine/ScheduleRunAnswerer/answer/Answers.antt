@@ -6,4 +6,4 @@ use Rattle.line_engines.proofs.schedule_engine.ScheduleRunAnswerer.answer.Goals 
 pub returns-clause-answered : goal.returns-clause-answered
 returns-clause-answered g c = λ now stands.
     let taken = c.take.ensures.taken now stands in
-    (taken.0, as_line (line_answer_json c.take.result), taken.1, c.print_line.ensures, taken.2, refl)
+    (taken.0, as_line (line_answer_json c.take.result), (λ line is k. (taken.1 line is k).0), c.print_line.ensures, taken.2, refl)
