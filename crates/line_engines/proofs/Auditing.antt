@@ -1,11 +1,11 @@
 -- What the engine `audit` comes to, line by line.
-use Rattle.std.proofs.Common.{◌≡◌, ◌+◌, ℕ, Bool, true, false, List, [], ◌∷◌, ◌++◌, length, Option, None, Some, refl, sym, ap, subst, ◌∙◌}
-use Rattle.std.specs.Prelude.{IfSome, MatchBool, is_none, is_some, not}
+use Rattle.std.proofs.Common.{◌≡◌, ◌+◌, ℕ, Bool, true, false, List, [], ◌∷◌, ◌++◌, length, Option, None, Some, refl, sym, ap, subst, ◌∙◌, length-append, arith}
+use Rattle.std.specs.Prelude.{⊤, IfSome, MatchBool, Result, Ok, Err, is_none, is_some, not}
 use Rattle.std.specs.Io.KnownBytes.{Appends}
 use Rattle.reg_lines.specs.Lines.{kept, most_lines, IsLine}
 use Rattle.reg_lines.specs.Records.{AuditRecord}
 use Rattle.reg_lines.specs.Runs.{IsRun, first_lines}
-use Rattle.reg_lines.specs.Stream.{OutputState}
+use Rattle.reg_lines.specs.Stream.{InputState, OutputState}
 use Rattle.line_reading.proofs.Kept.{kept_spells_record}
 use Rattle.line_devices.proofs.Puts.{Puts-nil}
 use Rattle.call_audit.specs.declared.cause.Cause.{Cause}
@@ -15,11 +15,14 @@ use Rattle.call_audit.specs.Audits.{judged, judged_spelled}
 use Rattle.call_audit.specs.Texts.{verdict_json}
 use Rattle.call_audit.specs.Verdicts.{verdict_by, verdict_of, verdict_on}
 use Rattle.line_engines.specs.Answers.{as_line}
-use Rattle.line_engines.specs.Audited.{AnswersRecord, AuditKept, Audited, AuditsLine, ClosesWithVerdict, StandsFor, TellsVerdict, denied, is_over, outcome_by, outcome_of, past, start, taken, verdict_in, verdict_over, wanting}
-use Rattle.line_engines.specs.Driver.{AnswersKept, AppendsClosed, ClosesAs, Steps}
+use Rattle.line_engines.specs.Audited.{AnswersRecord, AuditKept, Audited, AuditsLine, ClosesWithVerdict, HasNoFault, LeavesBehind, RunsAudit, StandsFor, TellsVerdict, denied, is_over, outcome_by, outcome_of, past, start, taken, verdict_in, verdict_over, wanting}
+use Rattle.line_engines.specs.Driver.{AnswersKept, AppendsClosed, ClosesAs, Goes, LeavesLines, RunsOver, Steps, TakesSoFar, TakesUntilEnd}
 use Rattle.line_engines.specs.declared.audit_engine.Over.{Over}
 use Rattle.line_engines.specs.declared.audit_engine.Over.TheVariants.{Denied, NoMemory}
+use Rattle.line_engines.specs.declared.fault.RunFault.{RunFault}
+use Rattle.line_engines.specs.declared.fault.RunFault.TheVariants as fault
 use Rattle.line_engines.specs.declared.outcome.Outcome.{Outcome}
+use Rattle.line_engines.proofs.Driving.{memory_input}
 
 -- ---- one line
 
@@ -160,3 +163,94 @@ tells domain kept lines a b told o w =
 pub tells_all : (domain : List ℕ) (kept : AuditKept) (left a b : Option (List ℕ)) (told : Outcome) → told ≡ outcome_of kept.over → IfSome left (λ bytes. AppendsClosed (Steps is_over (AnswersRecord domain)) (ClosesAs ClosesWithVerdict (StandsFor kept)) start (first_lines most_lines bytes) a b) → IfSome left (λ bytes. TellsVerdict (verdict_of domain (first_lines most_lines bytes)) told a b)
 tells_all domain kept None a b told o w = tt
 tells_all domain kept (Some bytes) a b told o w = tells domain kept (first_lines most_lines bytes) a b told o w
+
+-- ---- no line behind the first fault is taken
+
+-- a run that has ended takes no more lines
+stops : (domain : List ℕ) (over : Over) (lines : List (List ℕ)) (first last : Audited) (text : List ℕ) → first.over ≡ Some over → IsRun (Goes is_over (AnswersRecord domain)) first lines last text → (lines ≡ []) × (last ≡ first)
+stops domain over [] first last text e run = (refl, run.0)
+stops domain over (line ∷ lines) first last text e run = absurd (true_false (ap is_some (sym e) ∙ run.3.0))
+
+same_over : (a b : Over) → Some a ≡ Some b → a ≡ b
+same_over a b e = cc
+
+number_of : (m n : ℕ) (a b : Cause) → Denied n b ≡ Denied m a → m ≡ n
+number_of m n a b e = cc
+
+-- what is told of a run, from its first state on: a fault at its last line, or none
+record Ran (domain : List ℕ) (before : List AuditRecord) (lines : List (List ℕ)) (last : Audited) : Type 0 where
+  number : (line : ℕ) (cause : Cause) → last.over ≡ Some (Denied line cause) → line ≡ length before + length lines
+  yes : last.over ≡ None → verdict_on domain before lines ≡ Yes (length before + length lines)
+
+ran_past : (domain : List ℕ) (line : List ℕ) (lines : List (List ℕ)) (first next last : Audited) (text : List ℕ) (over : Over) → next.over ≡ Some over → IsRun (Goes is_over (AnswersRecord domain)) next lines last text → ((at : ℕ) (cause : Cause) → over ≡ Denied at cause → at ≡ length first.records + 1) → Ran domain first.records (line ∷ lines) last
+ran_past domain line lines first next last text over e run number =
+    let s = stops domain over lines next last text e run in
+    let is : last.over ≡ Some over = ap (λ (s : Audited). s.over) s.1 ∙ e in
+    record {
+      number = λ at cause h. number at cause (same_over over (Denied at cause) (sym is ∙ h)) ∙ sym (ap (λ ls. length first.records + length (line ∷ ls)) s.0);
+      yes = λ h. absurd (none_some (sym h ∙ is));
+    }
+
+ran_by : (domain : List ℕ) (line : List ℕ) (lines : List (List ℕ)) (first next last : Audited) (reply text : List ℕ) → AnswersRecord domain first line next reply → first.over ≡ None → (next.over ≡ None → Ran domain next.records lines last) → IsRun (Goes is_over (AnswersRecord domain)) next lines last text → Ran domain first.records (line ∷ lines) last
+ran_by domain line lines first next last reply text (taken e r j n p) o go run =
+    let w = go (ap (λ (s : Audited). s.over) n) in
+    let more : length next.records ≡ length first.records + 1 = ap (λ (s : Audited). length s.records) n ∙ length-append first.records (r ∷ []) in
+    let one : length next.records + length lines ≡ length first.records + length (line ∷ lines) = omega arith in
+    record {
+      number = λ at cause h. w.number at cause h ∙ one;
+      yes = λ h. ap (λ k. verdict_by k (length first.records) (λ x. verdict_on domain (first.records ++ x ∷ []) lines)) j ∙ (ap (λ (s : Audited). verdict_on domain s.records lines) (sym n) ∙ (w.yes h ∙ ap Yes one));
+    }
+ran_by domain line lines first next last reply text (denied e cause j n p) o go run =
+    ran_past domain line lines first next last text (Denied (length first.records + 1) cause) (ap (λ (s : Audited). s.over) n) run (λ at other h. number_of at (length first.records + 1) other cause h)
+ran_by domain line lines first next last reply text (wanting e n p) o go run =
+    ran_past domain line lines first next last text NoMemory (ap (λ (s : Audited). s.over) n) run (λ at cause h. absurd (cc))
+ran_by domain line lines first next last reply text (past over e n p) o go run = absurd (none_some (sym o ∙ e))
+
+ran : (domain : List ℕ) (lines : List (List ℕ)) (first last : Audited) (text : List ℕ) → first.over ≡ None → IsRun (Goes is_over (AnswersRecord domain)) first lines last text → Ran domain first.records lines last
+ran domain [] first last text e run =
+    let same = ap (λ (s : Audited). s.over) run.0 ∙ e in
+    let all : length first.records ≡ length first.records + 0 = omega arith in
+    record { number = λ at cause h. absurd (none_some (sym same ∙ h)); yes = λ h. ap Yes all }
+ran domain (line ∷ lines) first last text e run =
+    ran_by domain line lines first run.0 last run.1 run.2 run.3.1 e (λ o. ran domain lines run.0 last run.2 o run.5) run.5
+
+-- the verdict that was told is that of what is kept
+told_by : (domain : List ℕ) (kept : AuditKept) (lines : List (List ℕ)) (a b : Option (List ℕ)) → AppendsClosed (Steps is_over (AnswersRecord domain)) (ClosesAs ClosesWithVerdict (StandsFor kept)) start lines a b → (last : Audited) × (kept.over ≡ last.over) × (verdict_over kept.over (length last.records) ≡ Some (verdict_of domain lines))
+told_by domain kept lines a b w =
+    let last = w.1.0 in
+    let closed = w.1.4 in
+    let v = closed.0.0 in
+    let c = comes domain lines start last w.1.1 v refl w.1.3 closed.0.1 in
+    (last, sym closed.1.over, ap (λ o. verdict_over o (length last.records)) (sym closed.1.over) ∙ (closed.0.1 ∙ ap Some c.is))
+
+left_by : (domain : List ℕ) (kept : AuditKept) (over : Option Over) (n : ℕ) (bytes : List ℕ) (left : Option (List ℕ)) (v : Verdict) → kept.over ≡ over → verdict_over over n ≡ Some v → TakesUntilEnd is_over (AnswersRecord domain) (StandsFor kept) start bytes left → LeavesBehind v bytes left
+left_by domain kept None n bytes left v k h t = subst (λ x. LeavesBehind x bytes left) (of_some (Yes n) v h) tt
+left_by domain kept (Some (Denied line cause)) n bytes left v k h t =
+    let is : (t.last).over ≡ Some (Denied line cause) = (t.stood).over ∙ k in
+    let at = (ran domain (first_lines t.count bytes) start t.last t.text refl t.run).number line cause is in
+    let counted = t.counted in
+    let same : t.count ≡ line = omega arith in
+    subst (λ x. LeavesBehind x bytes left) (of_some (No line cause) v h) (subst (λ x. LeavesLines x bytes left) same (t.ended (ap is_some is)))
+left_by domain kept (Some NoMemory) n bytes left v k h t = absurd (none_some h)
+
+pub left_behind : (domain : List ℕ) (kept : AuditKept) (all left a b : Option (List ℕ)) → IfSome all (λ bytes. AppendsClosed (Steps is_over (AnswersRecord domain)) (ClosesAs ClosesWithVerdict (StandsFor kept)) start (first_lines most_lines bytes) a b) → IfSome all (λ bytes. TakesUntilEnd is_over (AnswersRecord domain) (StandsFor kept) start bytes left) → IfSome all (λ bytes. LeavesBehind (verdict_of domain (first_lines most_lines bytes)) bytes left)
+left_behind domain kept None left a b w t = tt
+left_behind domain kept (Some bytes) left a b w t =
+    let v = told_by domain kept (first_lines most_lines bytes) a b w in
+    left_by domain kept kept.over (length (v.0).records) bytes left (verdict_of domain (first_lines most_lines bytes)) refl v.2 t
+
+pub no_fault : (domain : List ℕ) (all left : Option (List ℕ)) → IfSome all (λ bytes. TakesSoFar is_over (AnswersRecord domain) start bytes left) → IfSome all (λ bytes. HasNoFault domain bytes left)
+no_fault domain None left t = tt
+no_fault domain (Some bytes) left t =
+    let w = ran domain (first_lines t.count bytes) start t.last t.text refl t.run in
+    let counted = t.counted in
+    let all : 0 + length (first_lines t.count bytes) ≡ t.count = omega arith in
+    (t.count, t.taken, w.yes (none_of (t.last).over t.goes_on) ∙ ap Yes all)
+
+-- ---- an audit that didn't begin
+
+pub stopped_audit : (domain : List ℕ) (input rest : InputState) (output out : OutputState) (result : Result Outcome RunFault) → result ≡ Err fault.NoMemory → RunsOver (Steps is_over (AnswersRecord domain)) ClosesWithVerdict ⊤ start input rest output out result → RunsAudit domain input rest output out result
+stopped_audit domain input rest output out (Ok x) e run = absurd (cc)
+stopped_audit domain input rest output out (Err f) e run =
+    let is : f ≡ fault.NoMemory = cc in
+    record { run = run; told = tt; left = tt; failed = λ i. absurd (memory_input (sym is ∙ i)) }

@@ -1,13 +1,13 @@
 -- A run of lines on its way, whatever it is that answers them.
-use Rattle.std.proofs.Common.{◌≡◌, ◌+◌, ◌≤◌, ◌<◌, ℕ, Bool, true, false, ◌⊎◌, inl, inr, ⊎_elim, List, [], ◌∷◌, ◌++◌, drop, Option, None, Some, Result, Ok, Err, refl, sym, ◌∙◌, append-nil, arith, subst}
+use Rattle.std.proofs.Common.{◌≡◌, ◌+◌, ◌≤◌, ◌<◌, ℕ, Bool, true, false, ◌⊎◌, inl, inr, ⊎_elim, List, [], ◌∷◌, ◌++◌, drop, take, length, Option, None, Some, Result, Ok, Err, refl, sym, ap, ◌∙◌, append-nil, arith, subst}
 use Rattle.std.specs.Prelude.{MatchBool, OnErr, OnOk, IfErr, IfSome}
 use Rattle.std.specs.Io.KnownBytes.{Consumes, IsAtEnd}
-use Rattle.reg_lines.specs.Lines.{has_lf, most_lines, TakesLine}
-use Rattle.reg_lines.specs.Runs.{AppendsRun, IsRun, StepsKept, first_lines}
+use Rattle.reg_lines.specs.Lines.{has_lf, lines_of, most_lines, TakesLine}
+use Rattle.reg_lines.specs.Runs.{AppendsRun, IsRun, StepsKept, TakesLines, first_lines}
 use Rattle.reg_lines.specs.Stream.{InputState, IsOut, OutputState, Puts}
 use Rattle.line_devices.proofs.Puts.{Puts-then, Puts-same}
-use Rattle.line_devices.proofs.RunLemmas.{RunsFrom, RunsFrom-start, RunsFrom-flush, RunsFrom-more, IsRun-on, IsRun-append, AppendsRun-so_far, all_put, front_put, front_longer, lines_done, lines_end, lines_more}
-use Rattle.line_engines.specs.Driver.{AnswersKept, AppendsClosed, AppendsClosedFront, Closes, ClosesAs, FailsToClose, IsClosedRun, MayClose, RunsOver, Steps}
+use Rattle.line_devices.proofs.RunLemmas.{IsOnTheWay, RunsFrom, RunsFrom-start, RunsFrom-flush, RunsFrom-more, IsRun-on, IsRun-append, AppendsRun-so_far, all_put, front_put, front_longer, lines_done, lines_end, lines_more}
+use Rattle.line_engines.specs.Driver.{AnswersKept, AppendsClosed, AppendsClosedFront, Closes, ClosesAs, FailsToClose, Goes, IsClosedRun, LeavesLines, MayClose, RunsOver, Steps, TakesNoMore, TakesSoFar, TakesUntilEnd}
 use Rattle.line_engines.specs.declared.fault.RunFault.{RunFault}
 use Rattle.line_engines.specs.declared.fault.RunFault.TheVariants as fault
 
@@ -36,12 +36,28 @@ IsRun-past : {State : Type 0} (ends : State → Bool) (answers : State → List 
 IsRun-past ends answers last [] e = (refl, refl)
 IsRun-past ends answers last (l ∷ lines) e = (last, [], [], step_past ends answers last last l [] e refl refl, refl, IsRun-past ends answers last lines e)
 
+-- ---- a run whose lines are answered in states that haven't ended
+
+IsRun-going : {State : Type 0} (ends : State → Bool) (answers : State → List ℕ → State → List ℕ → Type 0) (first last : State) (lines : List (List ℕ)) (text : List ℕ) → IsRun (Goes ends answers) first lines last text → IsRun (Steps ends answers) first lines last text
+IsRun-going ends answers first last [] text r = r
+IsRun-going ends answers first last (l ∷ lines) text r =
+    (r.0, r.1, r.2, step_on ends answers first r.0 l r.1 r.3.0 r.3.1, r.4, IsRun-going ends answers r.0 last lines r.2 r.5)
+
+RunsFrom-going : {State : Type 0} (ends : State → Bool) (answers : State → List ℕ → State → List ℕ → Type 0) (first : State) (all left : Option (List ℕ)) (start now : OutputState) (count : ℕ) (last : State) → RunsFrom (Goes ends answers) first all left start now count last → RunsFrom (Steps ends answers) first all left start now count last
+RunsFrom-going ends answers first None left start now count last w = tt
+RunsFrom-going ends answers first (Some xs) None start now count last w = absurd w
+RunsFrom-going ends answers first (Some xs) (Some ys) start now count last w =
+    record { done = w.done; text = w.text; lines = w.lines; counted = w.counted; run = IsRun-going ends answers first last w.done w.text w.run; put = w.put }
+
 -- the run has come to a state that goes on, for which what is kept stands
 pub record IsDriven {State : Type 0} (ends : State → Bool) (answers : State → List ℕ → State → List ℕ → Type 0) (stands : State → Type 0) (first : State) (all left : Option (List ℕ)) (start now : OutputState) (count : ℕ) : Type 0 where
   pub state : State
   pub stood : stands state
   pub goes_on : ends state ≡ false
-  pub way : RunsFrom (Steps ends answers) first all left start now count state
+  pub way : RunsFrom (Goes ends answers) first all left start now count state
+
+pub way_of : {State : Type 0} (ends : State → Bool) (answers : State → List ℕ → State → List ℕ → Type 0) (stands : State → Type 0) (first : State) (all left : Option (List ℕ)) (start now : OutputState) (count : ℕ) (w : IsDriven ends answers stands first all left start now count) → RunsFrom (Steps ends answers) first all left start now count w.state
+way_of ends answers stands first all left start now count w = RunsFrom-going ends answers first all left start now count w.state w.way
 
 -- all lines were answered, as far as a run answers them
 pub record IsThrough {State : Type 0} (step : State → List ℕ → State → List ℕ → Type 0) (stands : State → Type 0) (first : State) (all : Option (List ℕ)) (start now : OutputState) : Type 0 where
@@ -50,13 +66,13 @@ pub record IsThrough {State : Type 0} (step : State → List ℕ → State → L
   pub put : IfSome all (λ bytes. (text : List ℕ) × IsRun step first (first_lines most_lines bytes) state text × Puts start now text)
 
 pub IsDriven-start : {State : Type 0} (ends : State → Bool) (answers : State → List ℕ → State → List ℕ → Type 0) (stands : State → Type 0) (first : State) (all : Option (List ℕ)) (start : OutputState) → stands first → ends first ≡ false → IsDriven ends answers stands first all all start start 0
-IsDriven-start ends answers stands first all start s e = record { state = first; stood = s; goes_on = e; way = RunsFrom-start (Steps ends answers) first all start }
+IsDriven-start ends answers stands first all start s e = record { state = first; stood = s; goes_on = e; way = RunsFrom-start (Goes ends answers) first all start }
 
 pub IsDriven-flush : {State : Type 0} (ends : State → Bool) (answers : State → List ℕ → State → List ℕ → Type 0) (stands : State → Type 0) (first : State) (all left : Option (List ℕ)) (start now then : OutputState) (count : ℕ) → IsDriven ends answers stands first all left start now count → Puts now then [] → IsDriven ends answers stands first all left start then count
 IsDriven-flush ends answers stands first all left start now then count w p = record { state = w.state; stood = w.stood; goes_on = w.goes_on; way = RunsFrom-flush _ _ _ _ _ _ _ _ _ w.way p }
 
-step_kept : {State : Type 0} (ends : State → Bool) (answers : State → List ℕ → State → List ℕ → Type 0) (now next : State) (bytes reply : List ℕ) → ends now ≡ false → StepsKept answers now bytes next reply → StepsKept (Steps ends answers) now bytes next reply
-step_kept ends answers now next bytes reply e s line is k = step_on ends answers now next line reply e (s line is k)
+step_kept : {State : Type 0} (ends : State → Bool) (answers : State → List ℕ → State → List ℕ → Type 0) (now next : State) (bytes reply : List ℕ) → ends now ≡ false → StepsKept answers now bytes next reply → StepsKept (Goes ends answers) now bytes next reply
+step_kept ends answers now next bytes reply e s line is k = (e, s line is k)
 
 pub IsDriven-more : {State : Type 0} (ends : State → Bool) (answers : State → List ℕ → State → List ℕ → Type 0) (stood stands : State → Type 0) (first : State) (all left rest : Option (List ℕ)) (start now then : OutputState) (count : ℕ) (line : List ℕ) (w : IsDriven ends answers stood first all left start now count) → TakesLine left rest line → AnswersKept answers ends stands w.state line now then true → IsDriven ends answers stands first all rest start then (count + 1)
 IsDriven-more ends answers stood stands first all left rest start now then count line w t a =
@@ -96,15 +112,112 @@ put-most step first (Some xs) (Some ys) start now count most last e w =
 pub IsThrough-ended : {State : Type 0} (ends : State → Bool) (answers : State → List ℕ → State → List ℕ → Type 0) (stood stands : State → Type 0) (first : State) (all left rest : Option (List ℕ)) (start now then : OutputState) (count : ℕ) (line : List ℕ) (w : IsDriven ends answers stood first all left start now count) → TakesLine left rest line → count + 1 ≤ most_lines → AnswersKept answers ends stands w.state line now then false → IsThrough (Steps ends answers) stands first all start then
 IsThrough-ended ends answers stood stands first all left rest start now then count line w t l a =
     let way = RunsFrom-more _ _ _ _ _ _ _ _ _ _ _ _ _ w.way t (step_kept ends answers w.state a.0 line a.1 w.goes_on a.2) a.3 in
-    record { state = a.0; stood = a.4; put = put-past ends answers first all rest start then (count + 1) most_lines a.0 a.5 l way }
+    record { state = a.0; stood = a.4; put = put-past ends answers first all rest start then (count + 1) most_lines a.0 a.5 l (RunsFrom-going ends answers first all rest start then (count + 1) a.0 way) }
 
 pub IsThrough-end : {State : Type 0} (ends : State → Bool) (answers : State → List ℕ → State → List ℕ → Type 0) (stands : State → Type 0) (first : State) (all left : Option (List ℕ)) (start now : OutputState) (count : ℕ) → IsDriven ends answers stands first all left start now count → IsAtEnd left → count ≤ most_lines → IsThrough (Steps ends answers) stands first all start now
 IsThrough-end ends answers stands first all left start now count w e l =
-    record { state = w.state; stood = w.stood; put = put-end (Steps ends answers) first all left start now count most_lines w.state e l w.way }
+    record { state = w.state; stood = w.stood; put = put-end (Steps ends answers) first all left start now count most_lines w.state e l (way_of ends answers stands first all left start now count w) }
 
 pub IsThrough-most : {State : Type 0} (ends : State → Bool) (answers : State → List ℕ → State → List ℕ → Type 0) (stands : State → Type 0) (first : State) (all left : Option (List ℕ)) (start now : OutputState) (count : ℕ) → IsDriven ends answers stands first all left start now count → count ≡ most_lines → IsThrough (Steps ends answers) stands first all start now
 IsThrough-most ends answers stands first all left start now count w e =
-    record { state = w.state; stood = w.stood; put = put-most (Steps ends answers) first all left start now count most_lines w.state e w.way }
+    record { state = w.state; stood = w.stood; put = put-most (Steps ends answers) first all left start now count most_lines w.state e (way_of ends answers stands first all left start now count w) }
+
+-- ---- which lines are taken
+
+input_output : fault.Input ≡ fault.Output → ⊥
+input_output e = cc
+
+input_memory : fault.Input ≡ fault.NoMemory → ⊥
+input_memory e = cc
+
+pub output_input : fault.Output ≡ fault.Input → ⊥
+output_input e = cc
+
+pub memory_input : fault.NoMemory ≡ fault.Input → ⊥
+memory_input e = cc
+
+output_memory : fault.Output ≡ fault.NoMemory → ⊥
+output_memory e = cc
+
+true_false : (b : Bool) → b ≡ true → b ≡ false → ⊥
+true_false b t f = cc
+
+lines_taken : (xs ys : List ℕ) (done : List (List ℕ)) (count : ℕ) → lines_of xs ≡ done ++ lines_of ys → length done ≡ count → lines_of xs ≡ take count (lines_of xs) ++ lines_of ys
+lines_taken xs ys done count e n = e ∙ ap (λ ls. ls ++ lines_of ys) (lines_done xs ys done count e n)
+
+takes_of : {State : Type 0} (ends : State → Bool) (answers : State → List ℕ → State → List ℕ → Type 0) (stands : State → Type 0) (first : State) (xs ys : List ℕ) (rest : Option (List ℕ)) (start now : OutputState) (count : ℕ) (last : State) → IsOnTheWay (Goes ends answers) first xs ys start now count last → stands last → (ends last ≡ true → rest ≡ Some ys) → (ends last ≡ false → first_lines count xs ≡ first_lines most_lines xs) → TakesUntilEnd ends answers stands first xs rest
+takes_of ends answers stands first xs ys rest start now count last w s left all =
+    let these = lines_done xs ys w.done count w.lines w.counted in
+    let P : List (List ℕ) → Type 0 = λ ls. IsRun (Goes ends answers) first ls last w.text in
+    let Q : Option (List ℕ) → Type 0 = λ r. LeavesLines count xs r in
+    record {
+      count = count;
+      counted = ap length (sym these) ∙ w.counted;
+      last = last;
+      text = w.text;
+      run = subst P these w.run;
+      stood = s;
+      ended = λ e. subst Q (sym (left e)) (lines_taken xs ys w.done count w.lines w.counted);
+      all = all;
+    }
+
+takes_ended : {State : Type 0} (ends : State → Bool) (answers : State → List ℕ → State → List ℕ → Type 0) (stands : State → Type 0) (first : State) (all left : Option (List ℕ)) (start now : OutputState) (count : ℕ) (last : State) → ends last ≡ true → stands last → RunsFrom (Goes ends answers) first all left start now count last → IfSome all (λ bytes. TakesUntilEnd ends answers stands first bytes left)
+takes_ended ends answers stands first None left start now count last e s w = tt
+takes_ended ends answers stands first (Some xs) None start now count last e s w = absurd w
+takes_ended ends answers stands first (Some xs) (Some ys) start now count last e s w =
+    takes_of ends answers stands first xs ys (Some ys) start now count last w s (λ _. refl) (λ f. absurd (true_false (ends last) e f))
+
+takes_all : {State : Type 0} (ends : State → Bool) (answers : State → List ℕ → State → List ℕ → Type 0) (stands : State → Type 0) (first : State) (all left rest : Option (List ℕ)) (start now : OutputState) (count : ℕ) (last : State) → ends last ≡ false → stands last → RunsFrom (Goes ends answers) first all left start now count last → IsAtEnd left ⊎ (count ≡ most_lines) → count ≤ most_lines → IfSome all (λ bytes. TakesUntilEnd ends answers stands first bytes rest)
+takes_all ends answers stands first None left rest start now count last e s w at l = tt
+takes_all ends answers stands first (Some xs) None rest start now count last e s w at l = absurd w
+takes_all ends answers stands first (Some xs) (Some ys) rest start now count last e s w at l =
+    takes_of ends answers stands first xs ys rest start now count last w s (λ t. absurd (true_false (ends last) t e)) (λ f.
+    ⊎_elim
+    (λ none. sym (lines_done xs ys w.done count w.lines w.counted) ∙ lines_end xs ys w.done count most_lines w.lines w.counted none l)
+    (λ all. ap (λ n. first_lines n xs) all)
+    at)
+
+takes_so_far : {State : Type 0} (ends : State → Bool) (answers : State → List ℕ → State → List ℕ → Type 0) (first : State) (all left rest : Option (List ℕ)) (start now : OutputState) (count : ℕ) (last : State) → ends last ≡ false → RunsFrom (Goes ends answers) first all left start now count last → ((lost : List ℕ) × (has_lf lost ≡ false) × Consumes left rest lost) → IfSome all (λ bytes. TakesSoFar ends answers first bytes rest)
+takes_so_far ends answers first None left rest start now count last e w c = tt
+takes_so_far ends answers first (Some xs) None rest start now count last e w c = absurd w
+takes_so_far ends answers first (Some xs) (Some ys) rest start now count last e w c =
+    let these = lines_done xs ys w.done count w.lines w.counted in
+    let P : List (List ℕ) → Type 0 = λ ls. IsRun (Goes ends answers) first ls last w.text in
+    record {
+      count = count;
+      counted = ap length (sym these) ∙ w.counted;
+      last = last;
+      text = w.text;
+      run = subst P these w.run;
+      goes_on = e;
+      taken = (ys, c.0, lines_taken xs ys w.done count w.lines w.counted, c.1, c.2);
+    }
+
+no_input : {State V : Type 0} (ends : State → Bool) (answers : State → List ℕ → State → List ℕ → Type 0) (stands : State → Type 0) (first : State) (input rest : InputState) (e : RunFault) → (e ≡ fault.Input → ⊥) → TakesNoMore {State = State} {T = V} ends answers stands first input rest (Err e)
+no_input ends answers stands first input rest e other = record { done = tt; failed = λ i. absurd (other i) }
+
+-- a run that stopped otherwise than by a failed read
+pub TakesNoMore-stopped : {State V : Type 0} (ends : State → Bool) (answers : State → List ℕ → State → List ℕ → Type 0) (stands : State → Type 0) (first : State) (input rest : InputState) (result : Result V RunFault) (e : RunFault) → result ≡ Err e → (e ≡ fault.Input → ⊥) → TakesNoMore ends answers stands first input rest result
+TakesNoMore-stopped ends answers stands first input rest (Ok x) e is other = absurd (cc)
+TakesNoMore-stopped ends answers stands first input rest (Err f) e is other = no_input ends answers stands first input rest f (λ i. let same : e ≡ fault.Input = cc in other same)
+
+pub TakesNoMore-input : {State V : Type 0} (ends : State → Bool) (answers : State → List ℕ → State → List ℕ → Type 0) (stood stands : State → Type 0) (first : State) (input rest : InputState) (left : Option (List ℕ)) (start now : OutputState) (count : ℕ) → IsDriven ends answers stood first input.left left start now count → ((lost : List ℕ) × (has_lf lost ≡ false) × Consumes left rest.left lost) → TakesNoMore {State = State} {T = V} ends answers stands first input rest (Err fault.Input)
+TakesNoMore-input ends answers stood stands first input rest left start now count w lost =
+    record { done = tt; failed = λ _. takes_so_far ends answers first input.left left rest.left start now count w.state w.goes_on w.way lost }
+
+-- a run of which the last text was put, or memory was wanting for it, or its output failed
+finished : {State V : Type 0} (ends : State → Bool) (answers : State → List ℕ → State → List ℕ → Type 0) (stands : State → Type 0) (wants : Type 0) (mid out : OutputState) (first : State) (input rest : InputState) (result : Result V RunFault) → IfErr result (λ e. ((e ≡ fault.Output) × (0 < out.failures)) ⊎ ((e ≡ fault.NoMemory) × FailsToClose wants mid out)) → IfSome input.left (λ bytes. TakesUntilEnd ends answers stands first bytes rest.left) → TakesNoMore ends answers stands first input rest result
+finished ends answers stands wants mid out first input rest (Ok x) err t = record { done = t; failed = tt }
+finished ends answers stands wants mid out first input rest (Err e) err t = no_input ends answers stands first input rest e (λ i. ⊎_elim (λ o. input_output (sym i ∙ o.0)) (λ m. input_memory (sym i ∙ m.0)) err)
+
+pub TakesNoMore-ended : {State V : Type 0} (ends : State → Bool) (answers : State → List ℕ → State → List ℕ → Type 0) (stood mid_stands stands : State → Type 0) (wants : Type 0) (first : State) (input rest : InputState) (left : Option (List ℕ)) (start now then out : OutputState) (count : ℕ) (line : List ℕ) (result : Result V RunFault) (w : IsDriven ends answers stood first input.left left start now count) → TakesLine left rest.left line → AnswersKept answers ends mid_stands w.state line now then false → ((now : State) → mid_stands now → stands now) → IfErr result (λ e. ((e ≡ fault.Output) × (0 < out.failures)) ⊎ ((e ≡ fault.NoMemory) × FailsToClose wants then out)) → TakesNoMore ends answers stands first input rest result
+TakesNoMore-ended ends answers stood mid_stands stands wants first input rest left start now then out count line result w t a on err =
+    let way = RunsFrom-more _ _ _ _ _ _ _ _ _ _ _ _ _ w.way t (step_kept ends answers w.state a.0 line a.1 w.goes_on a.2) a.3 in
+    finished ends answers stands wants then out first input rest result err (takes_ended ends answers stands first input.left rest.left start then (count + 1) a.0 a.5 (on a.0 a.4) way)
+
+pub TakesNoMore-all : {State V : Type 0} (ends : State → Bool) (answers : State → List ℕ → State → List ℕ → Type 0) (stood stands : State → Type 0) (wants : Type 0) (first : State) (input rest : InputState) (left : Option (List ℕ)) (start now out : OutputState) (count : ℕ) (result : Result V RunFault) → IsDriven ends answers stood first input.left left start now count → IsAtEnd left ⊎ (count ≡ most_lines) → count ≤ most_lines → ((now : State) → stood now → stands now) → IfErr result (λ e. ((e ≡ fault.Output) × (0 < out.failures)) ⊎ ((e ≡ fault.NoMemory) × FailsToClose wants now out)) → TakesNoMore ends answers stands first input rest result
+TakesNoMore-all ends answers stood stands wants first input rest left start now out count result w at l on err =
+    finished ends answers stands wants now out first input rest result err (takes_all ends answers stands first input.left left rest.left start now count w.state w.goes_on (on w.state w.stood) w.way at l)
 
 pub Closes-flushed : {State : Type 0} (closes : State → List ℕ → Type 0) (now : State) (a b c : OutputState) → Closes closes now a b → Puts b c [] → Closes closes now a c
 Closes-flushed closes now a b c k p = (k.0, k.1, Puts-same _ _ _ _ (append-nil k.0) (Puts-then _ _ _ _ _ k.2 p))
@@ -139,15 +252,6 @@ closed_text : {State : Type 0} (step : State → List ℕ → State → List ℕ
 closed_text step closes first last None start mid now most f h g i p k = tt
 closed_text step closes first last (Some xs) start mid now most f h g i p k =
     (p.0 ++ k.0, (last, p.0, k.0, p.1, k.1, refl), all_put _ _ _ f h g i (Puts-then _ _ _ _ _ p.2 k.2))
-
-input_output : fault.Input ≡ fault.Output → ⊥
-input_output e = cc
-
-input_memory : fault.Input ≡ fault.NoMemory → ⊥
-input_memory e = cc
-
-output_memory : fault.Output ≡ fault.NoMemory → ⊥
-output_memory e = cc
 
 -- the ends of a run
 

@@ -1,9 +1,9 @@
 -- What the engine `audit` keeps from line to line, and what it tells in the end.
-use Rattle.std.specs.Prelude.{◌≡◌, ℕ, ◌+◌, Bool, ⊤, List, [], ◌∷◌, ◌++◌, length, Option, None, Some, is_some, Result, Ok, Err, IfOk, IfSome, refl}
+use Rattle.std.specs.Prelude.{◌≡◌, ℕ, ◌+◌, Bool, ⊤, List, [], ◌∷◌, ◌++◌, length, Option, None, Some, is_some, Result, Ok, Err, IfErr, IfOk, IfSome, refl}
 use Rattle.std.specs.Io.KnownBytes.{Appends}
 use Rattle.reg_lines.specs.Lines.{most_lines}
 use Rattle.reg_lines.specs.Records.{AuditRecord}
-use Rattle.reg_lines.specs.Runs.{first_lines}
+use Rattle.reg_lines.specs.Runs.{TakesLines, first_lines}
 use Rattle.reg_lines.specs.Stream.{InputState, OutputState}
 use Rattle.call_audit.specs.declared.cause.Cause.{Cause}
 use Rattle.call_audit.specs.declared.verdict.Verdict.{Verdict}
@@ -13,10 +13,11 @@ use Rattle.call_audit.specs.Keeps.{AuditState, Keeps}
 use Rattle.call_audit.specs.Texts.{verdict_json}
 use Rattle.call_audit.specs.Verdicts.{verdict_of}
 use Rattle.line_engines.specs.Answers.{as_line}
-use Rattle.line_engines.specs.Driver.{RunsOver, Steps}
+use Rattle.line_engines.specs.Driver.{LeavesLines, RunsOver, Steps}
 use Rattle.line_engines.specs.declared.audit_engine.Over.{Over}
 use Rattle.line_engines.specs.declared.audit_engine.Over.TheVariants.{Denied, NoMemory}
 use Rattle.line_engines.specs.declared.fault.RunFault.{RunFault}
+use Rattle.line_engines.specs.declared.fault.RunFault.TheVariants as fault
 use Rattle.line_engines.specs.declared.outcome.Outcome.{Outcome}
 use Rattle.line_engines.specs.declared.outcome.Outcome.TheVariants as outcome
 
@@ -73,10 +74,21 @@ outcome_by (No line cause) = outcome.Denied
 abbrev pub TellsVerdict : Verdict → Outcome → Option (List ℕ) → Option (List ℕ) → Type 0
 TellsVerdict verdict told old new = Appends old new (as_line (verdict_json verdict)) × (told ≡ outcome_by verdict)
 
--- What a run of the engine over an input and an output has done: it is a run of lines, and where it got to its end, the verdict on the lines was told.
+-- behind a no, the lines that follow the reported one are left
+abbrev pub LeavesBehind : Verdict → List ℕ → Option (List ℕ) → Type 0
+LeavesBehind (Yes calls) bytes left = ⊤
+LeavesBehind (No line cause) bytes left = LeavesLines line bytes left
+
+-- so many lines were taken, and none of them has a fault
+abbrev pub HasNoFault : List ℕ → List ℕ → Option (List ℕ) → Type 0
+HasNoFault domain bytes left = (count : ℕ) × TakesLines count bytes left × (verdict_of domain (first_lines count bytes) ≡ Yes count)
+
+-- What a run of the engine over an input and an output has done: it is a run of lines, and where it got to its end, the verdict on the lines was told. No line behind the first fault was taken, also where a read failed.
 pub record RunsAudit (domain : List ℕ) (input rest : InputState) (output out : OutputState) (result : Result Outcome RunFault) : Type 0 where
   pub run : RunsOver (Steps is_over (AnswersRecord domain)) ClosesWithVerdict ⊤ start input rest output out result
   pub told : IfOk result (λ outcome. IfSome input.left (λ bytes. TellsVerdict (verdict_of domain (first_lines most_lines bytes)) outcome output.written out.written))
+  pub left : IfOk result (λ outcome. IfSome input.left (λ bytes. LeavesBehind (verdict_of domain (first_lines most_lines bytes)) bytes rest.left))
+  pub failed : IfErr result (λ e. e ≡ fault.Input → IfSome input.left (λ bytes. HasNoFault domain bytes rest.left))
 
 -- ---- what the engine keeps of a run
 

@@ -1,7 +1,7 @@
 -- The lines of an input answered to their end.
-use Rattle.std.specs.Prelude.{◌≡◌, ◌<◌, ◌⊎◌, ℕ, Bool, not, List, [], ◌++◌, Option, Result, MatchBool, OnOk, IfErr, IfSome}
+use Rattle.std.specs.Prelude.{◌≡◌, ◌<◌, ◌⊎◌, ℕ, Bool, true, false, not, List, [], ◌++◌, length, take, Option, None, Some, Result, MatchBool, OnOk, IfErr, IfSome}
 use Rattle.std.specs.Io.KnownBytes.{Appends}
-use Rattle.reg_lines.specs.Lines.{most_lines}
+use Rattle.reg_lines.specs.Lines.{lines_of, most_lines}
 use Rattle.reg_lines.specs.Runs.{IsRun, AppendsRun, StepsKept, TakesLines, first_lines}
 use Rattle.reg_lines.specs.Stream.{AppendsFront, InputState, IsOut, OutputState, Puts}
 use Rattle.line_engines.specs.declared.fault.RunFault.{RunFault}
@@ -63,3 +63,40 @@ pub record RunsOver {State : Type 0} {T : Type 0} (step : State → List ℕ →
   pub no_memory : IfErr result (λ e. e ≡ fault.NoMemory → ((rest ≡ input) × (out ≡ output)) ⊎ (wants × (rest.failures ≡ 0) × (out.failures ≡ 0) × IsOut out × IfSome input.left (λ bytes. AppendsRun step first (first_lines most_lines bytes) output.written out.written)))
   -- whatever happens, what was written is a beginning
   pub front : IfSome input.left (λ bytes. AppendsClosedFront step (MayClose closes) first (first_lines most_lines bytes) output.written out.written)
+
+-- ---- which lines are taken
+
+-- A line gets its reply in a state that hasn't ended.
+abbrev pub Goes : {State : Type 0} → (State → Bool) → (State → List ℕ → State → List ℕ → Type 0) → State → List ℕ → State → List ℕ → Type 0
+Goes ends answers now line next reply = (ends now ≡ false) × answers now line next reply
+
+-- the first lines were taken from the bytes, and all others are left
+abbrev pub LeavesLines : ℕ → List ℕ → Option (List ℕ) → Type 0
+LeavesLines count bytes None = ⊥
+LeavesLines count bytes (Some rest) = lines_of bytes ≡ take count (lines_of bytes) ++ lines_of rest
+
+-- The lines were answered up to the one at which the run ended, and those behind it are left; or all were answered.
+pub record TakesUntilEnd {State : Type 0} (ends : State → Bool) (answers : State → List ℕ → State → List ℕ → Type 0) (stands : State → Type 0) (first : State) (bytes : List ℕ) (left : Option (List ℕ)) : Type 0 where
+  pub count : ℕ
+  pub counted : length (first_lines count bytes) ≡ count
+  pub last : State
+  pub text : List ℕ
+  pub run : IsRun (Goes ends answers) first (first_lines count bytes) last text
+  pub stood : stands last
+  pub ended : ends last ≡ true → LeavesLines count bytes left
+  pub all : ends last ≡ false → first_lines count bytes ≡ first_lines most_lines bytes
+
+-- So many lines were answered, the run hasn't ended, and of the lines that are left no whole one was taken.
+pub record TakesSoFar {State : Type 0} (ends : State → Bool) (answers : State → List ℕ → State → List ℕ → Type 0) (first : State) (bytes : List ℕ) (left : Option (List ℕ)) : Type 0 where
+  pub count : ℕ
+  pub counted : length (first_lines count bytes) ≡ count
+  pub last : State
+  pub text : List ℕ
+  pub run : IsRun (Goes ends answers) first (first_lines count bytes) last text
+  pub goes_on : ends last ≡ false
+  pub taken : TakesLines count bytes left
+
+-- No line is taken behind the one at which a run ends: neither where the run gets to its end nor before a read that fails.
+pub record TakesNoMore {State : Type 0} {T : Type 0} (ends : State → Bool) (answers : State → List ℕ → State → List ℕ → Type 0) (stands : State → Type 0) (first : State) (input rest : InputState) (result : Result T RunFault) : Type 0 where
+  pub done : OnOk result (IfSome input.left (λ bytes. TakesUntilEnd ends answers stands first bytes rest.left))
+  pub failed : IfErr result (λ e. e ≡ fault.Input → IfSome input.left (λ bytes. TakesSoFar ends answers first bytes rest.left))

@@ -15,7 +15,7 @@ use std::alloc::{AllocError, Global};
 use std::marker::Model;
 
 /// Audits the records of the input, in order, and tells the verdict: yes where no line has a fault, and else the first one that
-/// has. What follows that line isn't read.
+/// has. The lines that follow that one aren't taken from the input.
 ///
 /// Memory may be wanting at each line, and the run ends there with no verdict.
 pub fn audit<S: Source, K: Sink>(

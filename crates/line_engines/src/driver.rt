@@ -2,7 +2,7 @@
 
 ghost use Rattle.std.specs.Prelude.{◌≡◌, ◌+◌, ◌<◌, ◌^◌, ◌⊎◌, ℕ, Bool, false, List, [], OnErr, OnOk, IfErr};
 ghost use Rattle.reg_lines.specs.Stream.{IsOut, Puts};
-ghost use Rattle.line_engines.specs.Driver.{AnswersKept, Closes, ClosesAs, FailsToClose, RunsOver, Steps};
+ghost use Rattle.line_engines.specs.Driver.{AnswersKept, Closes, ClosesAs, FailsToClose, RunsOver, Steps, TakesNoMore};
 
 use crate::fault::RunFault;
 use reg_lines::{Input, Line, Output, Sink, Source, flush_before_waiting, most_lines};
@@ -62,7 +62,8 @@ pub trait Answerer {
     ghost some_answer: { (s : Self.Setting) (now : Self.State) (line : List ℕ) → (next : Self.State) × (reply : List ℕ) × Self.answers s now line next reply };
 }
 
-/// Has each line of the input answered, in order, until the answerer ends the run, and then the last text put.
+/// Has each line of the input answered, in order, until the answerer ends the run, and then the last text put. No line is taken
+/// behind the one at which the run ends.
 ///
 /// The replies are out before each read that may wait, and at the end. What the run has come to then is what the answerer
 /// stands for; what it keeps of its beginning it keeps also where a device failed.
@@ -79,6 +80,8 @@ pub fn run_lines<A: Answerer, S: Source, K: Sink>(
     ensures keeps { (first : A) → A.keeps first answerer.old → A.keeps first answerer.new }
     ensures runs { (first : A.State) → A.stands answerer.old first → A.ends first ≡ false
         → RunsOver (Steps A.ends (A.answers (A.setting answerer.old))) (ClosesAs (A.closes (A.setting answerer.old)) (A.stands answerer.new)) A.wants first input.old input.new output.old output.new result }
+    ensures takes { (first : A.State) → A.stands answerer.old first → A.ends first ≡ false
+        → TakesNoMore A.ends (A.answers (A.setting answerer.old)) (A.stands answerer.new) first input.old input.new result }
 {
     let mut line = Line::new(alloc)?;
     for count in 0..most_lines() {
