@@ -1,0 +1,3 @@
+module regd/gateway
+
+go 1.19

@@ -1,0 +1,181 @@
+package wire
+
+import (
+	"strings"
+	"testing"
+)
+
+func counter() func() string {
+	n := 0
+	return func() string { n++; return string(rune('A' + n - 1)) }
+}
+
+func TestWithIDs(t *testing.T) {
+	for _, c := range []struct{ name, line, want string }{
+		{"no create", `{"ops":[{"op":"show","id":"x"}]}`, `{"ops":[{"op":"show","id":"x"}]}`},
+		{"one", `{"ops":[{"op":"create","parent":"p"}]}`, `{"ops":[{"op":"create","parent":"p","id":"A"}]}`},
+		{"null", `{"ops":[{"op":"create","id":null}]}`, `{"ops":[{"op":"create","id":null,"id":"A"}]}`},
+		{"given", `{"ops":[{"op":"create","id":"x"}]}`, `{"ops":[{"op":"create","id":"x"}]}`},
+		{"given, then null", `{"ops":[{"id":"x","op":"create","id":null}]}`, `{"ops":[{"id":"x","op":"create","id":null,"id":"A"}]}`},
+		{"two of three", `{"ops":[{"op":"create"},{"op":"prune","before":1},{ "op" : "create" } ]}`,
+			`{"ops":[{"op":"create","id":"A"},{"op":"prune","before":1},{ "op" : "create" ,"id":"B"} ]}`},
+		{"a token", `{"ops":[{"op":"create"}],"token":"t"}`, `{"ops":[{"op":"create"}],"token":"t"}`},
+		{"no token", `{"ops":[{"op":"create"}],"token":"t","token":null}`, `{"ops":[{"op":"create","id":"A"}],"token":"t","token":null}`},
+		{"the last ops", `{"ops":[{"op":"create"}],"ops":[{"op":"create"}]}`, `{"ops":[{"op":"create"}],"ops":[{"op":"create","id":"A"}]}`},
+		{"the last op", `{"ops":[{"op":"create","op":"show"}]}`, `{"ops":[{"op":"create","op":"show"}]}`},
+		{"not a name at last", `{"ops":[{"op":"create","op":7}]}`, `{"ops":[{"op":"create","op":7}]}`},
+		{"escapes", `{"\u006fps":[{"o\u0070":"cr\u0065ate","h":"}\"]"}]}`, `{"\u006fps":[{"o\u0070":"cr\u0065ate","h":"}\"]","id":"A"}]}`},
+		{"nested", `{"ops":[{"x":[{"a":[1,2.5e3]},[]],"op":"create"}],"z":{"ops":1}}`, `{"ops":[{"x":[{"a":[1,2.5e3]},[]],"op":"create","id":"A"}],"z":{"ops":1}}`},
+	} {
+		b, ok := ReadBatch([]byte(c.line))
+		if !ok {
+			t.Errorf("%s: not read", c.name)
+		} else if got := string(b.WithIDs(counter())); got != c.want {
+			t.Errorf("%s:\n got %s\nwant %s", c.name, got, c.want)
+		}
+	}
+}
+
+func TestReadBatchRefuses(t *testing.T) {
+	many := `{"ops":[` + strings.Repeat(`{"op":"create"},`, 64) + `{"op":"create"}]}`
+	for _, line := range []string{``, `7`, `[]`, `{}`, `{"ops":7}`, `{"ops":[]}`, `{"ops":[7]}`, `{"ops":[{"op":"create"}]`, `{"ops":[{"op":"create"}]}}`, many} {
+		if _, ok := ReadBatch([]byte(line)); ok {
+			t.Errorf("%.40s: read", line)
+		}
+	}
+}
+
+func TestIsMixed(t *testing.T) {
+	for _, c := range []struct {
+		queries, changes int
+		want             bool
+	}{{4, 1, false}, {5, 1, true}, {5, 0, false}, {64, 0, false}, {63, 1, true}, {0, 64, false}} {
+		ops := strings.Repeat(`{"op":"children"},`, c.queries) + strings.Repeat(`{"op":"prune"},`, c.changes)
+		b, ok := ReadBatch([]byte(`{"ops":[` + strings.TrimSuffix(ops, ",") + `]}`))
+		if !ok || b.IsMixed() != c.want {
+			t.Errorf("%d queries, %d changes: got %v", c.queries, c.changes, !c.want)
+		}
+	}
+	for name := range isQuery {
+		line := `{"ops":[{"op":"prune"}` + strings.Repeat(`,{"op":"`+name+`"}`, MaxQueries+1) + `]}`
+		if b, _ := ReadBatch([]byte(line)); !b.IsMixed() {
+			t.Errorf("%s isn't counted", name)
+		}
+	}
+}
+
+func TestHasRoom(t *testing.T) {
+	pad := func(line string, size int) string { return line + strings.Repeat(" ", size-len(line)) }
+	for _, c := range []struct {
+		name, line string
+		size       int
+		want       bool
+	}{
+		{"nothing to add", `{"ops":[{"op":"prune"}]}`, MaxLine, true},
+		{"an id fits", `{"ops":[{"op":"create"}]}`, MaxLine - idRoom, true},
+		{"an id doesn't", `{"ops":[{"op":"create"}]}`, MaxLine - idRoom + 1, false},
+		{"two ids don't", `{"ops":[{"op":"create"},{"op":"create"}]}`, MaxLine - 2*idRoom + 1, false},
+		{"a token fits", `{"ops":[{"op":"prune"}],"token":"x"}`, MaxLine - tokenRoom, true},
+		{"a token doesn't", `{"ops":[{"op":"prune"}],"token":"x"}`, MaxLine - tokenRoom + 1, false},
+	} {
+		b, ok := ReadBatch([]byte(pad(c.line, c.size)))
+		if !ok || b.HasRoom() != c.want {
+			t.Errorf("%s: got %v", c.name, !c.want)
+		}
+	}
+	b, _ := ReadBatch([]byte(`{"ops":[{"op":"create"}]}`))
+	if made := b.WithIDs(NewID); len(made) != len(b.line)+idRoom {
+		t.Errorf("an id adds %d bytes", len(made)-len(b.line))
+	}
+	tokened, _ := ReadTokened([]byte(`{"ops":[{"op":"prune"}],"token":"00000000-0000-0000-0000-000000000009"}`))
+	if grown := len(tokened.Probe) - len(`{"ops":[{"op":"prune"}],"token":"00000000-0000-0000-0000-000000000009"}`); grown > tokenRoom {
+		t.Errorf("a token adds %d bytes", grown)
+	}
+}
+
+const uuid9 = "00000000000000000000000000000009"
+
+func TestReadTokened(t *testing.T) {
+	const nine = `"00000000-0000-0000-0000-000000000009"`
+	for _, c := range []struct {
+		name, line  string
+		want        bool
+		after       uint64
+		taken, asks string
+	}{
+		{"a change", `{"ops":[{"op":"prune","before":0}],"token":` + nine + `} `, true, 0,
+			`{"ops":[{"op":"prune","before":0}],"token":` + nine + `,"token":null} `,
+			`{"ops":[{"op":"prune","before":0}],"token":` + nine + `,"token":null,"after":18446744073709551615} `},
+		{"after", `{"after":7,"ops":[{"op":"prune"}],"token":` + nine + `}`, true, 7, "", ""},
+		{"after null", `{"after":null,"ops":[{"op":"prune"}],"token":` + nine + `}`, true, 0, "", ""},
+		{"after the largest", `{"after":18446744073709551615,"ops":[{"op":"prune"}],"token":` + nine + `}`, true, 1<<64 - 1, "", ""},
+		{"after too large", `{"after":18446744073709551616,"ops":[{"op":"prune"}],"token":` + nine + `}`, false, 0, "", ""},
+		{"after with a fraction", `{"after":1.0,"ops":[{"op":"prune"}],"token":` + nine + `}`, false, 0, "", ""},
+		{"after a string", `{"after":"1","ops":[{"op":"prune"}],"token":` + nine + `}`, false, 0, "", ""},
+		{"an escaped key", `{"t\u006fken":` + nine + `,"ops":[{"op":"prune"}]}`, true, 0, "", ""},
+		{"the last token", `{"token":7,"token":` + nine + `,"ops":[{"op":"prune"}]}`, true, 0, "", ""},
+		{"braces", `{"token":"{00000000-0000-0000-0000-000000000009}","ops":[{"op":"prune"}]}`, true, 0, "", ""},
+		{"urn", `{"token":"URN:UUID:00000000-0000-0000-0000-000000000009","ops":[{"op":"prune"}]}`, true, 0, "", ""},
+		{"digits", `{"token":"00000000000000000000000000000009","ops":[{"op":"prune"}]}`, true, 0, "", ""},
+		{"no token", `{"ops":[{"op":"prune"}]}`, false, 0, "", ""},
+		{"null", `{"token":null,"ops":[{"op":"prune"}]}`, false, 0, "", ""},
+		{"a number", `{"token":9,"ops":[{"op":"prune"}]}`, false, 0, "", ""},
+		{"not a UUID", `{"token":"9","ops":[{"op":"prune"}]}`, false, 0, "", ""},
+		{"a UUID with urn and no hyphens", `{"token":"urn:uuid:00000000000000000000000000000009","ops":[{"op":"prune"}]}`, false, 0, "", ""},
+		{"braces and no hyphens", `{"token":"{00000000000000000000000000000009}","ops":[{"op":"prune"}]}`, false, 0, "", ""},
+		{"a query", `{"token":` + nine + `,"ops":[{"op":"show"}]}`, false, 0, "", ""},
+		{"a create without an id", `{"token":` + nine + `,"ops":[{"op":"create"}]}`, false, 0, "", ""},
+	} {
+		got, ok := ReadTokened([]byte(c.line))
+		if ok != c.want {
+			t.Errorf("%s: got %v", c.name, ok)
+		} else if ok && (got.Token != uuid9 || got.After != c.after) {
+			t.Errorf("%s: got %s, %d", c.name, got.Token, got.After)
+		} else if c.taken != "" && (string(got.Line) != c.taken || string(got.Probe) != c.asks) {
+			t.Errorf("%s: got %s and %s", c.name, got.Line, got.Probe)
+		}
+	}
+}
+
+func TestSame(t *testing.T) {
+	read := func(ops string) string {
+		b, ok := ReadBatch([]byte(`{"ops":[` + ops + `]}`))
+		if !ok {
+			t.Fatal(ops)
+		}
+		return b.same()
+	}
+	const id = "76b8e0ad-a0f1-4d90-805d-6ae55386bd28"
+	for _, c := range []struct {
+		name, first, second string
+		want                bool
+	}{
+		{"order of keys", `{"op":"prune","before":1}`, `{"before":1,"op":"prune"}`, true},
+		{"another value", `{"op":"prune","before":1}`, `{"op":"prune","before":2}`, false},
+		{"escapes", `{"op":"set_bundle","domain":"b.org","text":"a"}`, `{"op":"set_bundle","domain":"b.org","text":"\u0061"}`, true},
+		{"sets", `{"op":"set_agent","agent":"a","selectors":["x:1","y:2"]}`, `{"op":"set_agent","agent":"a","selectors":["y:2","x:1","x:1"]}`, true},
+		{"other sets", `{"op":"set_agent","agent":"a","selectors":["x:1"]}`, `{"op":"set_agent","agent":"a","selectors":["x:1","y:2"]}`, false},
+		{"spelling of ids", `{"op":"delete","id":"` + id + `"}`, `{"op":"delete","id":"{` + strings.ToUpper(id) + `}"}`, true},
+		{"revision", `{"op":"delete","id":"` + id + `"}`, `{"op":"delete","id":"` + id + `","revision":0}`, false},
+		{"null", `{"op":"delete","id":"` + id + `"}`, `{"op":"delete","id":"` + id + `","revision":null}`, true},
+		{"null at last", `{"op":"delete","id":"` + id + `","revision":4,"revision":null}`, `{"op":"delete","id":"` + id + `"}`, true},
+		{"the default mode", `{"op":"drop_bundle","domain":"b"}`, `{"op":"drop_bundle","domain":"b","mode":"restrict"}`, true},
+		{"another mode", `{"op":"drop_bundle","domain":"b"}`, `{"op":"drop_bundle","domain":"b","mode":"delete"}`, false},
+		{"defaults", `{"op":"update","id":"` + id + `"}`, `{"op":"update","id":"` + id + `","hint":"","expiry":0,"x509_svid_ttl":0,"jwt_svid_ttl":0,"domains":[]}`, true},
+		{"a hint that looks like an id", `{"op":"update","hint":"` + id + `"}`, `{"op":"update","hint":"` + strings.ToUpper(id) + `"}`, false},
+		{"order of operations", `{"op":"prune","before":1},{"op":"prune","before":2}`, `{"op":"prune","before":2},{"op":"prune","before":1}`, false},
+		{"one more", `{"op":"prune","before":1}`, `{"op":"prune","before":1},{"op":"prune","before":1}`, false},
+		{"match", `{"op":"page","size":1,"selectors":["a:b"]}`, `{"op":"page","size":1,"selectors":["a:b"],"match":"superset"}`, true},
+	} {
+		if got := read(c.first) == read(c.second); got != c.want {
+			t.Errorf("%s: got %v", c.name, got)
+		}
+	}
+}
+
+func TestNewID(t *testing.T) {
+	one, other := NewID(), NewID()
+	if _, ok := readUUID(one); !ok || len(one) != 36 || one[14] != '4' || !strings.Contains("89ab", one[19:20]) || one == other {
+		t.Errorf("got %s and %s", one, other)
+	}
+}

@@ -1,0 +1,92 @@
+package wire
+
+import (
+	"bufio"
+	"io"
+	"strings"
+	"testing"
+)
+
+func TestAppendReply(t *testing.T) {
+	for _, c := range []struct{ reply, want string }{
+		{`{"call":99,"place":3,"replies":[],"result":"committed"}`, `{"call":5,"place":3,"replies":[],"result":"committed"}`},
+		{`{"call":99,"code":"W1","place":3,"result":"refused"}`, `{"call":5,"code":"W1","place":3,"result":"refused"}`},
+		{`{"code":"L2","line":99}`, `{"code":"L2","line":8}`},
+		{`{"code":"L5","field":"zz","line":99,"op":0}`, `{"code":"L5","field":"zz","line":8,"op":0}`},
+		{`{"code":"L5","field":",\"line\":7","line":99}`, `{"code":"L5","field":",\"line\":7","line":8}`},
+		{string(Refusal("G1")), `{"code":"G1","line":8}`},
+		{string(Refused("O9", 12)), `{"call":5,"code":"O9","place":12,"result":"refused"}`},
+		{string(Repeated(Tail([]byte(`{"call":1,"place":3,"replies":[],"result":"committed"}`)))), `{"call":5,"place":3,"replies":[],"result":"repeated"}`},
+	} {
+		if got := string(AppendReply(nil, []byte(c.reply), 5, 8)); got != c.want+"\n" {
+			t.Errorf("%s: got %s", c.reply, got)
+		}
+	}
+}
+
+func TestReplyParts(t *testing.T) {
+	committed := []byte(`{"call":9,"place":31,"replies":[{"bundle":{"text":"\"place\":7"}}],"result":"committed"}`)
+	if Place(committed) != 31 || !IsCommitted(committed) || IsRefusal(committed) {
+		t.Error("committed")
+	}
+	early := []byte(`{"call":9,"code":"W1","place":31,"result":"refused"}`)
+	if !HasCode(early, "W1") || HasCode(early, "O1") || IsCommitted(early) || HasCode(committed, "W1") {
+		t.Error("early")
+	}
+	full := []byte(`{"code":"L6","line":9}`)
+	if !HasCode(full, "L6") || !IsRefusal(full) || Place(full) != 0 || HasCode(full, "L") {
+		t.Error("full")
+	}
+	if After([]byte(`{"ops":[],"after": 7}`)) != 7 || After([]byte(`{"ops":[]}`)) != 0 || After([]byte(`{"after":99999999999999999999`)) != 1<<64-1 {
+		t.Error("after")
+	}
+}
+
+func TestReadLine(t *testing.T) {
+	long := strings.Repeat("x", MaxLine)
+	for _, c := range []struct {
+		name, text string
+		want       []string // lines, or codes after a !
+	}{
+		{"empty", "", nil},
+		{"two", "a\nb\r\n", []string{"a", "b\r"}},
+		{"empty lines", "\n\n", []string{"", ""}},
+		{"no line feed", "a\nb", []string{"a", "!L3"}},
+		{"the longest", long + "\na\n", []string{long, "a"}},
+		{"too long", long + "x\na\n", []string{"!L1", "a"}},
+		{"too long with a carriage return", long + "\r\n", []string{"!L1"}},
+		{"much too long", long + long + long + "\na\n", []string{"!L1", "a"}},
+		{"too long without a line feed", long + "x", []string{"!L1"}},
+		{"the longest without a line feed", long, []string{"!L3"}},
+	} {
+		for _, size := range []int{16, 4096} {
+			in, got := bufio.NewReaderSize(strings.NewReader(c.text), size), []string{}
+			for {
+				line, code, err := ReadLine(in)
+				if err == io.EOF {
+					break
+				} else if err != nil {
+					t.Fatal(err)
+				}
+				if code != "" {
+					line = []byte("!" + code)
+				}
+				got = append(got, string(line))
+			}
+			if strings.Join(got, "|") != strings.Join(c.want, "|") {
+				t.Errorf("%s: got %.200q", c.name, got)
+			}
+		}
+	}
+}
+
+func TestReadLineError(t *testing.T) {
+	in := bufio.NewReader(io.MultiReader(strings.NewReader("a"), failing{}))
+	if _, code, err := ReadLine(in); err != io.ErrUnexpectedEOF || code != "" {
+		t.Errorf("got %q, %v", code, err)
+	}
+}
+
+type failing struct{}
+
+func (failing) Read([]byte) (int, error) { return 0, io.ErrUnexpectedEOF }

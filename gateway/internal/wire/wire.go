@@ -1,0 +1,55 @@
+// Package wire looks at request lines and replies of regd as bytes.
+//
+// It decides which lines have to go through the log, and what the gateway adds to a line. It reads as little of a line as it can, and never
+// judges it: a malformed line reaches regd as the caller sent it, and regd names its fault. Keys are added to a line and never rewritten,
+// because of equal keys in one object regd takes the last value.
+package wire
+
+import "bytes"
+
+// MaxLine is the largest number of bytes in a line, without its line feed.
+const MaxLine = 1 << 20
+
+// names of the operations that change the book, as they appear in a line without escapes
+var changeNames = [][]byte{
+	[]byte(`"create"`), []byte(`"update"`), []byte(`"delete"`), []byte(`"prune"`),
+	[]byte(`"set_agent"`), []byte(`"drop_agent"`), []byte(`"set_bundle"`), []byte(`"drop_bundle"`),
+}
+
+// MayChange returns false only if no reader of JSON can find a change in the line. Without a backslash every string of a line stands in it
+// as it is, so a line without the name of a change holds none. A query or a malformed line for which it returns true goes through the log,
+// which costs time and changes nothing.
+func MayChange(line []byte) bool {
+	if bytes.IndexByte(line, '\\') >= 0 {
+		return true
+	}
+	for _, name := range changeNames {
+		if bytes.Contains(line, name) {
+			return true
+		}
+	}
+	return false
+}
+
+// mayHaveToken returns false only if no reader of JSON can find the key token in the line.
+func mayHaveToken(line []byte) bool {
+	return bytes.Contains(line, []byte(`"token"`)) || bytes.IndexByte(line, '\\') >= 0
+}
+
+// WithAfter adds the commit number in front of the keys of a query, so that a value of the caller still counts. It returns the line itself
+// if that is not an object with a key, or has no room.
+func WithAfter(line []byte, place uint64) []byte {
+	open := skipSpace(line, 0)
+	if place == 0 || len(line)+40 > MaxLine || open == len(line) || line[open] != '{' {
+		return line
+	}
+	if first := skipSpace(line, open+1); first == len(line) || line[first] != '"' {
+		return line
+	}
+	made := make([]byte, 0, len(line)+40)
+	made = append(made, line[:open+1]...)
+	made = append(made, `"after":`...)
+	made = appendUint(made, place)
+	made = append(made, ',')
+	return append(made, line[open+1:]...)
+}
