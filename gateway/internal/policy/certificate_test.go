@@ -105,7 +105,19 @@ func TestCallerOf(t *testing.T) {
 
 // handshake returns the server's error, and the caller it saw.
 func handshake(t *testing.T, server *tls.Config, client *tls.Config) (Caller, error) {
-	inner, outer := net.Pipe()
+	on, err := net.Listen("tcp", "127.0.0.1:0")
+	if err != nil {
+		t.Fatal(err)
+	}
+	defer on.Close()
+	outer, err := net.Dial("tcp", on.Addr().String())
+	if err != nil {
+		t.Fatal(err)
+	}
+	inner, err := on.Accept()
+	if err != nil {
+		t.Fatal(err)
+	}
 	defer inner.Close()
 	go func() {
 		defer outer.Close()

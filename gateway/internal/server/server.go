@@ -1,0 +1,170 @@
+// Package server answers request lines of regd for many callers: queries by a regd of its own, and changes through a log that all gateways
+// share.
+package server
+
+import (
+	"bufio"
+	"context"
+	"crypto/tls"
+	"encoding/json"
+	"errors"
+	"fmt"
+	"net"
+	"net/http"
+	"sync/atomic"
+	"time"
+
+	"regd/gateway/internal/etcd"
+	"regd/gateway/internal/logline"
+	"regd/gateway/internal/policy"
+	"regd/gateway/internal/replica"
+	"regd/gateway/internal/sums"
+	"regd/gateway/internal/wire"
+)
+
+// handshakeTime is how long a caller may take for its TLS handshake.
+const handshakeTime = 10 * time.Second
+
+// Options configure a gateway.
+type Options struct {
+	Name      string // the same each time this gateway is started, and no other one's
+	Program   string // a checksum of everything that replies depend on
+	Replica   replica.Options
+	TLS       *tls.Config // nil: callers come in plain text, and all are operators
+	Operators []string    // SPIFFE IDs that may send every line
+}
+
+// A Gateway serves callers.
+type Gateway struct {
+	log     etcd.Log
+	options Options
+	run     string // no other gateway, and no other run of this one, has it
+	board   *board
+	booth   *sums.Booth
+	flights flights
+	changes chan *change
+	fresh   chan chan uint64
+
+	generation atomic.Uint64 // of the replica
+	sessions   atomic.Int64  // open ones
+	accepted   atomic.Int64
+	head       atomic.Uint64 // where the log ended when etcd was last asked
+	headTime   atomic.Int64  // when that was, in seconds
+}
+
+// New returns a gateway of a log.
+func New(log etcd.Log, options Options) *Gateway {
+	return &Gateway{
+		log: log, options: options, run: wire.NewID(), board: newBoard(),
+		booth:   sums.NewBooth(log, options.Program, options.Name),
+		flights: flights{byName: map[string]*flight{}},
+		changes: make(chan *change, 4096), fresh: make(chan chan uint64, 4096),
+	}
+}
+
+func (g *Gateway) heard(head uint64) {
+	g.head.Store(head)
+	g.headTime.Store(time.Now().Unix())
+}
+
+// Open prepares a log for a trust domain. It returns an error if the log is that of another one.
+func Open(ctx context.Context, log etcd.Log, domain string) error {
+	had, err := log.PutNew(ctx, "domain", []byte(domain))
+	if err != nil {
+		return err
+	}
+	if string(had) != domain {
+		return fmt.Errorf("this log is that of the trust domain %s", had)
+	}
+	_, err = log.PutNew(ctx, "head", []byte("0"))
+	return err
+}
+
+// Run follows the log until the context ends or the gateway has to stop. Its error says why.
+func (g *Gateway) Run(ctx context.Context) error {
+	ctx, stop := context.WithCancel(ctx)
+	defer stop()
+	parts := []func(context.Context) error{g.follow, g.appendChanges, g.answerFresh, g.booth.Run}
+	ended := make(chan error, len(parts))
+	for _, part := range parts {
+		go func(part func(context.Context) error) { ended <- part(ctx) }(part)
+	}
+	err := <-ended
+	stop()
+	for range parts[1:] {
+		<-ended
+	}
+	return err
+}
+
+// Ready waits until queries can be answered.
+func (g *Gateway) Ready(ctx context.Context) error {
+	g.board.wait(ctx, 0, 0)
+	return ctx.Err()
+}
+
+// Serve accepts callers until the context ends. Queries of fresh ones see every change that was answered to anybody before.
+func (g *Gateway) Serve(ctx context.Context, on net.Listener, isFresh bool) error {
+	go func() {
+		<-ctx.Done()
+		on.Close()
+	}()
+	for {
+		conn, err := on.Accept()
+		if ctx.Err() != nil {
+			return ctx.Err()
+		}
+		if errors.Is(err, net.ErrClosed) {
+			return err
+		}
+		if err != nil { // such as: no free descriptor
+			logline.Error("accept failed", "error", err)
+			time.Sleep(10 * time.Millisecond)
+			continue
+		}
+		go g.receive(ctx, conn, isFresh)
+	}
+}
+
+// receive serves one connection.
+func (g *Gateway) receive(ctx context.Context, conn net.Conn, isFresh bool) {
+	g.sessions.Add(1)
+	defer g.sessions.Add(-1)
+	caller := policy.Caller{IsOperator: true}
+	if g.options.TLS != nil {
+		secure := tls.Server(conn, g.options.TLS)
+		conn.SetDeadline(time.Now().Add(handshakeTime))
+		err := secure.HandshakeContext(ctx)
+		if err == nil {
+			caller, err = policy.CallerOf(secure.ConnectionState(), g.options.Operators)
+		}
+		if err != nil {
+			conn.Close()
+			return
+		}
+		conn.SetDeadline(time.Time{})
+		conn = secure
+	}
+	s := &session{
+		Gateway: g, conn: conn, in: bufio.NewReaderSize(conn, readBuffer), caller: caller, isFresh: isFresh,
+		number: int(g.accepted.Add(1)),
+	}
+	s.serve(ctx)
+}
+
+// ServeHTTP answers with the status of the gateway as JSON: with 200 if it answers queries, otherwise with 503.
+func (g *Gateway) ServeHTTP(w http.ResponseWriter, _ *http.Request) {
+	r, state := g.board.read()
+	status := map[string]any{
+		"name": g.options.Name, "program": g.options.Program, "ready": r != nil, "disputed": g.booth.IsDisputed(),
+		"entry": state.Entry, "place": state.Place, "sum": fmt.Sprintf("%x", state.Sum),
+		"head": g.head.Load(), "silent": time.Now().Unix() - g.headTime.Load(), "sessions": g.sessions.Load(),
+	}
+	w.Header().Set("Content-Type", "application/json")
+	if r == nil {
+		w.WriteHeader(http.StatusServiceUnavailable)
+	} else {
+		status["regd"], status["tokens"] = r.Pid(), len(r.Tokens())
+	}
+	json.NewEncoder(w).Encode(status)
+}

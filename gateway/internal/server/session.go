@@ -1,0 +1,223 @@
+package server
+
+import (
+	"bufio"
+	"bytes"
+	"context"
+	"io"
+	"net"
+	"sync/atomic"
+	"time"
+
+	"regd/gateway/internal/policy"
+	"regd/gateway/internal/wire"
+)
+
+const (
+	mostRow     = 256              // lines of a connection that are under way
+	waitTime    = 20 * time.Second // for an answer; then the connection ends
+	afterTime   = 2 * time.Second  // that a query waits for the commit number of its caller
+	writeTime   = 60 * time.Second // for a caller that doesn't read
+	flushSize   = 1 << 15
+	readBuffer  = 1 << 13
+	retryTime   = time.Millisecond
+	restartTime = 20 * time.Millisecond
+)
+
+// A session is a connection of a caller. One goroutine reads lines, sends each on its way, and writes the answers in the order of the lines.
+//
+// Queries that follow one another are under way together, and so are changes, but never a query with a change. So each line is answered by a
+// book that has what the lines before it made, and nothing of those after it.
+type session struct {
+	*Gateway
+	conn    net.Conn
+	in      *bufio.Reader
+	out     []byte
+	caller  policy.Caller
+	isFresh bool
+	number  int // of the connection, which chooses a worker of regd
+
+	row          []waiting // lines whose answer is not yet written
+	isChanging   bool      // the lines of the row are changes
+	lines, calls int
+	place        uint64 // the newest commit number that the caller was told
+	left         atomic.Bool
+}
+
+// waiting is a line without its answer.
+type waiting struct {
+	number int
+	query  []byte // nil for a change or a refusal
+	reply  chan []byte
+}
+
+// serve serves a connection to its end.
+func (s *session) serve(ctx context.Context) {
+	defer s.conn.Close()
+	defer s.left.Store(true)
+	for {
+		if len(s.row) >= mostRow && !s.answer(ctx, mostRow/2) || !s.hasLine() && !s.answer(ctx, 0) {
+			return
+		}
+		line, code, err := wire.ReadLine(s.in)
+		if err != nil {
+			if err == io.EOF {
+				s.answer(ctx, 0)
+			}
+			return
+		}
+		s.lines++
+		if code == "" {
+			line, code = policy.Admit(s.caller, line)
+		}
+		if code != "" {
+			refused := waiting{number: s.lines, reply: make(chan []byte, 1)}
+			refused.reply <- wire.Refusal(code)
+			s.row = append(s.row, refused)
+			continue
+		}
+		isChange := wire.MayChange(line)
+		if (isChange != s.isChanging || s.isFresh) && !s.answer(ctx, 0) {
+			return
+		}
+		if s.isChanging = isChange; isChange {
+			s.change(ctx, line)
+		} else if !s.query(ctx, line) {
+			return
+		}
+	}
+}
+
+// hasLine returns true if the next line has arrived.
+func (s *session) hasLine() bool {
+	arrived, _ := s.in.Peek(s.in.Buffered())
+	return bytes.IndexByte(arrived, '\n') >= 0
+}
+
+// change sends a line to the log.
+func (s *session) change(ctx context.Context, line []byte) {
+	if b, ok := wire.ReadBatch(line); ok {
+		line = b.WithIDs(wire.NewID)
+	}
+	c := &change{line: line, reply: make(chan []byte, 1), left: &s.left}
+	s.row = append(s.row, waiting{number: s.lines, reply: c.reply})
+	select {
+	case s.changes <- c:
+	case <-ctx.Done():
+	}
+}
+
+// query sends a line to the replica. It returns false if the session ends.
+func (s *session) query(ctx context.Context, line []byte) bool {
+	if s.isFresh {
+		late, stop := context.WithTimeout(ctx, waitTime)
+		defer stop()
+		head, ok := s.freshHead(late)
+		if !ok || s.board.wait(late, head, 0) == nil {
+			return false
+		}
+	}
+	if _, state := s.board.read(); wire.After(line) > state.Place {
+		if !s.answer(ctx, 0) {
+			return false
+		}
+		late, stop := context.WithTimeout(ctx, afterTime)
+		s.board.wait(late, 0, wire.After(line)) // too early, and regd says W1
+		stop()
+	}
+	w := waiting{number: s.lines, query: line, reply: make(chan []byte, 1)}
+	s.row = append(s.row, w)
+	s.ask(w)
+	return true
+}
+
+// ask sends a query to the replica, for a book that is no older than what the caller was told. The reply is nil if there is no replica.
+func (s *session) ask(w waiting) {
+	r, _ := s.board.read()
+	if r == nil {
+		w.reply <- nil
+		return
+	}
+	r.Query(s.number, wire.WithAfter(w.query, s.place), func(reply []byte) { w.reply <- reply })
+}
+
+// answer writes answers, in order, until at most the given number of lines waits, and flushes them. It returns false if the connection is of
+// no more use. Where an answer doesn't come, whether the change was made is open: a line with a token may be sent again.
+func (s *session) answer(ctx context.Context, most int) bool {
+	for len(s.row) > most {
+		w := s.row[0]
+		s.row = s.row[1:]
+		reply := s.await(ctx, w)
+		if reply == nil {
+			s.flush()
+			return false
+		}
+		if place := wire.Place(reply); place > s.place {
+			s.place = place
+		}
+		if !wire.IsRefusal(reply) {
+			s.calls++
+		}
+		if s.out = wire.AppendReply(s.out, reply, s.calls, w.number); len(s.out) > flushSize && !s.flush() {
+			return false
+		}
+	}
+	return s.flush()
+}
+
+// await returns the answer to a line, or nil. It asks a query again if regd ended, and if the reply is older than what the caller was told.
+func (s *session) await(ctx context.Context, w waiting) []byte {
+	late := time.NewTimer(waitTime)
+	defer late.Stop()
+	for {
+		var reply []byte
+		select {
+		case reply = <-w.reply:
+		default:
+			if !s.flush() {
+				return nil
+			}
+			select {
+			case reply = <-w.reply:
+			case <-late.C:
+				return nil
+			case <-ctx.Done():
+				return nil
+			}
+		}
+		if w.query == nil || reply != nil && !s.isOld(reply) {
+			return reply
+		}
+		pause := retryTime
+		if reply == nil {
+			pause = restartTime
+		}
+		select {
+		case <-time.After(pause):
+		case <-late.C:
+			return nil
+		case <-ctx.Done():
+			return nil
+		}
+		s.ask(w)
+	}
+}
+
+// isOld returns true if the worker that answered a query has not yet seen a commit that the caller was told of, or that the gateway has seen.
+func (s *session) isOld(reply []byte) bool {
+	if wire.HasCode(reply, "W1") {
+		_, state := s.board.read()
+		return wire.Place(reply) < state.Place
+	}
+	return !wire.IsRefusal(reply) && wire.Place(reply) < s.place
+}
+
+func (s *session) flush() bool {
+	if len(s.out) == 0 {
+		return true
+	}
+	s.conn.SetWriteDeadline(time.Now().Add(writeTime))
+	_, err := s.conn.Write(s.out)
+	s.out = s.out[:0]
+	return err == nil
+}

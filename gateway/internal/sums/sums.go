@@ -1,0 +1,173 @@
+// Package sums compares the checksums of the replicas, and finds out which one is wrong.
+//
+// Each gateway votes: it stores the checksum of all replies up to an entry under the name of its program, the entry and its own name. Votes
+// of different programs are not compared, so that an upgrade, which may change replies, stops nobody. A gateway stops if a majority of the
+// votes agrees on another checksum than its own. Two that differ don't decide anything: both go on until a third one votes.
+package sums
+
+import (
+	"context"
+	"errors"
+	"fmt"
+	"sync"
+	"time"
+
+	"regd/gateway/internal/logline"
+)
+
+const (
+	// Interval is how many entries are between two votes.
+	Interval = 1000
+	// marks of which a gateway looks at the votes, and of which it leaves its own
+	watched, left = 4, 64
+	checkTime     = 5 * time.Second
+)
+
+// ErrOutvoted is returned when a majority has another checksum.
+var ErrOutvoted = errors.New("a majority of the gateways has another checksum")
+
+// A Verdict is what the votes on an entry say about one's own.
+type Verdict int
+
+// The verdicts.
+const (
+	Agreed   Verdict = iota // all votes are equal
+	Majority                // a majority agrees with one's own; others are wrong
+	Disputed                // no checksum has a majority
+	Outvoted                // a majority agrees on another checksum
+)
+
+// Judge returns the verdict of votes, which are checksums by the names of the gateways. They include one's own.
+func Judge(own string, votes map[string]string) Verdict {
+	counts := map[string]int{}
+	for _, sum := range votes {
+		counts[sum]++
+	}
+	if counts[own] == len(votes) {
+		return Agreed
+	}
+	for sum, count := range counts {
+		if 2*count > len(votes) {
+			if sum == own {
+				return Majority
+			}
+			return Outvoted
+		}
+	}
+	return Disputed
+}
+
+// A Store is where the votes are.
+type Store interface {
+	Put(ctx context.Context, name string, value []byte) error
+	List(ctx context.Context, name string) (map[string][]byte, error)
+	Delete(ctx context.Context, from, to string) error
+}
+
+// A Mark is the checksum of all replies up to an entry.
+type Mark struct {
+	Entry uint64
+	Sum   string
+}
+
+// A Booth votes for one gateway.
+type Booth struct {
+	store         Store
+	program, name string
+
+	mu         sync.Mutex
+	waiting    []Mark
+	isDisputed bool
+	arrived    chan struct{}
+}
+
+// NewBooth returns a booth for a gateway of this name, which stays the same when it is started again. program names regd and everything else
+// that a reply depends on.
+func NewBooth(store Store, program, name string) *Booth {
+	return &Booth{store: store, program: program, name: name, arrived: make(chan struct{}, 1)}
+}
+
+// Add hands in a checksum without waiting. Of many that wait, only the last ones count.
+func (b *Booth) Add(mark Mark) {
+	b.mu.Lock()
+	defer b.mu.Unlock()
+	if b.waiting = append(b.waiting, mark); len(b.waiting) > left {
+		b.waiting = b.waiting[1:]
+	}
+	select {
+	case b.arrived <- struct{}{}:
+	default:
+	}
+}
+
+// IsDisputed returns true if checksums differ and this gateway is not outvoted.
+func (b *Booth) IsDisputed() bool {
+	b.mu.Lock()
+	defer b.mu.Unlock()
+	return b.isDisputed
+}
+
+// Run votes, and looks at the votes of the others, until it is outvoted or the context ends.
+func (b *Booth) Run(ctx context.Context) error {
+	ticks := time.NewTicker(checkTime)
+	defer ticks.Stop()
+	for last := []Mark{}; ; {
+		select {
+		case <-ctx.Done():
+			return ctx.Err()
+		case <-ticks.C:
+		case <-b.arrived:
+		}
+		b.mu.Lock()
+		marks := b.waiting
+		b.waiting = nil
+		b.mu.Unlock()
+		for _, mark := range marks {
+			if err := b.vote(ctx, mark); err != nil {
+				return err
+			}
+		}
+		if last = append(last, marks...); len(last) > watched {
+			last = last[len(last)-watched:]
+		}
+		if err := b.count(ctx, last); err != nil {
+			return err
+		}
+	}
+}
+
+func (b *Booth) key(entry uint64) string { return fmt.Sprintf("sum/%s/%016x/", b.program, entry) }
+
+func (b *Booth) vote(ctx context.Context, mark Mark) error {
+	if err := b.store.Put(ctx, b.key(mark.Entry)+b.name, []byte(mark.Sum)); err != nil || mark.Entry <= left*Interval {
+		return err
+	}
+	old := b.key(mark.Entry-left*Interval) + b.name
+	return b.store.Delete(ctx, old, old+"\x00")
+}
+
+func (b *Booth) count(ctx context.Context, marks []Mark) error {
+	isDisputed := false
+	for _, mark := range marks {
+		values, err := b.store.List(ctx, b.key(mark.Entry))
+		if err != nil {
+			return err
+		}
+		votes := map[string]string{b.name: mark.Sum}
+		for name, sum := range values {
+			votes[name] = string(sum)
+		}
+		switch votes[b.name] = mark.Sum; Judge(mark.Sum, votes) {
+		case Outvoted:
+			logline.Error("outvoted", "entry", mark.Entry, "sum", mark.Sum, "votes", votes)
+			return ErrOutvoted
+		case Majority, Disputed:
+			logline.Error("checksums differ", "entry", mark.Entry, "sum", mark.Sum, "votes", votes)
+			isDisputed = true
+		}
+	}
+	b.mu.Lock()
+	defer b.mu.Unlock()
+	b.isDisputed = isDisputed
+	return nil
+}

@@ -1,0 +1,1 @@
+"""Modules of gateway/audit, gateway/demo and gateway/test."""

@@ -1,0 +1,325 @@
+// Command load plays many callers of gateways, or of regd, for tests and measurements.
+//
+// Each caller sends one line at a time, or -depth lines together, and waits for the answers. When its connection is lost it connects to the next
+// address, and sends a line with a token again. At the end load prints the rates, the waiting times and what the callers saw as one JSON object.
+package main
+
+import (
+	"bufio"
+	"bytes"
+	"crypto/tls"
+	"crypto/x509"
+	"encoding/json"
+	"flag"
+	"fmt"
+	"math/rand"
+	"net"
+	"os"
+	"sort"
+	"strings"
+	"sync"
+	"sync/atomic"
+	"time"
+)
+
+var (
+	addresses   = flag.String("addresses", "", "where callers connect, separated by commas")
+	connections = flag.Int("connections", 1, "how many callers")
+	seconds     = flag.Float64("seconds", 2, "how long they send")
+	changes     = flag.Float64("changes", 0, "how many of 100 lines are changes")
+	entries     = flag.Int("entries", 100, "how many entries the lines are about")
+	populate    = flag.Bool("populate", false, "first create the entries")
+	tokens      = flag.Bool("tokens", false, "give each change a token")
+	depth       = flag.Int("depth", 1, "how many queries are sent together")
+	think       = flag.Duration("think", 0, "the pause before each line")
+	record      = flag.String("record", "", "a file for each answered change, and with -history for the times of all lines")
+	history     = flag.Bool("history", false, "also record queries")
+	resend      = flag.String("resend", "", "in place of random lines, send each change of this record again")
+	certificate = flag.String("certificate", "", "TLS: the certificate")
+	key         = flag.String("key", "", "TLS: its key")
+	authorities = flag.String("authorities", "", "TLS: the authorities of the servers")
+)
+
+// An event is a line of the record.
+type event struct {
+	Line  string `json:"line,omitempty"` // of a change
+	Reply string `json:"reply,omitempty"`
+	From  int64  `json:"from"` // nanoseconds
+	To    int64  `json:"to"`
+	Place uint64 `json:"place"`
+	Read  bool   `json:"read,omitempty"`
+}
+
+// What the callers saw.
+type seen struct {
+	reads, writes []float64 // seconds
+	lost          int       // connections
+	resent        int       // lines
+	repeated      int       // answers
+	refused       int       // changes
+	back          int       // places that went back on a connection
+	longest       float64
+}
+
+func main() {
+	flag.Parse()
+	list := strings.Split(*addresses, ",")
+	if *populate {
+		create(list)
+	}
+	var out *bufio.Writer
+	if *record != "" {
+		file, err := os.Create(*record)
+		check(err)
+		out = bufio.NewWriter(file)
+		defer out.Flush()
+	}
+	var mu sync.Mutex
+	note := func(e event) {
+		if out != nil && (!e.Read || *history) {
+			text, _ := json.Marshal(e)
+			mu.Lock()
+			out.Write(append(text, '\n'))
+			mu.Unlock()
+		}
+	}
+	var next func() (string, bool)
+	if *resend != "" {
+		next = recorded(*resend)
+	}
+	all := make([]seen, *connections)
+	var group sync.WaitGroup
+	start := time.Now()
+	for j := range all {
+		group.Add(1)
+		go func(j int) {
+			defer group.Done()
+			c := caller{addresses: list, at: j, number: j, random: rand.New(rand.NewSource(start.UnixNano() + int64(j))), note: note, seen: &all[j]}
+			c.run(start.Add(time.Duration(*seconds*1e9)), next)
+		}(j)
+	}
+	group.Wait()
+	report(all, time.Since(start).Seconds())
+}
+
+func check(err error) {
+	if err != nil {
+		fmt.Fprintln(os.Stderr, "load:", err)
+		os.Exit(1)
+	}
+}
+
+// recorded returns a function that returns the recorded changes with a token, one after another.
+func recorded(name string) func() (string, bool) {
+	text, err := os.ReadFile(name)
+	check(err)
+	lines := bytes.Split(bytes.TrimSpace(text), []byte("\n"))
+	var at atomic.Int64
+	return func() (string, bool) {
+		for {
+			i := int(at.Add(1)) - 1
+			if i >= len(lines) {
+				return "", false
+			}
+			var e event
+			check(json.Unmarshal(lines[i], &e))
+			if strings.Contains(e.Line, `"token"`) {
+				return e.Line, true
+			}
+		}
+	}
+}
+
+func entryID(k int) string { return fmt.Sprintf("11111111-0000-4000-8000-%012x", k) }
+
+func operation(name string, k int, hint string) string {
+	return fmt.Sprintf(`{"op":"%s","id":"%s","parent":"spiffe://ex.org/spire/agent/n%d","identity":"spiffe://ex.org/w%d","selectors":["unix:uid:1000"],"hint":"%s"}`,
+		name, entryID(k), k/10, k, hint)
+}
+
+// create creates the agents and the entries.
+func create(list []string) {
+	c := caller{addresses: list, random: rand.New(rand.NewSource(1)), seen: &seen{}}
+	for k := 0; k < *entries; k += 50 {
+		var ops []string
+		for a := k / 10; a < k/10+5; a++ {
+			ops = append(ops, fmt.Sprintf(`{"op":"set_agent","agent":"spiffe://ex.org/spire/agent/n%d","selectors":["x:%d"]}`, a, a))
+		}
+		for j := k; j < k+50 && j < *entries; j++ {
+			ops = append(ops, operation("create", j, ""))
+		}
+		reply := c.exchange(`{"ops":[`+strings.Join(ops, ",")+"]}", 1, false)
+		if !bytes.Contains(reply, []byte(`"committed"`)) {
+			check(fmt.Errorf("not created: %s", reply))
+		}
+	}
+	c.conn.Close()
+}
+
+type caller struct {
+	addresses  []string
+	at, number int
+	random     *rand.Rand
+	note       func(event)
+	seen       *seen
+	conn       net.Conn
+	in         *bufio.Reader
+	place      uint64
+}
+
+func (c *caller) connect() {
+	for c.conn == nil {
+		conn, err := net.DialTimeout("tcp", c.addresses[c.at%len(c.addresses)], 2*time.Second)
+		if err == nil && *certificate != "" {
+			secure := tls.Client(conn, secured())
+			secure.SetDeadline(time.Now().Add(10 * time.Second))
+			if err = secure.Handshake(); err == nil {
+				conn = secure
+			}
+		}
+		if err == nil {
+			c.conn, c.in, c.place = conn, bufio.NewReaderSize(conn, 1<<14), 0
+			return
+		}
+		c.at++
+		time.Sleep(20 * time.Millisecond)
+	}
+}
+
+var config *tls.Config
+var configOnce sync.Once
+
+func secured() *tls.Config {
+	configOnce.Do(func() {
+		pair, err := tls.LoadX509KeyPair(*certificate, *key)
+		check(err)
+		text, err := os.ReadFile(*authorities)
+		check(err)
+		pool := x509.NewCertPool()
+		pool.AppendCertsFromPEM(text)
+		config = &tls.Config{Certificates: []tls.Certificate{pair}, RootCAs: pool, ServerName: "gateway.ex.org"}
+	})
+	return config
+}
+
+// exchange sends copies of a line and returns the last reply. If the connection is lost it sends them again, or returns nil.
+func (c *caller) exchange(line string, copies int, isAgain bool) []byte {
+	text := []byte(strings.Repeat(line+"\n", copies))
+	for {
+		c.connect()
+		c.conn.SetDeadline(time.Now().Add(30 * time.Second))
+		_, err := c.conn.Write(text)
+		var reply []byte
+		for i := 0; i < copies && err == nil; i++ {
+			reply, err = c.in.ReadBytes('\n')
+		}
+		if err == nil {
+			return bytes.TrimSuffix(reply, []byte("\n"))
+		}
+		c.conn.Close()
+		c.conn = nil
+		c.at++
+		c.seen.lost++
+		time.Sleep(time.Duration(c.random.Intn(50)) * time.Millisecond)
+		if !isAgain {
+			return nil
+		}
+		c.seen.resent++
+	}
+}
+
+func (c *caller) run(stop time.Time, next func() (string, bool)) {
+	defer func() {
+		if c.conn != nil {
+			c.conn.Close()
+		}
+	}()
+	for count := 0; next != nil || time.Now().Before(stop); count++ {
+		time.Sleep(*think)
+		line, isRead, isAgain := c.line(count)
+		if next != nil {
+			var ok bool
+			if line, ok = next(); !ok {
+				return
+			}
+			isRead, isAgain = false, true
+		}
+		copies := 1
+		if isRead {
+			copies = *depth
+		}
+		from := time.Now()
+		reply := c.exchange(line, copies, isAgain)
+		to := time.Now()
+		if took := to.Sub(from).Seconds(); took > c.seen.longest {
+			c.seen.longest = took
+		}
+		if reply != nil {
+			c.take(line, reply, isRead, copies, from, to)
+		}
+	}
+}
+
+// line returns a random line, whether it is a query, and whether it may be sent again.
+func (c *caller) line(count int) (line string, isRead, isAgain bool) {
+	k := c.random.Intn(*entries)
+	if c.random.Float64()*100 >= *changes {
+		return `{"ops":[{"op":"show","id":"` + entryID(k) + `"}]}`, true, true
+	}
+	token := ""
+	if *tokens {
+		token = fmt.Sprintf(`,"token":"%08x-%04x-4000-8000-%04x%08x"`, c.random.Uint32(), c.random.Intn(1<<16), c.number&0xffff, count)
+	}
+	return `{"ops":[` + operation("update", k, fmt.Sprintf("%d.%d", c.number, count)) + "]" + token + "}", false, *tokens
+}
+
+func (c *caller) take(line string, reply []byte, isRead bool, copies int, from, to time.Time) {
+	var answer struct {
+		Place  uint64
+		Result string
+	}
+	json.Unmarshal(reply, &answer)
+	isRepeated := answer.Result == "repeated"
+	if !isRepeated && answer.Place < c.place {
+		c.seen.back++
+	}
+	if !isRepeated {
+		c.place = answer.Place
+	}
+	e := event{From: from.UnixNano(), To: to.UnixNano(), Place: answer.Place, Read: isRead}
+	if isRead {
+		for i := 0; i < copies; i++ {
+			c.seen.reads = append(c.seen.reads, to.Sub(from).Seconds())
+		}
+	} else {
+		c.seen.writes = append(c.seen.writes, to.Sub(from).Seconds())
+		e.Line, e.Reply = line, string(reply)
+		if isRepeated {
+			c.seen.repeated++
+		} else if answer.Result != "committed" {
+			c.seen.refused++
+		}
+	}
+	c.note(e)
+}
+
+// report prints what all callers saw.
+func report(all []seen, took float64) {
+	var t seen
+	for _, s := range all {
+		t.reads, t.writes = append(t.reads, s.reads...), append(t.writes, s.writes...)
+		t.lost, t.resent, t.repeated, t.refused, t.back = t.lost+s.lost, t.resent+s.resent, t.repeated+s.repeated, t.refused+s.refused, t.back+s.back
+		if s.longest > t.longest {
+			t.longest = s.longest
+		}
+	}
+	out := map[string]any{"seconds": took, "lost": t.lost, "resent": t.resent, "repeated": t.repeated, "refused": t.refused, "back": t.back, "longest_s": t.longest}
+	for name, times := range map[string][]float64{"reads": t.reads, "changes": t.writes} {
+		out[name], out[name+"_per_s"] = len(times), float64(len(times))/took
+		if sort.Float64s(times); len(times) > 0 {
+			out[name+"_p50_ms"], out[name+"_p99_ms"] = 1e3*times[len(times)/2], 1e3*times[len(times)*99/100]
+		}
+	}
+	text, _ := json.Marshal(out)
+	fmt.Println(string(text))
+}

@@ -1,0 +1,204 @@
+// Command regd-gateway puts many callers, several machines and a durable log in front of regd. docs/GATEWAY.md describes it.
+package main
+
+import (
+	"context"
+	"crypto/sha256"
+	"crypto/tls"
+	"errors"
+	"flag"
+	"fmt"
+	"net"
+	"net/http"
+	"os"
+	"os/exec"
+	"os/signal"
+	"path/filepath"
+	"strings"
+	"syscall"
+
+	"regd/gateway/internal/etcd"
+	"regd/gateway/internal/logline"
+	"regd/gateway/internal/policy"
+	"regd/gateway/internal/replica"
+	"regd/gateway/internal/server"
+	"regd/gateway/internal/snapshot"
+	"regd/gateway/internal/sums"
+)
+
+// the exit statuses
+const (
+	failed   = 1
+	misused  = 2
+	outvoted = 4
+)
+
+// sumVersion changes with the way in which replies make a checksum.
+const sumVersion = "1"
+
+type settings struct {
+	domain, members, etcdFiles, prefix string
+	program, name                      string
+	workers                            int
+	listen, fresh, status              string
+	files                              policy.Files
+	operators                          string
+	isSnapshot                         bool
+	keep                               uint64
+}
+
+func parse(words []string) (settings, error) {
+	var s settings
+	flags := flag.NewFlagSet("regd-gateway", flag.ContinueOnError)
+	flags.StringVar(&s.domain, "domain", "", "the trust `domain` (required)")
+	flags.StringVar(&s.members, "etcd", "http://127.0.0.1:2379", "the `URLs` of etcd's members, separated by commas")
+	flags.StringVar(&s.etcdFiles, "etcd-files", "", "a `folder` with ca.pem, cert.pem and key.pem, for etcd over https")
+	flags.StringVar(&s.prefix, "prefix", "regd/", "the prefix of all keys in etcd")
+	flags.StringVar(&s.program, "regd", "regd", "the `program` regd")
+	flags.StringVar(&s.name, "name", "", "the `name` of this gateway, which stays the same and is no other gateway's (default: the host and -listen)")
+	flags.IntVar(&s.workers, "workers", 4, "workers of regd, 2 to 32: one for changes, the others for queries")
+	flags.StringVar(&s.listen, "listen", "127.0.0.1:0", "the `address` for callers")
+	flags.StringVar(&s.fresh, "fresh", "", "the `address` for callers whose queries see every change that was answered before")
+	flags.StringVar(&s.status, "status", "", "the `address` of /status over HTTP")
+	flags.StringVar(&s.files.Certificate, "certificate", "", "TLS: the `file` of this gateway's certificate; read at each handshake")
+	flags.StringVar(&s.files.Key, "key", "", "TLS: the `file` of its key")
+	flags.StringVar(&s.files.Authorities, "authorities", "", "TLS: the `file` of the authorities of callers")
+	flags.StringVar(&s.operators, "operators", "", "TLS: the SPIFFE `IDs` of callers that may send every line, separated by commas")
+	flags.BoolVar(&s.isSnapshot, "snapshot", false, "make a snapshot, cut the log behind it, and exit")
+	flags.Uint64Var(&s.keep, "keep", 10000, "with -snapshot: how many entries stay in the log")
+	if err := flags.Parse(words); err != nil {
+		return s, err
+	}
+	if s.name == "" {
+		host, _ := os.Hostname()
+		s.name = host + "/" + s.listen
+	}
+	isTLS := s.files != policy.Files{}
+	switch {
+	case flags.NArg() > 0:
+		return s, fmt.Errorf("an unknown word: %s", flags.Arg(0))
+	case s.domain == "":
+		return s, errors.New("-domain is required")
+	case s.workers < 2 || s.workers > 32:
+		return s, errors.New("-workers is not 2 to 32")
+	case isTLS && (s.files.Certificate == "" || s.files.Key == "" || s.files.Authorities == ""):
+		return s, errors.New("TLS takes -certificate, -key and -authorities")
+	case !isTLS && s.operators != "":
+		return s, errors.New("-operators needs TLS")
+	case !isTLS && !(isLoopback(s.listen) && isLoopback(s.fresh)):
+		return s, errors.New("without TLS the gateway listens on loopback addresses alone")
+	}
+	return s, nil
+}
+
+// isLoopback returns true if nobody on another machine can connect to the address.
+func isLoopback(address string) bool {
+	host, _, err := net.SplitHostPort(address)
+	ip := net.ParseIP(host)
+	return address == "" || err == nil && (host == "localhost" || ip != nil && ip.IsLoopback())
+}
+
+func main() {
+	s, err := parse(os.Args[1:])
+	if errors.Is(err, flag.ErrHelp) {
+		os.Exit(misused)
+	}
+	if err != nil {
+		fmt.Fprintln(os.Stderr, "regd-gateway:", err)
+		os.Exit(misused)
+	}
+	ctx, stop := signal.NotifyContext(context.Background(), syscall.SIGINT, syscall.SIGTERM)
+	defer stop()
+	err = run(ctx, s)
+	switch {
+	case ctx.Err() != nil || err == nil:
+	case errors.Is(err, sums.ErrOutvoted):
+		logline.Error("stopped", "error", err)
+		os.Exit(outvoted)
+	default:
+		logline.Error("stopped", "error", err)
+		os.Exit(failed)
+	}
+}
+
+// run runs the gateway until the context ends or an error stops it.
+func run(ctx context.Context, s settings) error {
+	ctx, stop := context.WithCancel(ctx)
+	defer stop()
+	program, err := exec.LookPath(s.program)
+	if err != nil {
+		return err
+	}
+	text, err := os.ReadFile(program)
+	if err != nil {
+		return err
+	}
+	var etcdTLS, callerTLS *tls.Config
+	if s.etcdFiles != "" {
+		in := func(name string) string { return filepath.Join(s.etcdFiles, name) }
+		if etcdTLS, err = (policy.Files{Certificate: in("cert.pem"), Key: in("key.pem"), Authorities: in("ca.pem")}).Client(); err != nil {
+			return err
+		}
+	}
+	if s.files != (policy.Files{}) {
+		if callerTLS, err = s.files.Server(); err != nil {
+			return err
+		}
+	}
+	log := etcd.Log{Client: etcd.NewClient(strings.Split(s.members, ","), s.prefix, etcdTLS)}
+	if err := server.Open(ctx, log, s.domain); err != nil {
+		return err
+	}
+	options := server.Options{
+		Name:      s.name,
+		Program:   sumVersion + fmt.Sprintf("-%x", sha256.Sum256(text))[:17],
+		Replica:   replica.Options{Program: program, Domain: s.domain, Workers: s.workers},
+		TLS:       callerTLS,
+		Operators: strings.Split(s.operators, ","),
+	}
+	if s.isSnapshot {
+		_, err := snapshot.Make(ctx, log, options.Replica, s.keep)
+		return err
+	}
+	return serve(ctx, server.New(log, options), s)
+}
+
+// serve listens, and prints the address for callers as soon as queries can be answered.
+func serve(ctx context.Context, g *server.Gateway, s settings) error {
+	ended := make(chan error, 4)
+	go func() { ended <- g.Run(ctx) }()
+	listen := func(address string, serve func(net.Listener) error) (net.Listener, error) {
+		if address == "" {
+			return nil, nil
+		}
+		on, err := net.Listen("tcp", address)
+		if err == nil {
+			go func() { ended <- serve(on) }()
+		}
+		return on, err
+	}
+	mux := http.NewServeMux()
+	mux.Handle("/status", g)
+	if _, err := listen(s.status, func(on net.Listener) error { return http.Serve(on, mux) }); err != nil {
+		return err
+	}
+	ready := make(chan error, 1)
+	go func() { ready <- g.Ready(ctx) }()
+	select {
+	case err := <-ended:
+		return err
+	case err := <-ready:
+		if err != nil {
+			return err
+		}
+	}
+	if _, err := listen(s.fresh, func(on net.Listener) error { return g.Serve(ctx, on, true) }); err != nil {
+		return err
+	}
+	on, err := listen(s.listen, func(on net.Listener) error { return g.Serve(ctx, on, false) })
+	if err != nil {
+		return err
+	}
+	fmt.Printf("{\"listening\":\"%s\"}\n", on.Addr())
+	return <-ended
+}
