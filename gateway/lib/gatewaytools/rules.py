@@ -51,7 +51,7 @@ def creates_without_id(batch):
 
 def own_code(line):
     """Returns the code with which the gateway refuses an operator's line, or None."""
-    batch = batch_of(line)
+    batch = batch_of(line) if len(line) <= MOST_BYTES else None
     if batch is None:
         return None
     names = [name_of(op) for op in batch["ops"]]

@@ -1,0 +1,157 @@
+"""Random request lines: valid ones in unusual spellings, lines with tokens that come again, and damaged ones."""
+import json
+
+from gatewaytools import rules
+
+AGENTS = [f"spiffe://ex.org/spire/agent/n{n}" for n in range(4)]
+PARENTS = [*AGENTS, "spiffe://ex.org/spire/server", "spiffe://ex.org/node/a", "spiffe://ex.org/w1"]
+IDENTITIES = [f"spiffe://ex.org/w{n}" for n in range(5)] + ["spiffe://ex.org/node/a"]
+DOMAINS = ["b.org", "c.org", "d.org"]
+SELECTORS = ["u:1", "u:2", "x:1", "unix:uid:1000"]
+IDS = [f"00000000-0000-4000-8000-00000000000{n:x}" for n in range(12)]
+WRONG = [None, 7, -1, 1.5, "", "x", [], {}, True, 1 << 64, "spiffe://other.org/x", ["u"], "\u00e9", "a" * 600]
+
+
+class Lines:
+    """Random lines, each from the random numbers of `random`."""
+
+    def __init__(self, random, damage):
+        self.random, self.damage = random, damage
+        self.tokens = [f"00000000-0000-4000-9000-{n:012x}" for n in range(40)]
+        self.sent = []  # lines with a token
+
+    def line(self):
+        """Returns a line. One in five with a token is an earlier one, spelled differently."""
+        random = self.random
+        if self.sent and random.random() < 0.08:
+            batch = json.loads(random.choice(self.sent))
+            if random.random() < 0.2:
+                batch["after"] = random.randrange(10)
+            elif random.random() < 0.02:
+                batch["after"] = 1 << 40
+        else:
+            batch = self.batch()
+            if "token" in batch:
+                self.sent.append(json.dumps(batch))
+        text = self.spell(batch)
+        return self.damaged(text) if random.random() * 100 < self.damage else text
+
+    def batch(self):
+        random = self.random
+        count = random.choice([1, 1, 1, 1, 2, 3, 6])
+        if random.random() < 0.02:
+            count = random.choice([0, 8, 20, 64, 65])
+        batch = {"ops": [self.op() for _ in range(count)]}
+        if random.random() < 0.15:
+            batch["after"] = random.choice([0, 1, random.randrange(10), None])
+        if random.random() < 0.001:
+            batch["after"] = random.choice([1 << 40, (1 << 64) - 1, 1 << 64])  # a gateway lets such a query wait
+        if random.random() < 0.2:
+            batch["token"] = random.choice(self.tokens)
+        if random.random() < 0.05:
+            batch["tries"] = random.choice([1, 16, 0, 17])
+        if random.random() < 0.01:
+            batch[random.choice(["zz", "Ops", 'a"b'])] = 1
+        return batch
+
+    def op(self):
+        random = self.random
+        name = random.choice(["create", "create", "update", "delete", "set_agent", "set_agent", "drop_agent", "set_bundle", "drop_bundle", "prune",
+                              "show", "show_agent", "show_bundle", "children", "page", "authorised", "trust"])
+        op = {"op": name}
+        if name in ("create", "update"):
+            op |= {"id": random.choice(IDS), "parent": random.choice(PARENTS), "identity": random.choice(IDENTITIES),
+                   "selectors": random.sample(SELECTORS, random.choice([1, 1, 2]))}
+            for key, values in {"hint": ["", "h", "\u00e9\"\\"], "domains": [[], ["b.org"], ["c.org", "b.org"]], "expiry": [0, 5, 1 << 40],
+                                "x509_svid_ttl": [0, 60], "jwt_svid_ttl": [0, 60]}.items():
+                if random.random() < 0.2:
+                    op[key] = random.choice(values)
+        elif name in ("delete", "show"):
+            op["id"] = random.choice(IDS)
+        elif name in ("show_agent", "drop_agent", "authorised", "trust"):
+            op["agent"] = random.choice(AGENTS)
+        elif name == "set_agent":
+            op |= {"agent": random.choice(AGENTS), "selectors": random.sample(SELECTORS, random.randrange(3))}
+        elif name in ("set_bundle", "show_bundle", "drop_bundle"):
+            op["domain"] = random.choice(DOMAINS)
+            if name == "set_bundle":
+                op["text"] = random.choice(["", "{}", "create", "line\n\u2028\t", "x" * 300])
+            if name == "drop_bundle" and random.random() < 0.6:
+                op["mode"] = random.choice(["restrict", "delete", "dissociate", None])
+        elif name == "children":
+            op["parent"] = random.choice(PARENTS)
+        elif name == "prune":
+            op["before"] = random.choice([0, 6, 1 << 41])
+        else:
+            op["size"] = random.choice([1, 2, 500])
+            for key, values in {"from": IDS, "parent": PARENTS, "identity": IDENTITIES, "domain": DOMAINS, "at": range(400)}.items():
+                if random.random() < 0.15:
+                    op[key] = random.choice(values)
+            if random.random() < 0.15:
+                op |= {"selectors": random.sample(SELECTORS, 1), "match": random.choice(["exact", "any", "superset", "subset", None])}
+        if name in ("update", "delete") and random.random() < 0.3:
+            op["revision"] = random.randrange(3)
+        if random.random() < 0.03:
+            op[random.choice([*op, "zz"])] = random.choice(WRONG)
+        if name == "create" and not isinstance(op.get("id"), str):
+            op["id"] = IDS[0]  # regd plain would draw another id than the gateway
+        return op
+
+    def spell(self, batch):
+        """Returns a text of the batch: keys in any order, with spaces, escapes, repeated keys and other forms of UUIDs."""
+        random = self.random
+
+        def member(key, value):
+            return text(key) + random.choice([":", ":", ": ", " :\t"]) + spelled(value, key)
+
+        def text(value):
+            made = json.dumps(value, ensure_ascii=random.random() < 0.5)
+            if len(made) > 2 and random.random() < 0.02:
+                at = random.randrange(1, len(made) - 1)
+                if made[at].isalnum() and "\\" not in made:
+                    made = made[:at] + f"\\u{ord(made[at]):04x}" + made[at + 1 :]
+            return made
+
+        def spelled(value, key=""):
+            if isinstance(value, dict):
+                pairs = list(value.items())
+                if random.random() < 0.3:
+                    random.shuffle(pairs)
+                members = [member(key, inner) for key, inner in pairs]
+                if pairs and random.random() < 0.02:
+                    key = random.choice(pairs)[0]
+                    members.insert(0, member(key, random.choice(WRONG)))
+                return "{" + random.choice([",", ",", " , "]).join(members) + random.choice(["", "", " "]) + "}"
+            if isinstance(value, list):
+                return "[" + ",".join(spelled(inner) for inner in value) + "]"
+            if isinstance(value, str):
+                if key in ("id", "from", "token") and len(value) == 36 and random.random() < 0.1:
+                    value = random.choice([value.upper(), value.replace("-", ""), "{%s}" % value, f"urn:uuid:{value}", f"URN:UUID:{value}"])
+                return text(value)
+            return json.dumps(value)
+
+        return random.choice(["", "", "", " "]).encode() + spelled(batch).encode("utf-8", "surrogatepass") + random.choice([b"", b"", b"", b" ", b"\r"])
+
+    def damaged(self, text):
+        """Returns the text with bytes changed, dropped or added."""
+        random, made = self.random, bytearray(text)
+        for _ in range(random.choice([1, 1, 2, 5])):
+            at = random.randrange(len(made) + 1)
+            kind = random.randrange(5)
+            if kind == 0 and at < len(made):
+                made[at] = random.choice(b'\\"{}[],:0 xu\x00\xff\xc3e-.')
+            elif kind == 1 and at < len(made):
+                del made[at]
+            elif kind == 2:
+                made[at:at] = random.choice([b"\\", b'"', b"}", b"{", b",", b"1e400", b"\\ud800", b"[" * 130, b"null", b'"op":"prune"', b"\xef\xbb\xbf"])
+            elif kind == 3:
+                del made[at:]
+            else:
+                made[at:at] = made[random.randrange(len(made) + 1) :][:20]
+        return bytes(made).replace(b"\n", b" ")
+
+    def long_line(self):
+        """Returns a line about as long as a line may be."""
+        made = self.spell({"ops": [{"op": "prune", "before": 0}], **({"token": self.random.choice(self.tokens)} if self.random.random() < 0.5 else {})})
+        size = rules.MOST_BYTES + self.random.choice([-70, -65, -64, -63, -40, 0, 1, 100])
+        return made + b" " * (size - len(made))
