@@ -1,0 +1,100 @@
+// Package regdtest has a regd in miniature for unit tests. A test binary calls Main first in TestMain, and names itself as the program.
+//
+// It knows prune, which commits and reports its number, show, after, and token, which it ignores. Some hints in a line make it misbehave: L6
+// reports that memory ran out, KILL ends the process, and SLOW makes it take a tenth of a second.
+package regdtest
+
+import (
+	"bufio"
+	"bytes"
+	"encoding/json"
+	"fmt"
+	"net"
+	"os"
+	"strconv"
+	"sync"
+	"time"
+)
+
+// Main serves as regd and never returns if the arguments say so. Otherwise it returns at once.
+func Main() {
+	if len(os.Args) < 2 || os.Args[1] != "serve" {
+		return
+	}
+	connections, _ := strconv.Atoi(os.Args[len(os.Args)-1])
+	on, err := net.Listen("tcp", "127.0.0.1:0")
+	if err != nil {
+		os.Exit(1)
+	}
+	fmt.Printf("{\"listening\":\"%s\"}\n", on.Addr())
+	var group sync.WaitGroup
+	var b book
+	for i := 0; i < connections; i++ {
+		conn, err := on.Accept()
+		if err != nil {
+			os.Exit(1)
+		}
+		group.Add(1)
+		go func() {
+			defer group.Done()
+			b.serve(conn)
+		}()
+	}
+	group.Wait()
+	os.Exit(0)
+}
+
+type book struct {
+	mu    sync.Mutex
+	place uint64
+}
+
+func (b *book) serve(conn net.Conn) {
+	in := bufio.NewReader(conn)
+	for call, line := 0, 1; ; line++ {
+		text, err := in.ReadBytes('\n')
+		if err != nil {
+			return
+		}
+		reply, isCall := b.reply(text)
+		if isCall {
+			call++
+			fmt.Fprintf(conn, "{\"call\":%d,%s}\n", call, reply)
+		} else {
+			fmt.Fprintf(conn, "{\"code\":\"%s\",\"line\":%d}\n", reply, line)
+		}
+	}
+}
+
+func (b *book) reply(text []byte) (reply string, isCall bool) {
+	var request struct {
+		Ops   []struct{ Op, Hint string }
+		After uint64
+	}
+	if json.Unmarshal(text, &request) != nil {
+		return "L2", false
+	}
+	b.mu.Lock()
+	defer b.mu.Unlock()
+	switch {
+	case bytes.Contains(text, []byte("L6")):
+		return "L6", false
+	case bytes.Contains(text, []byte("KILL")):
+		os.Exit(7)
+	case bytes.Contains(text, []byte("SLOW")):
+		time.Sleep(100 * time.Millisecond)
+	}
+	if request.After > b.place {
+		return fmt.Sprintf(`"code":"W1","place":%d,"result":"refused"`, b.place), true
+	}
+	for _, op := range request.Ops {
+		if op.Op == "delete" {
+			return fmt.Sprintf(`"code":"O3","op":0,"place":%d,"result":"refused"`, b.place), true
+		}
+		if op.Op == "prune" {
+			b.place++
+			return fmt.Sprintf(`"place":%d,"replies":[{"pruned":["%d"]}],"result":"committed"`, b.place, b.place), true
+		}
+	}
+	return fmt.Sprintf(`"place":%d,"replies":[],"result":"answered"`, b.place), true
+}

@@ -1,0 +1,184 @@
+package replica_test
+
+import (
+	"context"
+	"fmt"
+	"os"
+	"strings"
+	"sync"
+	"testing"
+	"time"
+
+	"regd/gateway/internal/replica"
+	"regd/gateway/internal/replica/regdtest"
+	"regd/gateway/internal/wire"
+)
+
+func TestMain(m *testing.M) {
+	regdtest.Main()
+	os.Exit(m.Run())
+}
+
+// start returns a replica over a regd in miniature, and the states that it reports.
+func start(t *testing.T) (*replica.Replica, func() []replica.State) {
+	var mu sync.Mutex
+	var states []replica.State
+	r, err := replica.Start(context.Background(), replica.Options{Program: os.Args[0], Domain: "ex.org", Workers: 3}, func(s replica.State) {
+		mu.Lock()
+		states = append(states, s)
+		mu.Unlock()
+	})
+	if err != nil {
+		t.Fatal(err)
+	}
+	t.Cleanup(r.Close)
+	return r, func() []replica.State {
+		mu.Lock()
+		defer mu.Unlock()
+		return append([]replica.State{}, states...)
+	}
+}
+
+const prune = `{"ops":[{"op":"prune","before":0}]}`
+
+func tokened(number int, before int) string {
+	return fmt.Sprintf(`{"ops":[{"op":"prune","before":%d}],"token":"00000000-0000-0000-0000-%012d"}`, before, number)
+}
+
+// apply executes lines as one entry and returns the tails of the replies.
+func apply(t *testing.T, r *replica.Replica, entry uint64, lines ...string) []string {
+	var all [][]byte
+	for _, line := range lines {
+		all = append(all, []byte(line))
+	}
+	tails := make([]string, len(lines))
+	r.Apply(entry, all, func(number int, reply []byte) { tails[number] = string(wire.Tail(reply)) })
+	r.Settle()
+	return tails
+}
+
+func committed(place int) string {
+	return fmt.Sprintf(`"place":%d,"replies":[{"pruned":["%d"]}],"result":"committed"}`, place, place)
+}
+
+func repeated(place int) string {
+	return strings.Replace(committed(place), `"committed"`, `"repeated"`, 1)
+}
+
+func TestApply(t *testing.T) {
+	r, states := start(t)
+	apply(t, r, 1, prune, prune)
+	apply(t, r, 2, `{"ops":[]}`)
+	got := states()
+	if len(got) != 2 || got[0].Entry != 1 || got[0].Place != 2 || got[1].Entry != 2 || got[1].Place != 2 || got[0].Sum == got[1].Sum {
+		t.Errorf("got %v", got)
+	}
+	other, _ := start(t)
+	apply(t, other, 1, prune)
+	apply(t, other, 2, prune, `{"ops":[]}`)
+	if other.State().Sum != r.State().Sum {
+		t.Error("the same lines in other entries have another checksum")
+	}
+	apply(t, other, 3, `{`)
+	if other.State().Sum == r.State().Sum {
+		t.Error("a refused line makes no difference to the checksum")
+	}
+}
+
+func TestTokens(t *testing.T) {
+	r, _ := start(t)
+	for _, c := range []struct{ name, line, want string }{
+		{"the first", tokened(1, 0), committed(1)},
+		{"again", tokened(1, 0), repeated(1)},
+		{"another batch", tokened(1, 5), `"code":"O9","place":1,"result":"refused"}`},
+		{"too early", strings.Replace(tokened(1, 0), "{", `{"after":2,`, 1), `"code":"W1","place":1,"result":"refused"}`},
+		{"too early and another batch", strings.Replace(tokened(1, 5), "{", `{"after":2,`, 1), `"code":"W1","place":1,"result":"refused"}`},
+		{"another token", tokened(2, 0), committed(2)},
+		{"in time", strings.Replace(tokened(1, 0), "{", `{"after":2,`, 1), repeated(1)},
+		{"a refused batch", strings.Replace(tokened(3, 0), "prune", "delete", 1), `"code":"O3","op":0,"place":2,"result":"refused"}`},
+		{"its token", tokened(3, 0), committed(3)},
+		{"that again", tokened(3, 0), repeated(3)},
+	} {
+		if got := apply(t, r, 1, c.line)[0]; got != c.want {
+			t.Errorf("%s: got %s, want %s", c.name, got, c.want)
+		}
+	}
+	got := apply(t, r, 2, tokened(4, 0), tokened(4, 0), prune, tokened(4, 1))
+	want := []string{committed(4), repeated(4), committed(5), `"code":"O9","place":5,"result":"refused"}`}
+	if strings.Join(got, "\n") != strings.Join(want, "\n") {
+		t.Errorf("in one entry: got %q", got)
+	}
+}
+
+func TestTokensAreRetainedByNumber(t *testing.T) {
+	tokens := replica.NewTokens(2)
+	for _, name := range []string{"a", "b", "c"} {
+		tokens.Commit(tokens.Begin(name, ""), []byte(name))
+	}
+	tokens.Drop(tokens.Begin("d", ""))
+	if tokens.Find("a") != nil || tokens.Find("d") != nil || tokens.Find("b") == nil || string(tokens.Find("c").Reply) != "c" || len(tokens.Retained()) != 2 {
+		t.Errorf("got %v", tokens.Retained())
+	}
+}
+
+func TestRestore(t *testing.T) {
+	r, _ := start(t)
+	apply(t, r, 1, tokened(1, 0), prune, tokened(2, 0))
+	other, _ := start(t)
+	if err := other.Fill([]string{prune, prune, prune}); err != nil {
+		t.Fatal(err)
+	}
+	other.Restore(r.State(), r.Tokens())
+	for _, line := range []string{tokened(1, 0), tokened(2, 0), tokened(2, 9), prune} {
+		if first, second := apply(t, r, 2, line)[0], apply(t, other, 2, line)[0]; first != second {
+			t.Errorf("%s: got %s, want %s", line, second, first)
+		}
+	}
+	if r.State() != other.State() {
+		t.Errorf("got %v, want %v", other.State(), r.State())
+	}
+	if err := other.Fill([]string{prune, `{"ops":[]}`}); err == nil {
+		t.Error("a line of a snapshot that is not committed is no error")
+	}
+}
+
+// TestLeaves checks that no change is answered after one for which regd had no memory.
+func TestLeaves(t *testing.T) {
+	r, states := start(t)
+	got := apply(t, r, 1, prune, `{"ops":[{"op":"prune","hint":"L6"}]}`, prune)
+	if got[0] != committed(1) || got[1] != "" || got[2] != "" || len(states()) != 0 {
+		t.Errorf("got %q, %v", got, states())
+	}
+	select {
+	case <-r.Done():
+	case <-time.After(5 * time.Second):
+		t.Error("the replica goes on")
+	}
+}
+
+func TestEnd(t *testing.T) {
+	r, _ := start(t)
+	got := make(chan []byte, 2)
+	r.Query(0, []byte(`{"ops":[]}`), func(reply []byte) { got <- reply })
+	if reply := <-got; !strings.Contains(string(reply), `"answered"`) {
+		t.Errorf("got %s", reply)
+	}
+	r.Query(1, []byte(`{"ops":[{"op":"show","hint":"KILL"}]}`), func(reply []byte) { got <- reply })
+	if reply := <-got; reply != nil {
+		t.Errorf("got %s", reply)
+	}
+	<-r.Done()
+	r.Query(0, []byte(`{}`), func(reply []byte) { got <- reply })
+	if reply := <-got; reply != nil || r.Apply(1, [][]byte{[]byte(prune)}, func(int, []byte) { t.Error("answered") }) {
+		t.Errorf("got %s", reply)
+	}
+}
+
+func TestStartFails(t *testing.T) {
+	for _, program := range []string{"/nonexistent", "/bin/true"} {
+		if r, err := replica.Start(context.Background(), replica.Options{Program: program, Domain: "ex.org", Workers: 2}, nil); err == nil {
+			r.Close()
+			t.Errorf("%s started", program)
+		}
+	}
+}

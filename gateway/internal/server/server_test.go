@@ -1,0 +1,274 @@
+package server
+
+import (
+	"bufio"
+	"bytes"
+	"context"
+	"encoding/json"
+	"fmt"
+	"net"
+	"net/http/httptest"
+	"os"
+	"strings"
+	"sync/atomic"
+	"testing"
+	"time"
+
+	"regd/gateway/internal/etcd"
+	"regd/gateway/internal/etcd/etcdtest"
+	"regd/gateway/internal/replica"
+	"regd/gateway/internal/replica/regdtest"
+	"regd/gateway/internal/wire"
+)
+
+func TestMain(m *testing.M) {
+	regdtest.Main()
+	os.Exit(m.Run())
+}
+
+const (
+	prune = `{"ops":[{"op":"prune","before":0}]}`
+	show  = `{"ops":[{"op":"show"}]}`
+)
+
+// a site is an etcd in memory and gateways, each with a regd in miniature.
+type site struct {
+	t      *testing.T
+	ctx    context.Context
+	store  *etcdtest.Server
+	log    etcd.Log
+	closed context.CancelFunc
+}
+
+func newSite(t *testing.T) *site {
+	store := etcdtest.New()
+	t.Cleanup(store.CloseClientConnections)
+	ctx, cancel := context.WithTimeout(context.Background(), 50*time.Second)
+	t.Cleanup(cancel)
+	s := &site{t, ctx, store, etcd.Log{Client: etcd.NewClient([]string{store.URL}, "r/", nil)}, cancel}
+	if err := Open(ctx, s.log, "ex.org"); err != nil {
+		t.Fatal(err)
+	}
+	return s
+}
+
+// gateway starts a gateway, and returns it with the addresses of its two ports.
+func (s *site) gateway(name string) (*Gateway, string, string) {
+	g := New(s.log, Options{Name: name, Program: "p", Replica: replica.Options{Program: os.Args[0], Domain: "ex.org", Workers: 3}})
+	ctx, stop := context.WithCancel(s.ctx)
+	ended := make(chan struct{})
+	go func() { g.Run(ctx); close(ended) }()
+	s.t.Cleanup(func() { stop(); <-ended })
+	if err := g.Ready(ctx); err != nil {
+		s.t.Fatal(err)
+	}
+	var addresses []string
+	for _, isFresh := range []bool{false, true} {
+		on, err := net.Listen("tcp", "127.0.0.1:0")
+		if err != nil {
+			s.t.Fatal(err)
+		}
+		go g.Serve(ctx, on, isFresh)
+		addresses = append(addresses, on.Addr().String())
+	}
+	return g, addresses[0], addresses[1]
+}
+
+func (s *site) dial(address string) (net.Conn, *bufio.Reader) {
+	conn, err := net.Dial("tcp", address)
+	if err != nil {
+		s.t.Fatal(err)
+	}
+	conn.SetDeadline(time.Now().Add(40 * time.Second))
+	s.t.Cleanup(func() { conn.Close() })
+	return conn, bufio.NewReader(conn)
+}
+
+// call sends lines on a connection of their own, and returns all answers.
+func (s *site) call(address string, lines ...string) []string {
+	conn, in := s.dial(address)
+	go func() {
+		conn.Write([]byte(strings.Join(lines, "\n") + "\n"))
+		conn.(*net.TCPConn).CloseWrite()
+	}()
+	var answers []string
+	for {
+		answer, err := in.ReadString('\n')
+		if err != nil {
+			return answers
+		}
+		answers = append(answers, strings.TrimSuffix(answer, "\n"))
+	}
+}
+
+func committed(call, place int) string {
+	return fmt.Sprintf(`{"call":%d,"place":%d,"replies":[{"pruned":["%d"]}],"result":"committed"}`, call, place, place)
+}
+
+func answered(call, place int) string {
+	return fmt.Sprintf(`{"call":%d,"place":%d,"replies":[],"result":"answered"}`, call, place)
+}
+
+func (s *site) expect(what string, got []string, want ...string) {
+	s.t.Helper()
+	if strings.Join(got, "\n") != strings.Join(want, "\n") {
+		s.t.Errorf("%s:\n got %s\nwant %s", what, strings.Join(got, "\n     "), strings.Join(want, "\n     "))
+	}
+}
+
+// TestOrder checks that each line is answered by a book with what the lines before it made and nothing else, and the numbers of calls and lines.
+func TestOrder(t *testing.T) {
+	s := newSite(t)
+	_, address, fresh := s.gateway("a")
+	mixed := `{"ops":[{"op":"prune"}` + strings.Repeat(`,{"op":"children"}`, wire.MaxQueries+1) + `]}`
+	lines := []string{show, prune, prune, show, show, mixed, prune, `{`, show}
+	s.expect("the usual port", s.call(address, lines...), answered(1, 0), committed(2, 1), committed(3, 2), answered(4, 2), answered(5, 2),
+		`{"code":"G2","line":6}`, committed(6, 3), `{"code":"L2","line":8}`, answered(7, 3))
+	s.expect("the other port", s.call(fresh, show, prune, show), answered(1, 3), committed(2, 4), answered(3, 4))
+	var many, want []string
+	for i := 0; i < 3*mostRow; i++ {
+		many, want = append(many, prune), append(want, committed(i+1, i+5))
+	}
+	s.expect("many lines", s.call(address, many...), want...)
+}
+
+func TestCutOff(t *testing.T) {
+	s := newSite(t)
+	_, address, _ := s.gateway("a")
+	conn, in := s.dial(address)
+	conn.Write([]byte(prune + "\n" + prune[:9]))
+	first, _ := in.ReadString('\n') // it is answered although half a line follows
+	conn.(*net.TCPConn).CloseWrite()
+	second, _ := in.ReadString('\n')
+	s.expect("half a line", []string{first + second}, committed(1, 1)+"\n"+`{"code":"L3","line":2}`+"\n")
+}
+
+// TestIDs checks that ids are drawn before the append, so that the log has them.
+func TestIDs(t *testing.T) {
+	s := newSite(t)
+	_, address, _ := s.gateway("a")
+	s.call(address, `{"ops":[{"op":"create"},{"op":"prune"}]}`)
+	value, _ := s.log.Get(s.ctx, etcd.EntryKey(1))
+	_, lines := etcd.SplitEntry(value)
+	if len(lines) != 1 || !bytes.HasPrefix(lines[0], []byte(`{"ops":[{"op":"create","id":"`)) || len(lines[0]) != len(`{"ops":[{"op":"create"},{"op":"prune"}]}`)+44 {
+		t.Errorf("the log has %s", value)
+	}
+}
+
+// TestGateways checks that two gateways execute one log, and that a query with the place of the other one waits for it.
+func TestGateways(t *testing.T) {
+	s := newSite(t)
+	_, first, _ := s.gateway("a")
+	_, second, fresh := s.gateway("b")
+	for place := 1; place < 40; place += 2 {
+		s.expect("a change", s.call(first, prune), committed(1, place))
+		s.expect("a fresh query", s.call(fresh, show), answered(1, place))
+		s.expect("a change elsewhere", s.call(second, prune), committed(1, place+1))
+		s.expect("a query with after", s.call(first, fmt.Sprintf(`{"ops":[{"op":"show"}],"after":%d}`, place+1)), answered(1, place+1))
+	}
+	begin := time.Now()
+	s.expect("a query that is too early", s.call(first, `{"ops":[{"op":"show"}],"after":99}`), `{"call":1,"code":"W1","place":40,"result":"refused"}`)
+	if took := time.Since(begin); took < afterTime {
+		t.Errorf("it waited for %v", took)
+	}
+	_, third, _ := s.gateway("c")
+	s.expect("a gateway that comes later", s.call(third, show), answered(1, 40))
+	if err := Open(s.ctx, s.log, "other.org"); err == nil {
+		t.Error("the log of another trust domain was opened")
+	}
+}
+
+// TestLostAppend loses answers of etcd: an entry is made once.
+func TestLostAppend(t *testing.T) {
+	s := newSite(t)
+	_, address, _ := s.gateway("a")
+	for place := 1; place < 6; place++ {
+		s.store.LoseAnswers(place % 3)
+		s.expect("a change", s.call(address, prune), committed(1, place))
+	}
+	if head, _ := s.log.Head(s.ctx); head != 5 {
+		t.Errorf("the log has %d entries", head)
+	}
+}
+
+// TestOpenAppend cuts off an entry whose append is open: nobody can know any more whether it was made, so the connection ends.
+func TestOpenAppend(t *testing.T) {
+	s := newSite(t)
+	g, address, _ := s.gateway("a")
+	s.store.LoseAnswers(1)
+	conn, in := s.dial(address)
+	cut := make(chan struct{})
+	go func() {
+		for {
+			if head, _ := s.log.Head(s.ctx); head == 1 {
+				s.log.Cut(s.ctx, 1, 1)
+				close(cut)
+				return
+			}
+		}
+	}()
+	g.board.update(func() {})
+	conn.Write([]byte(prune + "\n"))
+	<-cut
+	answer, err := in.ReadString('\n')
+	if err == nil && answer != committed(1, 1)+"\n" || err != nil && answer != "" {
+		t.Errorf("got %s, %v", answer, err)
+	}
+	s.expect("the next change", s.call(address, prune), committed(1, 2))
+}
+
+// TestReplicaEnds kills regd, and lets it run out of memory: queries and changes go on with another one.
+func TestReplicaEnds(t *testing.T) {
+	s := newSite(t)
+	g, address, _ := s.gateway("a")
+	conn, in := s.dial(address)
+	for place := 1; place < 4; place++ {
+		fmt.Fprintf(conn, "%s\n%s\n", prune, show)
+		for _, want := range []string{committed(2*place-1, place), answered(2*place, place)} {
+			if got, err := in.ReadString('\n'); got != want+"\n" {
+				t.Fatalf("got %s, %v, want %s", got, err, want)
+			}
+		}
+		r, _ := g.board.read()
+		process, _ := os.FindProcess(r.Pid())
+		process.Kill()
+		if place == 2 {
+			<-r.Done()
+		}
+	}
+}
+
+// TestCallerLeft checks that a change of a caller that has left is not appended, and that others are.
+func TestCallerLeft(t *testing.T) {
+	s := newSite(t)
+	g, address, _ := s.gateway("a")
+	gone, here := &atomic.Bool{}, &atomic.Bool{}
+	gone.Store(true)
+	for _, left := range []*atomic.Bool{gone, here, gone} {
+		g.changes <- &change{line: []byte(prune), reply: make(chan []byte, 1), left: left}
+	}
+	for i := 0; i < 100; i++ {
+		if head, _ := s.log.Head(s.ctx); head > 0 {
+			break
+		}
+		time.Sleep(10 * time.Millisecond)
+	}
+	s.expect("a change", s.call(address, prune), committed(1, 2))
+}
+
+func TestStatus(t *testing.T) {
+	s := newSite(t)
+	g, address, _ := s.gateway("a")
+	s.call(address, prune)
+	answer := httptest.NewRecorder()
+	g.ServeHTTP(answer, nil)
+	var status map[string]any
+	if err := json.Unmarshal(answer.Body.Bytes(), &status); err != nil || answer.Code != 200 || status["place"] != 1.0 || status["ready"] != true {
+		t.Errorf("got %d, %v, %v", answer.Code, status, err)
+	}
+	answer = httptest.NewRecorder()
+	New(s.log, Options{}).ServeHTTP(answer, nil)
+	if answer.Code != 503 {
+		t.Errorf("without a replica: %d", answer.Code)
+	}
+}
