@@ -1,0 +1,117 @@
+"""Tests of the checker itself: planted faults make it fail. They need no program."""
+import unittest
+
+from gatewaytools import auditing, rules
+
+TOKEN = "00000000-0000-4000-8000-00000000000"
+
+
+def change(number, token=True):
+    member = f',"token":"{TOKEN}{number}"' if token else ""
+    return f'{{"ops":[{{"op":"prune","before":{number}}}]{member}}}'.encode()
+
+
+def rest(place, text=""):
+    return b'"place":%d,"replies":[{"pruned":[%s]}],"result":"committed"}' % (place, text.encode())
+
+
+def reply(place, text=""):
+    return b'{"call":7,' + rest(place, text)
+
+
+def log(*numbers, token=True):
+    """Returns a replayed log that commits the changes of these numbers, one after another."""
+    return [auditing.Replayed(place, change(number, token), rest(place)) for place, number in enumerate(numbers, 1)]
+
+
+def kinds(acknowledged, replayed, base=0):
+    return [fault.kind for fault in auditing.faults(acknowledged, replayed, base)]
+
+
+class Faults(unittest.TestCase):
+    def test_nothing_wrong(self):
+        acknowledged = [(change(n), reply(n)) for n in (3, 1, 2)]
+        self.assertEqual(kinds(acknowledged, log(1, 2, 3)), [])
+        self.assertEqual(kinds(acknowledged[:1], log(1, 2, 3)), [])
+
+    def test_lost(self):
+        self.assertEqual(kinds([(change(3), reply(3))], log(1, 2)), ["lost"])
+
+    def test_lost_and_another_in_its_place(self):
+        self.assertEqual(kinds([(change(3), reply(2))], log(1, 2)), ["different"])
+
+    def test_doubled(self):
+        replayed = log(1, 1)
+        self.assertEqual(kinds([(change(1), reply(1))], replayed), ["doubled"])
+
+    def test_doubled_without_token(self):
+        line = change(1, token=False)
+        self.assertEqual(kinds([(line, reply(1)), (line, reply(1))], log(1, token=False)), ["doubled"])
+        self.assertEqual(kinds([(line, reply(1)), (line, reply(2))], log(1, 1, token=False)), [])
+
+    def test_altered_reply(self):
+        self.assertEqual(kinds([(change(1), reply(1, '"x"'))], log(1)), ["different"])
+
+    def test_altered_line(self):
+        self.assertEqual(kinds([(change(1) + b" ", reply(1))], log(1)), ["different"])
+
+    def test_repeated(self):
+        again = reply(1).replace(b"committed", b"repeated")
+        self.assertEqual(kinds([(change(1), reply(1)), (change(1), again)], log(1, 2)), [])
+        self.assertEqual(kinds([(change(2), again)], log(1, 2)), ["different"])
+        self.assertEqual(kinds([(change(1), again)], []), ["lost"])
+
+    def test_refused(self):
+        refused = b'"code":"O3","op":0,"place":1,"result":"refused"}'
+        replayed = [auditing.Replayed(1, change(1), refused)]
+        self.assertEqual(kinds([(change(1), b'{"call":7,' + refused)], replayed), [])
+        self.assertEqual(kinds([(change(1), b'{"call":7,' + refused.replace(b"O3", b"O4"))], replayed), ["different"])
+
+    def test_ids(self):
+        sent = b'{"ops":[{"op":"create","parent":"p"}]}'
+        logged = b'{"ops":[{"op":"create","parent":"p","id":"x"}]}'
+        self.assertTrue(auditing.is_line_of(sent, logged))
+        self.assertFalse(auditing.is_line_of(sent, logged.replace(b'"p"', b'"q"')))
+        self.assertFalse(auditing.is_line_of(sent.replace(b"create", b"update"), logged.replace(b"create", b"update")))
+
+    def test_snapshot(self):
+        self.assertEqual(kinds([(change(9), reply(1))], [], base=1), [])
+
+
+class StaleReads(unittest.TestCase):
+    def test_order(self):
+        write = {"from": 10, "to": 20, "place": 5, "reply": '"committed"}'}
+        for begin, end, place, stale in ((21, 30, 5, 0), (21, 30, 4, 1), (15, 30, 4, 0), (15, 30, 5, 0), (1, 5, 4, 0)):
+            read = {"from": begin, "to": end, "place": place, "read": True}
+            self.assertEqual(auditing.stale_reads([write, read]), stale, read)
+
+    def test_reads_do_not_go_back(self):
+        reads = [{"from": 1, "to": 2, "place": 7, "read": True}, {"from": 3, "to": 4, "place": 6, "read": True}]
+        self.assertEqual(auditing.stale_reads(reads), 1)
+
+    def test_repeated_answers_do_not_count(self):
+        events = [{"from": 1, "to": 2, "place": 7, "reply": 'x"repeated"}'}, {"from": 3, "to": 4, "place": 6, "read": True}]
+        self.assertEqual(auditing.stale_reads(events), 0)
+
+
+class Rules(unittest.TestCase):
+    def test_own_code(self):
+        query, prune = b'{"op":"show"}', b'{"op":"prune"}'
+        for line, code in (
+            (b'{"ops":[' + b",".join([query] * 5 + [prune]) + b"]}", "G2"),
+            (b'{"ops":[' + b",".join([query] * 4 + [prune]) + b"]}", None),
+            (b'{"ops":[' + b",".join([query] * 9) + b"]}", None),
+            (b'{"ops":[{"op":"create"}]}' + b" " * (rules.MOST_BYTES - 60), "G3"),
+            (b'{"ops":[{"op":"create"}]}' + b" " * rules.MOST_BYTES, None),
+            (b'{"ops":[', None),
+        ):
+            self.assertEqual(rules.own_code(line), code, line[:80])
+
+    def test_token(self):
+        for text, digits in (("URN:UUID:" + TOKEN + "9", TOKEN + "9"), ("{" + TOKEN + "9}", TOKEN + "9"), ("9", None), ("{" + "0" * 32 + "}", None)):
+            line = b'{"ops":[{"op":"prune"}],"token":"%s"}' % text.encode()
+            self.assertEqual(rules.token_of(line), digits and digits.replace("-", ""))
+
+
+if __name__ == "__main__":
+    unittest.main()

@@ -1,0 +1,263 @@
+"""Scenarios that need a site of their own: a replica short of memory, a full etcd, a wrong replica, certificates."""
+import json
+import os
+import pathlib
+import shutil
+import socket
+import ssl
+import subprocess
+import sys
+import time
+
+from gatewaytools import cluster, faults
+
+AGENT = "spiffe://ex.org/spire/agent/n1"
+OTHER = "spiffe://ex.org/spire/agent/n2"
+
+
+class Wrong(Exception):
+    """What a scenario shows is not what is expected."""
+
+
+def expect(got, wanted, what):
+    if got != wanted:
+        raise Wrong(f"{what}: got {got!r}, expected {wanted!r}")
+
+
+def script(path, text):
+    """Writes an executable script."""
+    path.parent.mkdir(parents=True, exist_ok=True)
+    new = path.with_suffix(".new")
+    new.write_text(text)
+    new.chmod(0o755)
+    new.rename(path)
+
+
+# ---- a replica short of memory
+
+
+def memory(programs, folder):
+    """One of three replicas has too little memory: it ends whenever its regd answers L6, and with enough memory it is equal to the others."""
+    folder = pathlib.Path(folder)
+    short = folder / "short"
+    script(short, f"#!/bin/sh\nulimit -d 61440\nexec {programs.regd} \"$@\"\n")
+    with faults.Site(programs, folder, regds={2: str(short)}) as site:
+        text = "x" * 60000
+        for number in range(400):
+            line = json.dumps({"ops": [{"op": "set_bundle", "domain": f"b{number}.org", "text": text}]}).encode()
+            [answer] = site.gateways[0].call(line)
+            if not answer.endswith(b'"committed"}'):
+                raise Wrong(f"a change was not committed: {answer[:200]}")
+            if b"left the log" in site.gateways[2].log.read_bytes():
+                break
+        left = site.gateways[2].log.read_text().count("left the log")
+        if not left:
+            raise Wrong("regd never ran out of memory")
+        script(short, f"#!/bin/sh\nexec {programs.regd} \"$@\"\n")
+        statuses = cluster.settle(site.gateways, 120)
+        expect(len({status["sum"] for status in statuses}), 1, "checksums")
+        return f"out of memory {left} times after {number + 1} changes, then equal"
+
+
+# ---- a full etcd
+
+
+def full_etcd(programs, folder):
+    """etcd has no space left: changes wait and queries are answered. With more space all waiting changes go on."""
+    with faults.Site(programs, folder, ["--quota-backend-bytes", str(16 << 20)]) as site:
+        gateway = site.gateways[0]
+        subprocess.run([programs.load, "-addresses", f"127.0.0.1:{gateway.port}", "-populate", "-seconds", "0"], check=True, stdout=subprocess.DEVNULL)
+        load = site.load(45, "-changes", "100", "-think", "1ms", callers=200)
+
+        def is_full():
+            return site.etcd.store().call("/v3/maintenance/alarm", {"action": "GET"}).get("alarms")
+
+        cluster.wait_for(is_full, 40, "an etcd without space")
+        time.sleep(1)
+        before = gateway.status()["place"]
+        answers = gateway.call(*[cluster.page()] * 20, seconds=10)
+        expect(all(b'"answered"' in answer for answer in answers), True, "queries meanwhile")
+        time.sleep(1)
+        expect(gateway.status()["place"], before, "the commit number meanwhile")
+        site.etcd.words = ["--quota-backend-bytes", str(512 << 20)]
+        for number in range(faults.MEMBERS):
+            site.etcd.kill(number)
+            site.etcd.start(number)
+            site.etcd.wait(number)
+        for alarm in is_full() or []:
+            site.etcd.store().call("/v3/maintenance/alarm", {"action": "DEACTIVATE", **alarm})
+        load.communicate(timeout=300)
+        found, acknowledged = faults.checked(site)
+        expect(found, [], "faults")
+        if gateway.status()["place"] <= before:
+            raise Wrong("no change was made after etcd had space")
+        return f"{len(acknowledged)} changes acknowledged, {before} before etcd was full"
+
+
+# ---- a wrong replica
+
+LIAR = '''#!{python}
+"""Starts regd, and alters the replies on its first connection."""
+import json, socket, subprocess, sys, threading
+
+real = subprocess.Popen(["{regd}", *sys.argv[1:]], stdout=subprocess.PIPE)
+host, port = json.loads(real.stdout.readline())["listening"].rsplit(":", 1)
+listener = socket.create_server(("127.0.0.1", 0))
+print(json.dumps({{"listening": "127.0.0.1:%d" % listener.getsockname()[1]}}), flush=True)
+
+def copy(source, target, lies):
+    with source.makefile("rb") as lines:
+        for line in lines:
+            target.sendall(line.replace(b'"revision":', b'"revision":1') if lies else line)
+    target.shutdown(socket.SHUT_WR)
+
+threads = []
+for number in range(int(sys.argv[-1])):
+    outer, _ = listener.accept()
+    inner = socket.create_connection((host, int(port)))
+    threads += [threading.Thread(target=copy, args=args) for args in ((outer, inner, False), (inner, outer, number == 0))]
+    for thread in threads[-2:]:
+        thread.start()
+for thread in threads:
+    thread.join()
+real.kill()
+'''
+
+
+def wrong_replica(programs, folder):
+    """One of three replicas answers wrongly under the right program's checksum: it stops with status 4, and the others go on."""
+    folder = pathlib.Path(folder)
+    copied = folder / "regd"
+    folder.mkdir(parents=True, exist_ok=True)
+    shutil.copy(programs.regd, copied)
+    with faults.Site(programs, folder, regds={2: str(copied)}) as site:
+        addresses = f"127.0.0.1:{site.gateways[0].port}"
+        words = [programs.load, "-addresses", addresses, "-changes", "100"]
+        subprocess.run([*words, "-populate", "-seconds", "0"], check=True, stdout=subprocess.DEVNULL)
+        script(copied, LIAR.format(python=sys.executable, regd=programs.regd))
+        site.gateways[2].kill_regd()
+        load = subprocess.Popen([*words, "-connections", "2", "-seconds", "60"], stdout=subprocess.PIPE)
+        try:
+            status = site.gateways[2].process.wait(60)
+        finally:
+            load.kill()
+            load.communicate()
+        expect(status, 4, "the exit status of the wrong gateway")
+        time.sleep(6)
+        expect([gateway.process.poll() for gateway in site.gateways[:2]], [None, None], "the exit statuses of the others")
+        before = site.gateways[0].status()
+        site.gateways[0].call(b'{"ops":[{"op":"prune","before":0}]}')
+        expect(site.gateways[1].call(cluster.page(), fresh=True)[0].split(b",")[1], b'"place":%d' % (before["place"] + 1), "a change afterwards")
+        return f"stopped at entry {before['entry']}, the others go on"
+
+
+# ---- certificates
+
+
+def _openssl(folder, *words):
+    subprocess.run(["openssl", *words], cwd=folder, check=True, capture_output=True)
+
+
+def certificates(folder, authority="ca"):
+    """Makes an authority in a folder. Returns a function that makes a certificate with a subject alternative name."""
+    folder = pathlib.Path(folder)
+    folder.mkdir(parents=True, exist_ok=True)
+    key = ["-newkey", "ec", "-pkeyopt", "ec_paramgen_curve:P-256", "-nodes"]
+    _openssl(folder, "req", "-x509", *key, "-keyout", f"{authority}.key", "-out", f"{authority}.pem", "-subj", f"/CN={authority}", "-days", "2")
+
+    def make(name, alternative):
+        (folder / "extensions").write_text(f"{f'subjectAltName={alternative}' if alternative else ''}\nextendedKeyUsage=clientAuth,serverAuth\n")
+        _openssl(folder, "req", "-new", *key, "-keyout", f"{name}.key", "-out", f"{name}.csr", "-subj", f"/CN={name}")
+        _openssl(folder, "x509", "-req", "-in", f"{name}.csr", "-CA", f"{authority}.pem", "-CAkey", f"{authority}.key", "-CAcreateserial",
+                 "-out", f"{name}.pem", "-days", "2", "-extfile", "extensions")
+
+    return make
+
+
+def talk(folder, port, who, *lines, version=None):
+    """Sends lines with a certificate. Returns the answers, or one text if there is no connection."""
+    context = ssl.create_default_context(cafile=f"{folder}/ca.pem")
+    if version:
+        context.maximum_version = version
+    if who:
+        context.load_cert_chain(f"{folder}/{who}.pem", f"{folder}/{who}.key")
+    try:
+        with socket.create_connection(("127.0.0.1", port), 10) as plain, context.wrap_socket(plain, server_hostname="gateway.ex.org") as connection:
+            connection.sendall(b"".join(line.encode() + b"\n" for line in lines))
+            with connection.makefile("rb") as stream:
+                answers = [stream.readline().decode().rstrip("\n") for _ in lines]
+    except OSError:
+        return "no connection"
+    return answers if all(answers) else "no connection"
+
+
+def identity(programs, folder):
+    """Callers with certificates: an operator, an agent, a caller without a name, one of another authority, one without a certificate."""
+    keys = pathlib.Path(folder) / "keys"
+    make = certificates(keys)
+    make("gateway", "DNS:gateway.ex.org")
+    for name, alternative in (("operator", "URI:spiffe://ex.org/operator"), ("agent", f"URI:{AGENT}"), ("nobody", "DNS:nobody.ex.org"),
+                              ("two", f"URI:{AGENT},URI:{OTHER}")):
+        make(name, alternative)
+    certificates(keys, "other")("forged", "URI:spiffe://ex.org/operator")
+    words = ["-certificate", f"{keys}/gateway.pem", "-key", f"{keys}/gateway.key", "-authorities", f"{keys}/ca.pem",
+             "-operators", "spiffe://ex.org/operator,spiffe://ex.org/ci"]
+
+    def query(op, agent):
+        return json.dumps({"ops": [{"op": op, "agent": agent}]})
+
+    change = json.dumps({"ops": [{"op": "set_agent", "agent": AGENT, "selectors": ["x:1"]}]})
+    with cluster.Etcd(pathlib.Path(folder) / "etcd", 1) as etcd, cluster.Gateway(programs.gateway, programs.regd, etcd, folder, 0, words) as gateway:
+        def codes(who, *lines, **more):
+            answers = talk(keys, gateway.port, who, *lines, **more)
+            return answers if isinstance(answers, str) else [json.loads(answer).get("code") or json.loads(answer)["result"] for answer in answers]
+
+        own = query("authorised", AGENT)
+        expect(codes("operator", change, own, query("show_agent", AGENT)), ["committed", "answered", "answered"], "an operator")
+        expect(codes("agent", own, query("trust", AGENT), query("authorised", OTHER), query("show_agent", AGENT), query("drop_agent", AGENT), change,
+                     own[:-1] + ',"after":9}', "7"), ["answered", "answered", "G1", "G1", "G1", "G1", "W1", "G1"], "an agent")
+        expect(codes("nobody", own), ["G1"], "a certificate without a SPIFFE ID")
+        expect(codes("two", own), ["G1"], "a certificate with two SPIFFE IDs")
+        expect(codes("forged", own), "no connection", "a certificate of another authority")
+        expect(codes(None, own), "no connection", "no certificate")
+        expect(codes("agent", own, version=ssl.TLSVersion.TLSv1_2), "no connection", "TLS 1.2")
+        with socket.create_connection(("127.0.0.1", gateway.port), 20) as connection:
+            connection.sendall(own.encode() + b"\n")
+            with connection.makefile("rb") as stream:
+                expect(b"answered" in stream.read(), False, "plain text")
+        shutil.copy(keys / "two.pem", keys / "agent.pem")
+        shutil.copy(keys / "two.key", keys / "agent.key")
+        expect(codes("agent", own), ["G1"], "the other certificate under the agent's name")
+    secure = pathlib.Path(folder) / "etcd-keys"
+    secure.mkdir(exist_ok=True)
+    make("etcd", "IP:127.0.0.1")
+    for name, target in (("ca.pem", "ca.pem"), ("etcd.pem", "cert.pem"), ("etcd.key", "key.pem")):
+        shutil.copy(keys / name, secure / target)
+    with SecureEtcd(pathlib.Path(folder) / "secure-etcd", keys) as etcd:
+        with cluster.Gateway(programs.gateway, programs.regd, etcd, folder, 1, ["-etcd-files", str(secure)]) as gateway:
+            expect(gateway.call(change.encode())[0].endswith(b'"committed"}'), True, "a change over an etcd with certificates")
+        refused = subprocess.run([programs.gateway, "-domain", "ex.org", "-regd", programs.regd, "-etcd", etcd.urls[0], "-listen", "0.0.0.0:0"],
+                                 capture_output=True)
+        expect(refused.returncode, 2, "the status without TLS on all addresses")
+    return "10 kinds of callers, and an etcd with certificates"
+
+
+class SecureEtcd(cluster.Etcd):
+    """One member that takes clients with certificates alone."""
+
+    def __init__(self, folder, keys):
+        self.files = ["--cert-file", f"{keys}/etcd.pem", "--key-file", f"{keys}/etcd.key", "--client-cert-auth", "--trusted-ca-file", f"{keys}/ca.pem"]
+        super().__init__(folder, 1, self.files)
+
+    @property
+    def urls(self):
+        return [f"https://127.0.0.1:{port}" for port in self.clients]
+
+    def wait(self, number):
+        def listens():
+            with socket.socket() as opened:
+                return opened.connect_ex(("127.0.0.1", self.clients[number])) == 0
+        cluster.wait_for(listens, 30, "etcd")
+
+
+SCENARIOS = {"memory": memory, "full-etcd": full_etcd, "wrong-replica": wrong_replica, "identity": identity}
