@@ -30,6 +30,7 @@ var (
 	entries     = flag.Int("entries", 100, "how many entries the lines are about")
 	populate    = flag.Bool("populate", false, "first create the entries")
 	tokens      = flag.Bool("tokens", false, "give each change a token")
+	hint        = flag.Int("hint", 0, "how many bytes the hint of a change has at least")
 	depth       = flag.Int("depth", 1, "how many queries are sent together")
 	think       = flag.Duration("think", 0, "the pause before each line")
 	record      = flag.String("record", "", "a file for each answered change, and with -history for the times of all lines")
@@ -270,7 +271,11 @@ func (c *caller) line(count int) (line string, isRead, isAgain bool) {
 	if *tokens {
 		token = fmt.Sprintf(`,"token":"%08x-%04x-4000-8000-%04x%08x"`, c.random.Uint32(), c.random.Intn(1<<16), c.number&0xffff, count)
 	}
-	return `{"ops":[` + operation("update", k, fmt.Sprintf("%d.%d", c.number, count)) + "]" + token + "}", false, *tokens
+	text := fmt.Sprintf("%d.%d", c.number, count)
+	if len(text) < *hint {
+		text += strings.Repeat(".", *hint-len(text))
+	}
+	return `{"ops":[` + operation("update", k, text) + "]" + token + "}", false, *tokens
 }
 
 func (c *caller) take(line string, reply []byte, isRead bool, copies int, from, to time.Time) {

@@ -139,7 +139,13 @@ def killed_all(site):
 def snapshots(site):
     """Snapshots and a log that is cut, while gateways are killed."""
     made = []
-    worker = threading.Thread(target=lambda: made.extend(site.snapshot(50) for _ in range(3)))
+
+    def snap():
+        for _ in range(5):
+            made.append(site.snapshot(50))
+            time.sleep(1.5)
+
+    worker = threading.Thread(target=snap)
     worker.start()
     killed_gateways(site)
     worker.join()

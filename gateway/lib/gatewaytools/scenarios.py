@@ -67,7 +67,7 @@ def full_etcd(programs, folder):
     with faults.Site(programs, folder, ["--quota-backend-bytes", str(16 << 20)]) as site:
         gateway = site.gateways[0]
         subprocess.run([programs.load, "-addresses", f"127.0.0.1:{gateway.port}", "-populate", "-seconds", "0"], check=True, stdout=subprocess.DEVNULL)
-        load = site.load(45, "-changes", "100", "-think", "1ms", callers=200)
+        load = site.load(45, "-changes", "100", "-hint", "1000", callers=200)
 
         def is_full():
             return site.etcd.store().call("/v3/maintenance/alarm", {"action": "GET"}).get("alarms")
