@@ -157,8 +157,7 @@ func run(ctx context.Context, s settings) error {
 		Operators: strings.Split(s.operators, ","),
 	}
 	if s.isSnapshot {
-		_, err := snapshot.Make(ctx, log, options.Replica, s.keep)
-		return err
+		return snapshot.Make(ctx, log, options.Replica, s.keep)
 	}
 	return serve(ctx, server.New(log, options), s)
 }

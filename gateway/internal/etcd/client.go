@@ -29,11 +29,8 @@ type Client struct {
 
 // NewClient returns a client for the members, which are URLs. All keys begin with the prefix. config is for members with https.
 func NewClient(members []string, prefix string, config *tls.Config) *Client {
-	return &Client{
-		members: members,
-		prefix:  prefix,
-		http:    http.Client{Transport: &http.Transport{MaxIdleConnsPerHost: 16, TLSClientConfig: config}},
-	}
+	transport := &http.Transport{MaxIdleConnsPerHost: 16, TLSClientConfig: config}
+	return &Client{members: members, prefix: prefix, http: http.Client{Transport: transport}}
 }
 
 type object = map[string]any
@@ -58,9 +55,20 @@ func (c *Client) open(ctx context.Context, path string, request any) (io.ReadClo
 	}
 	for range c.members {
 		failures := c.current.Load()
-		var body io.ReadCloser
-		if body, err = c.post(ctx, c.members[failures%uint64(len(c.members))]+path, text); err == nil {
-			return body, nil
+		var request *http.Request
+		url := c.members[failures%uint64(len(c.members))] + path
+		if request, err = http.NewRequestWithContext(ctx, http.MethodPost, url, bytes.NewReader(text)); err != nil {
+			return nil, err
+		}
+		request.Header.Set("Grpc-Metadata-hasleader", "true") // a member that has lost the others refuses
+		var response *http.Response
+		if response, err = c.http.Do(request); err == nil && response.StatusCode == http.StatusOK {
+			return response.Body, nil
+		}
+		if err == nil {
+			reason, _ := io.ReadAll(io.LimitReader(response.Body, 300))
+			response.Body.Close()
+			err = fmt.Errorf("etcd: %s %s", response.Status, bytes.TrimSpace(reason))
 		}
 		c.current.CompareAndSwap(failures, failures+1)
 		if ctx.Err() != nil {
@@ -68,24 +76,6 @@ func (c *Client) open(ctx context.Context, path string, request any) (io.ReadClo
 		}
 	}
 	return nil, err
-}
-
-func (c *Client) post(ctx context.Context, url string, text []byte) (io.ReadCloser, error) {
-	request, err := http.NewRequestWithContext(ctx, http.MethodPost, url, bytes.NewReader(text))
-	if err != nil {
-		return nil, err
-	}
-	request.Header.Set("Grpc-Metadata-hasleader", "true") // a member that has lost the others refuses
-	response, err := c.http.Do(request)
-	if err != nil {
-		return nil, err
-	}
-	if response.StatusCode == http.StatusOK {
-		return response.Body, nil
-	}
-	reason, _ := io.ReadAll(io.LimitReader(response.Body, 300))
-	response.Body.Close()
-	return nil, fmt.Errorf("etcd: %s %s", response.Status, bytes.TrimSpace(reason))
 }
 
 // call makes one request and reads its answer. If it fails, etcd may have executed the request.
@@ -102,20 +92,23 @@ func (c *Client) call(ctx context.Context, most time.Duration, path string, requ
 
 // insist repeats a request until it is answered, so it is for requests that may be executed twice. Its only error is that of the context.
 func (c *Client) insist(ctx context.Context, path string, request, answer any) error {
-	for pause := 20 * time.Millisecond; ; pause += pause / 2 {
+	for pause := 20 * time.Millisecond; ; pause = (pause + time.Second) / 3 {
 		err := c.call(ctx, callTime, path, request, answer)
 		if err == nil || ctx.Err() != nil {
 			return ctx.Err()
 		}
 		logline.Error("etcd doesn't answer", "path", path, "error", err)
-		if pause > time.Second {
-			pause = time.Second
-		}
-		select {
-		case <-time.After(pause):
-		case <-ctx.Done():
-			return ctx.Err()
-		}
+		Pause(ctx, pause)
+	}
+}
+
+// Pause waits for some time, or until the context ends.
+func Pause(ctx context.Context, long time.Duration) {
+	timer := time.NewTimer(long)
+	defer timer.Stop()
+	select {
+	case <-timer.C:
+	case <-ctx.Done():
 	}
 }
 

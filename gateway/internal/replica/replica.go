@@ -8,6 +8,7 @@ package replica
 import (
 	"context"
 	"crypto/sha256"
+	"errors"
 	"fmt"
 	"sync"
 
@@ -17,6 +18,8 @@ import (
 
 // mostOpen is how many changes may be under way in regd while a replica follows the log.
 const mostOpen = 4096
+
+var errEnded = errors.New("regd ended")
 
 // memoryCodes are the answers that do not depend on the lines alone.
 var memoryCodes = []string{"L6", "L7", "L8"}
@@ -205,31 +208,24 @@ func (r *Replica) finish(entry uint64) {
 	r.onEntry(state)
 }
 
-// Ask sends queries to regd and returns the reply, or an error if regd has ended.
+// Ask sends a query to regd and waits for the reply. It returns an error if regd has ended.
 func (r *Replica) Ask(line string) ([]byte, error) {
 	if reply := r.process.links[1].call(line); reply != nil {
 		return reply, nil
 	}
-	return nil, fmt.Errorf("regd ended")
+	return nil, errEnded
 }
 
-// Place asks regd for its commit number.
-func (r *Replica) Place() (uint64, error) {
-	reply, err := r.Ask(firstLine)
-	return wire.Place(reply), err
-}
-
-// Fill executes the lines of a snapshot, each of which has to be committed.
-func (r *Replica) Fill(lines []string) error {
+// Fill executes the lines of a snapshot, each of which has to be committed, and returns the commit number of the last one.
+func (r *Replica) Fill(lines []string) (place uint64, err error) {
 	writer := r.process.links[0]
-	var failed error
 	for _, line := range lines {
 		line := line
 		writer.submit([]byte(line), func(reply []byte) {
-			if !wire.IsCommitted(reply) {
-				r.mu.Lock()
-				failed = fmt.Errorf("%.200s: %s", line, reply)
-				r.mu.Unlock()
+			r.mu.Lock()
+			defer r.mu.Unlock()
+			if place = wire.Place(reply); !wire.IsCommitted(reply) && err == nil {
+				err = fmt.Errorf("%.200s: %s", line, reply)
 			}
 		})
 		if !writer.settle(mostOpen) {
@@ -239,10 +235,10 @@ func (r *Replica) Fill(lines []string) error {
 	isUp := writer.settle(0)
 	r.mu.Lock()
 	defer r.mu.Unlock()
-	if !isUp && failed == nil {
-		failed = fmt.Errorf("regd ended")
+	if !isUp {
+		return 0, errEnded
 	}
-	return failed
+	return place, err
 }
 
 // Restore sets the state and the tokens of a snapshot whose lines regd has executed.

@@ -125,8 +125,8 @@ func TestRestore(t *testing.T) {
 	r, _ := start(t)
 	apply(t, r, 1, tokened(1, 0), prune, tokened(2, 0))
 	other, _ := start(t)
-	if err := other.Fill([]string{prune, prune, prune}); err != nil {
-		t.Fatal(err)
+	if place, err := other.Fill([]string{prune, prune, prune}); place != 3 || err != nil {
+		t.Fatal(place, err)
 	}
 	other.Restore(r.State(), r.Tokens())
 	for _, line := range []string{tokened(1, 0), tokened(2, 0), tokened(2, 9), prune} {
@@ -137,7 +137,7 @@ func TestRestore(t *testing.T) {
 	if r.State() != other.State() {
 		t.Errorf("got %v, want %v", other.State(), r.State())
 	}
-	if err := other.Fill([]string{prune, `{"ops":[]}`}); err == nil {
+	if _, err := other.Fill([]string{prune, `{"ops":[]}`}); err == nil {
 		t.Error("a line of a snapshot that is not committed is no error")
 	}
 }

@@ -26,31 +26,19 @@ type change struct {
 
 func (c *change) answer(reply []byte) { c.once.Do(func() { c.reply <- reply }) }
 
-// A flight is an entry of this gateway that is not yet answered.
-type flight struct {
-	changes []*change
-	open    atomic.Int32
-}
-
-// flights are the entries of this gateway that are not yet answered, by their names.
+// flights are the entries of this gateway that are not yet answered: their changes, by their names.
 type flights struct {
 	mu     sync.Mutex
-	byName map[string]*flight
+	byName map[string][]*change
 }
 
-func (f *flights) add(name string, changes []*change) *flight {
+// set adds an entry, or drops it if there are no changes.
+func (f *flights) set(name string, changes []*change) {
 	f.mu.Lock()
 	defer f.mu.Unlock()
-	made := &flight{changes: changes}
-	made.open.Store(int32(len(changes)))
-	f.byName[name] = made
-	return made
-}
-
-func (f *flights) drop(name string) {
-	f.mu.Lock()
-	defer f.mu.Unlock()
-	delete(f.byName, name)
+	if f.byName[name] = changes; changes == nil {
+		delete(f.byName, name)
+	}
 }
 
 // answerer returns the function that answers the lines of an entry. Entries of other gateways are answered there. If a replica ends in the
@@ -58,14 +46,13 @@ func (f *flights) drop(name string) {
 func (f *flights) answerer(name string) func(number int, reply []byte) {
 	f.mu.Lock()
 	defer f.mu.Unlock()
-	made := f.byName[name]
-	if made == nil {
-		return func(int, []byte) {}
-	}
+	changes := f.byName[name]
 	return func(number int, reply []byte) {
-		made.changes[number].answer(reply)
-		if number == len(made.changes)-1 { // replies come in order
-			f.drop(name)
+		if changes == nil {
+			return
+		}
+		if changes[number].answer(reply); number == len(changes)-1 { // replies come in order
+			f.set(name, nil)
 		}
 	}
 }
@@ -82,14 +69,14 @@ func (g *Gateway) appendChanges(ctx context.Context) error {
 			continue
 		}
 		name := fmt.Sprintf("%s.%d", g.run, count)
-		g.flights.add(name, changes)
+		g.flights.set(name, changes)
 		last, err := g.append(ctx, next, etcd.JoinEntry(name, lines))
 		switch {
 		case ctx.Err() != nil:
 			return ctx.Err()
 		case err != nil: // to append the changes again might make them twice
 			logline.Error("it is not known whether an entry was made", "entry", name, "error", err)
-			g.flights.drop(name)
+			g.flights.set(name, nil)
 			for _, c := range changes {
 				c.answer(nil)
 			}
@@ -113,9 +100,7 @@ func (g *Gateway) append(ctx context.Context, next uint64, value []byte) (uint64
 		default: // the same again, since it may have been made, or may still be made
 			logline.Error("no answer to an append", "entry", next, "error", err)
 			isOpen = true
-			select {
-			case <-time.After(50 * time.Millisecond):
-			case <-ctx.Done():
+			if etcd.Pause(ctx, 50*time.Millisecond); ctx.Err() != nil {
 				return 0, ctx.Err()
 			}
 		}

@@ -31,11 +31,7 @@ func (g *Gateway) follow(ctx context.Context) error {
 		if pause *= 2; isReady || pause > longPause {
 			pause = shortPause
 		}
-		select {
-		case <-time.After(pause):
-		case <-ctx.Done():
-			return ctx.Err()
-		}
+		etcd.Pause(ctx, pause)
 	}
 }
 

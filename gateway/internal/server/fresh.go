@@ -5,11 +5,7 @@ import "context"
 // freshHead returns the number of the last entry of the log, so that every change that was answered before the call is counted.
 func (g *Gateway) freshHead(ctx context.Context) (uint64, bool) {
 	reply := make(chan uint64, 1)
-	select {
-	case g.fresh <- reply:
-	case <-ctx.Done():
-		return 0, false
-	}
+	g.fresh <- reply
 	select {
 	case head := <-reply:
 		return head, true
@@ -28,13 +24,8 @@ func (g *Gateway) answerFresh(ctx context.Context) error {
 		case <-ctx.Done():
 			return ctx.Err()
 		}
-		for isMore := true; isMore; {
-			select {
-			case one := <-g.fresh:
-				all = append(all, one)
-			default:
-				isMore = false
-			}
+		for len(g.fresh) > 0 { // nobody else receives
+			all = append(all, <-g.fresh)
 		}
 		head, err := g.log.Head(ctx)
 		if err != nil {

@@ -57,7 +57,7 @@ func New(log etcd.Log, options Options) *Gateway {
 	return &Gateway{
 		log: log, options: options, run: wire.NewID(), board: newBoard(),
 		booth:   sums.NewBooth(log, options.Program, options.Name),
-		flights: flights{byName: map[string]*flight{}},
+		flights: flights{byName: map[string][]*change{}},
 		changes: make(chan *change, 4096), fresh: make(chan chan uint64, 4096),
 	}
 }

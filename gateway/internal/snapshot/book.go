@@ -8,6 +8,7 @@ import (
 	"strings"
 
 	"regd/gateway/internal/replica"
+	"regd/gateway/internal/wire"
 )
 
 // Names are the agents and the bundles that any line of the log has set. regd lists entries alone, so these are shown one by one.
@@ -18,13 +19,10 @@ func NewNames() Names { return Names{map[string]bool{}, map[string]bool{}} }
 
 // Note adds the names that a line sets. Lines that regd refused may add names that don't exist.
 func (n Names) Note(line []byte) {
-	if !bytes.Contains(line, []byte("set_")) && bytes.IndexByte(line, '\\') < 0 {
-		return
-	}
 	var batch struct {
 		Ops []struct{ Op, Agent, Domain string }
 	}
-	if json.Unmarshal(line, &batch) != nil {
+	if !wire.MayChange(line) || json.Unmarshal(line, &batch) != nil {
 		return
 	}
 	for _, op := range batch.Ops {
@@ -51,36 +49,66 @@ const mostOps, mostBytes = 64, 1 << 18
 
 type fields = map[string]any
 
-// A writer collects operations into lines.
-type writer struct {
-	lines []string
-	ops   []string
-	size  int
+// A reader reads the book of a replica, and writes lines that make the same one. After its first error it does nothing more.
+type reader struct {
+	replica *replica.Replica
+	lines   []string
+	ops     []string
+	size    int
+	err     error
 }
 
-func (w *writer) put(op fields) error {
+// put adds an operation to the lines, several times.
+func (r *reader) put(count uint64, op fields) {
 	text, err := json.Marshal(op)
-	if err != nil {
-		return err
+	if err != nil && r.err == nil {
+		r.err = err
 	}
-	if len(w.ops) == mostOps || w.size+len(text) > mostBytes {
-		w.endLine()
+	for ; count > 0 && r.err == nil; count-- {
+		if len(r.ops) == mostOps || r.size+len(text) > mostBytes {
+			r.endLine()
+		}
+		r.ops, r.size = append(r.ops, string(text)), r.size+len(text)
 	}
-	w.ops, w.size = append(w.ops, string(text)), w.size+len(text)
-	return nil
 }
 
-func (w *writer) endLine() {
-	if len(w.ops) > 0 {
-		w.lines = append(w.lines, `{"ops":[`+strings.Join(w.ops, ",")+`]}`)
+func (r *reader) endLine() {
+	if len(r.ops) > 0 {
+		r.lines = append(r.lines, `{"ops":[`+strings.Join(r.ops, ",")+`]}`)
 	}
-	w.ops, w.size = nil, 0
+	r.ops, r.size = nil, 0
+}
+
+// show sends one query, and reads its reply into row. A refused query leaves row as it is: its name is not one of the book.
+func (r *reader) show(op fields, row any) {
+	text, err := json.Marshal(fields{"ops": []fields{op}})
+	var line []byte
+	if err == nil && r.err == nil {
+		line, err = r.replica.Ask(string(text))
+	}
+	var reply struct {
+		Code    string
+		Replies []json.RawMessage
+	}
+	if err == nil && r.err == nil {
+		if err = json.Unmarshal(line, &reply); err == nil && strings.HasPrefix(reply.Code, "L") {
+			err = fmt.Errorf("%s: %.200s", text, line) // out of memory
+		}
+	}
+	if err == nil && len(reply.Replies) > 0 {
+		in := json.NewDecoder(bytes.NewReader(reply.Replies[0]))
+		in.UseNumber()
+		err = in.Decode(row)
+	}
+	if r.err == nil {
+		r.err = err
+	}
 }
 
 // bookLines returns lines that make the book of a replica, to which no change is sent meanwhile. A bundle is set as often as its sequence
 // says, and an entry is created and then updated as often as its revision says.
-func bookLines(r *replica.Replica, names Names) ([]string, error) {
-	w := &writer{}
+func bookLines(replica *replica.Replica, names Names) ([]string, error) {
+	r := &reader{replica: replica}
 	for _, domain := range sorted(names.domains) {
 		var row struct {
 			Bundle *struct {
@@ -88,108 +116,46 @@ func bookLines(r *replica.Replica, names Names) ([]string, error) {
 				Sequence uint64
 			}
 		}
-		if err := show(r, fields{"op": "show_bundle", "domain": domain}, &row); err != nil {
-			return nil, err
-		}
-		if row.Bundle == nil {
-			continue
-		}
-		for ; row.Bundle.Sequence > 0; row.Bundle.Sequence-- {
-			if err := w.put(fields{"op": "set_bundle", "domain": domain, "text": ""}); err != nil {
-				return nil, err
-			}
-		}
-		if err := w.put(fields{"op": "set_bundle", "domain": domain, "text": row.Bundle.Text}); err != nil {
-			return nil, err
+		if r.show(fields{"op": "show_bundle", "domain": domain}, &row); row.Bundle != nil {
+			r.put(row.Bundle.Sequence, fields{"op": "set_bundle", "domain": domain, "text": ""})
+			r.put(1, fields{"op": "set_bundle", "domain": domain, "text": row.Bundle.Text})
 		}
 	}
 	for _, agent := range sorted(names.agents) {
 		var row struct {
 			Agent *struct{ Selectors []string }
 		}
-		if err := show(r, fields{"op": "show_agent", "agent": agent}, &row); err != nil {
-			return nil, err
-		}
-		if row.Agent != nil {
-			if err := w.put(fields{"op": "set_agent", "agent": agent, "selectors": row.Agent.Selectors}); err != nil {
-				return nil, err
-			}
+		if r.show(fields{"op": "show_agent", "agent": agent}, &row); row.Agent != nil {
+			r.put(1, fields{"op": "set_agent", "agent": agent, "selectors": row.Agent.Selectors})
 		}
 	}
-	if err := entries(r, w); err != nil {
-		return nil, err
-	}
-	w.endLine()
-	return w.lines, nil
-}
-
-func entries(r *replica.Replica, w *writer) error {
-	var updates []fields
-	for from := ""; ; {
-		page := fields{"op": "page", "size": 500}
-		if from != "" {
-			page["from"] = from
-		}
+	var updated []fields
+	var revisions []uint64
+	for page := (fields{"op": "page", "size": 500}); r.err == nil; {
 		var reply struct {
 			Entries []fields
 			Next    *string
 		}
-		if err := show(r, page, &reply); err != nil {
-			return err
-		}
+		r.show(page, &reply)
 		for _, entry := range reply.Entries {
-			number, _ := entry["revision"].(json.Number)
-			revision, err := number.Int64()
-			if err != nil {
-				return err
+			var revision uint64
+			if _, err := fmt.Sscan(fmt.Sprint(entry["revision"]), &revision); err != nil {
+				return nil, err
 			}
 			delete(entry, "revision")
 			entry["op"] = "create"
-			if err := w.put(entry); err != nil {
-				return err
-			}
-			for ; revision > 0; revision-- {
-				updates = append(updates, entry)
-			}
+			r.put(1, entry)
+			updated, revisions = append(updated, entry), append(revisions, revision)
 		}
 		if reply.Next == nil {
 			break
 		}
-		from = *reply.Next
+		page["from"] = *reply.Next
 	}
-	for _, entry := range updates {
+	for i, entry := range updated {
 		entry["op"] = "update"
-		if err := w.put(entry); err != nil {
-			return err
-		}
+		r.put(revisions[i], entry)
 	}
-	return nil
-}
-
-// show sends one query, and reads its reply into row. A refused query leaves row as it is: its name is not one of the book.
-func show(r *replica.Replica, op fields, row any) error {
-	text, err := json.Marshal(fields{"ops": []fields{op}})
-	if err != nil {
-		return err
-	}
-	line, err := r.Ask(string(text))
-	if err != nil {
-		return err
-	}
-	var reply struct {
-		Code    string
-		Replies []json.RawMessage
-	}
-	if err := json.Unmarshal(line, &reply); err != nil {
-		return err
-	}
-	if strings.HasPrefix(reply.Code, "L") {
-		return fmt.Errorf("%s: %.200s", text, line) // out of memory
-	}
-	if len(reply.Replies) == 0 {
-		return nil
-	}
-	in := json.NewDecoder(bytes.NewReader(reply.Replies[0]))
-	in.UseNumber()
-	return in.Decode(row)
+	r.endLine()
+	return r.lines, r.err
 }

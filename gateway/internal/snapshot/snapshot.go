@@ -10,6 +10,7 @@ import (
 	"encoding/hex"
 	"encoding/json"
 	"fmt"
+	"strings"
 
 	"regd/gateway/internal/etcd"
 	"regd/gateway/internal/logline"
@@ -19,20 +20,21 @@ import (
 // emptyLine is a change that changes nothing but the commit number.
 const emptyLine = `{"ops":[{"op":"prune","before":0}]}`
 
-// chunkSize is about how many bytes of a snapshot are in one key of etcd.
+// chunkSize is the most bytes of a snapshot in one key of etcd.
 const chunkSize = 1 << 19
 
-// head is the value of the key snapshot. Its chunks are in keys below it, which are written first.
+// head is the value of the key snapshot. It names the chunks, which are written first.
 type head struct {
-	Entry, Place uint64
-	Sum          string
-	Lines        uint64
-	Chunks       int
+	Entry  uint64
+	Chunks int
 }
 
-type chunk struct {
-	Tokens []*replica.Kept `json:",omitempty"`
-	Lines  []string        `json:",omitempty"`
+// content is what the chunks hold together, as JSON.
+type content struct {
+	Place  uint64
+	Sum    string
+	Tokens []*replica.Kept
+	Lines  []string
 }
 
 func chunkKey(entry uint64, number int) string {
@@ -50,170 +52,137 @@ func Load(ctx context.Context, log etcd.Log, r *replica.Replica, names Names) (u
 	if err := json.Unmarshal(text, &h); err != nil {
 		return 0, err
 	}
-	var all chunk
+	text = nil
 	for i := 0; i < h.Chunks; i++ {
-		text, err := log.Get(ctx, chunkKey(h.Entry, i))
+		part, err := log.Get(ctx, chunkKey(h.Entry, i))
 		if err != nil {
 			return 0, err
 		}
-		var part chunk
-		if err := json.Unmarshal(text, &part); err != nil {
-			return 0, fmt.Errorf("snapshot of entry %d, chunk %d: %w", h.Entry, i, err)
-		}
-		all.Lines, all.Tokens = append(all.Lines, part.Lines...), append(all.Tokens, part.Tokens...)
+		text = append(text, part...)
 	}
-	for _, line := range all.Lines {
+	var c content
+	if err := json.Unmarshal(text, &c); err != nil { // such as: a newer snapshot has taken its place meanwhile
+		return 0, fmt.Errorf("snapshot of entry %d: %w", h.Entry, err)
+	}
+	for _, line := range c.Lines {
 		names.Note([]byte(line))
 	}
-	return h.Entry + 1, h.fill(r, all)
+	return h.Entry + 1, c.fill(r, h.Entry)
 }
 
 // fill makes the book of a snapshot in an empty replica.
-func (h head) fill(r *replica.Replica, all chunk) error {
-	state := replica.State{Entry: h.Entry, Place: h.Place}
-	if n, err := hex.Decode(state.Sum[:], []byte(h.Sum)); err != nil || n != len(state.Sum) {
-		return fmt.Errorf("snapshot of entry %d: bad checksum", h.Entry)
+func (c content) fill(r *replica.Replica, entry uint64) error {
+	state := replica.State{Entry: entry, Place: c.Place}
+	if n, err := hex.Decode(state.Sum[:], []byte(c.Sum)); err != nil || n != len(state.Sum) {
+		return fmt.Errorf("snapshot of entry %d: bad checksum", entry)
 	}
-	var empty []string
-	for i := h.Lines; i < h.Place; i++ {
+	var empty []string // first, since they are quickest while the book is empty
+	for i := uint64(len(c.Lines)); i < c.Place; i++ {
 		empty = append(empty, emptyLine)
 	}
-	if err := r.Fill(append(empty, all.Lines...)); err != nil { // empty lines are quickest while the book is empty
-		return err
+	place, err := r.Fill(append(empty, c.Lines...))
+	if err == nil && place != c.Place {
+		err = fmt.Errorf("snapshot of entry %d: it ends at commit %d and not at %d", entry, place, c.Place)
 	}
-	r.Restore(state, all.Tokens)
-	return nil
+	r.Restore(state, c.Tokens)
+	return err
 }
 
-// Make makes a snapshot of the book that was left by the entry `keep` before the last one, and deletes the log up to it. It returns the number
-// of that entry, or 0 if a snapshot would not shorten the log.
-func Make(ctx context.Context, log etcd.Log, options replica.Options, keep uint64) (uint64, error) {
+// Make makes a snapshot of the book that was left by the entry `keep` before the last one, and deletes the log up to it. It makes none if that
+// would not shorten the log.
+func Make(ctx context.Context, log etcd.Log, options replica.Options, keep uint64) error {
 	r, err := replica.Start(ctx, options, func(replica.State) {})
 	if err != nil {
-		return 0, err
+		return err
 	}
 	defer r.Close()
 	names := NewNames()
 	first, err := Load(ctx, log, r, names)
 	if err != nil {
-		return 0, err
+		return err
 	}
 	last, err := log.Head(ctx)
 	if err != nil || last < first+keep {
-		return 0, err
+		return err
 	}
 	last -= keep
 	if err := replay(ctx, log, r, names, first, last); err != nil {
-		return 0, err
+		return err
 	}
 	lines, err := bookLines(r, names)
 	if err != nil {
-		return 0, err
+		return err
 	}
 	state := r.State()
-	h := head{Entry: last, Place: state.Place, Sum: hex.EncodeToString(state.Sum[:]), Lines: uint64(len(lines))}
-	if h.Lines > h.Place {
-		logline.Info("no snapshot, because it would be longer than the log", "lines", h.Lines, "commits", h.Place)
-		return 0, nil
+	c := content{state.Place, hex.EncodeToString(state.Sum[:]), r.Tokens(), lines}
+	if uint64(len(lines)) > c.Place {
+		logline.Info("no snapshot, because it would be longer than the log", "lines", len(lines), "commits", c.Place)
+		return nil
 	}
-	all := chunk{Tokens: r.Tokens(), Lines: lines}
-	if err := verify(ctx, options, names, h, all); err != nil {
-		return 0, err
+	if err := c.verify(ctx, options, names, last); err != nil {
+		return err
 	}
-	if err := publish(ctx, log, h, all); err != nil {
-		return 0, err
+	if err := c.publish(ctx, log, last); err != nil {
+		return err
 	}
-	logline.Info("snapshot made", "entry", last, "place", h.Place, "lines", h.Lines, "tokens", len(all.Tokens))
+	logline.Info("snapshot made", "entry", last, "place", c.Place, "lines", len(lines), "tokens", len(c.Tokens))
 	// a replica that starts now starts from the snapshot
 	if err := log.Cut(ctx, first, last); err != nil {
-		return 0, err
+		return err
 	}
-	return last, log.Delete(ctx, "snapshot/", chunkKey(last, 0))
+	return log.Delete(ctx, "snapshot/", chunkKey(last, 0))
 }
 
 // replay executes the entries from first to last.
 func replay(ctx context.Context, log etcd.Log, r *replica.Replica, names Names, first, last uint64) error {
 	_, err := log.Follow(ctx, first, func(uint64) {}, func(number uint64, value []byte) bool {
-		if number > last {
-			return false
-		}
 		_, lines := etcd.SplitEntry(value)
 		for _, line := range lines {
 			names.Note(line)
 		}
 		return r.Apply(number, lines, func(int, []byte) {}) && number < last
 	})
-	if err != nil {
-		return err
+	if err == nil && (!r.Settle() || r.State().Entry != last) {
+		err = fmt.Errorf("the replay ended at entry %d and not at %d", r.State().Entry, last)
 	}
-	if !r.Settle() || r.State().Entry != last {
-		return fmt.Errorf("the replay ended at entry %d and not at %d", r.State().Entry, last)
-	}
-	return nil
+	return err
 }
 
-// verify executes a snapshot in another regd, and returns an error unless that makes the same book at the same commit number.
-func verify(ctx context.Context, options replica.Options, names Names, h head, all chunk) error {
+// verify executes a snapshot in another regd, and returns an error unless that makes the same book.
+func (c content) verify(ctx context.Context, options replica.Options, names Names, entry uint64) error {
 	r, err := replica.Start(ctx, options, func(replica.State) {})
 	if err != nil {
 		return err
 	}
 	defer r.Close()
-	if err := h.fill(r, all); err != nil {
+	if err := c.fill(r, entry); err != nil {
 		return err
 	}
 	lines, err := bookLines(r, names)
-	if err != nil {
-		return err
-	}
-	if len(lines) != len(all.Lines) {
-		return fmt.Errorf("the snapshot makes %d lines of %d", len(lines), len(all.Lines))
-	}
-	for i := range lines {
-		if lines[i] != all.Lines[i] {
-			return fmt.Errorf("the snapshot makes another book: %.200s instead of %.200s", lines[i], all.Lines[i])
-		}
-	}
-	place, err := r.Place()
-	if err == nil && place != h.Place {
-		err = fmt.Errorf("the snapshot ends at commit %d and not at %d", place, h.Place)
+	if err == nil && strings.Join(lines, "\n") != strings.Join(c.Lines, "\n") {
+		err = fmt.Errorf("snapshot of entry %d: it makes another book", entry)
 	}
 	return err
 }
 
 // publish writes the chunks, and then the head that makes them count.
-func publish(ctx context.Context, log etcd.Log, h head, all chunk) error {
-	var part chunk
-	size := 0
-	put := func() error {
-		text, err := json.Marshal(part)
-		if err == nil {
-			err = log.Put(ctx, chunkKey(h.Entry, h.Chunks), text)
-		}
-		h.Chunks, part, size = h.Chunks+1, chunk{}, 0
-		return err
-	}
-	for _, k := range all.Tokens {
-		part.Tokens, size = append(part.Tokens, k), size+len(k.Reply)*4/3+150
-		if size > chunkSize {
-			if err := put(); err != nil {
-				return err
-			}
-		}
-	}
-	for _, line := range all.Lines {
-		part.Lines, size = append(part.Lines, line), size+len(line)*5/4
-		if size > chunkSize {
-			if err := put(); err != nil {
-				return err
-			}
-		}
-	}
-	if err := put(); err != nil {
-		return err
-	}
-	text, err := json.Marshal(h)
+func (c content) publish(ctx context.Context, log etcd.Log, entry uint64) error {
+	text, err := json.Marshal(c)
 	if err != nil {
+		return err
+	}
+	h := head{Entry: entry}
+	for ; len(text) > 0; h.Chunks++ {
+		size := chunkSize
+		if size > len(text) {
+			size = len(text)
+		}
+		if err := log.Put(ctx, chunkKey(entry, h.Chunks), text[:size]); err != nil {
+			return err
+		}
+		text = text[size:]
+	}
+	if text, err = json.Marshal(h); err != nil {
 		return err
 	}
 	return log.Put(ctx, "snapshot", text)

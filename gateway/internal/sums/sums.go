@@ -29,12 +29,11 @@ var ErrOutvoted = errors.New("a majority of the gateways has another checksum")
 // A Verdict is what the votes on an entry say about one's own.
 type Verdict int
 
-// The verdicts.
+// The verdicts: all votes are equal; no majority is against one's own; a majority agrees on another checksum.
 const (
-	Agreed   Verdict = iota // all votes are equal
-	Majority                // a majority agrees with one's own; others are wrong
-	Disputed                // no checksum has a majority
-	Outvoted                // a majority agrees on another checksum
+	Agreed Verdict = iota
+	Disputed
+	Outvoted
 )
 
 // Judge returns the verdict of votes, which are checksums by the names of the gateways. They include one's own.
@@ -43,18 +42,15 @@ func Judge(own string, votes map[string]string) Verdict {
 	for _, sum := range votes {
 		counts[sum]++
 	}
-	if counts[own] == len(votes) {
-		return Agreed
-	}
 	for sum, count := range counts {
-		if 2*count > len(votes) {
-			if sum == own {
-				return Majority
-			}
+		if sum != own && 2*count > len(votes) {
 			return Outvoted
 		}
 	}
-	return Disputed
+	if counts[own] < len(votes) {
+		return Disputed
+	}
+	return Agreed
 }
 
 // A Store is where the votes are.
@@ -130,14 +126,23 @@ func (b *Booth) Run(ctx context.Context) error {
 		if last = append(last, marks...); len(last) > watched {
 			last = last[len(last)-watched:]
 		}
-		if err := b.count(ctx, last); err != nil {
-			return err
+		isDisputed := false
+		for _, mark := range last {
+			verdict, err := b.count(ctx, mark)
+			if err != nil {
+				return err
+			}
+			isDisputed = isDisputed || verdict == Disputed
 		}
+		b.mu.Lock()
+		b.isDisputed = isDisputed
+		b.mu.Unlock()
 	}
 }
 
 func (b *Booth) key(entry uint64) string { return fmt.Sprintf("sum/%s/%016x/", b.program, entry) }
 
+// vote stores a vote, and deletes an old one.
 func (b *Booth) vote(ctx context.Context, mark Mark) error {
 	if err := b.store.Put(ctx, b.key(mark.Entry)+b.name, []byte(mark.Sum)); err != nil || mark.Entry <= left*Interval {
 		return err
@@ -146,28 +151,22 @@ func (b *Booth) vote(ctx context.Context, mark Mark) error {
 	return b.store.Delete(ctx, old, old+"\x00")
 }
 
-func (b *Booth) count(ctx context.Context, marks []Mark) error {
-	isDisputed := false
-	for _, mark := range marks {
-		values, err := b.store.List(ctx, b.key(mark.Entry))
-		if err != nil {
-			return err
-		}
-		votes := map[string]string{b.name: mark.Sum}
-		for name, sum := range values {
-			votes[name] = string(sum)
-		}
-		switch votes[b.name] = mark.Sum; Judge(mark.Sum, votes) {
-		case Outvoted:
-			logline.Error("outvoted", "entry", mark.Entry, "sum", mark.Sum, "votes", votes)
-			return ErrOutvoted
-		case Majority, Disputed:
-			logline.Error("checksums differ", "entry", mark.Entry, "sum", mark.Sum, "votes", votes)
-			isDisputed = true
-		}
+func (b *Booth) count(ctx context.Context, mark Mark) (Verdict, error) {
+	values, err := b.store.List(ctx, b.key(mark.Entry))
+	if err != nil {
+		return 0, err
 	}
-	b.mu.Lock()
-	defer b.mu.Unlock()
-	b.isDisputed = isDisputed
-	return nil
+	votes := map[string]string{}
+	for name, sum := range values {
+		votes[name] = string(sum)
+	}
+	votes[b.name] = mark.Sum
+	verdict := Judge(mark.Sum, votes)
+	if verdict != Agreed {
+		logline.Error("checksums differ", "entry", mark.Entry, "sum", mark.Sum, "votes", votes)
+	}
+	if verdict == Outvoted {
+		return verdict, ErrOutvoted
+	}
+	return verdict, nil
 }

@@ -17,7 +17,7 @@ func TestJudge(t *testing.T) {
 		{"a", "", Agreed}, {"a", "a", Agreed}, {"a", "a a", Agreed},
 		{"a", "b", Disputed}, {"a", "b c", Disputed}, {"a", "a b b", Disputed},
 		{"a", "b b", Outvoted}, {"a", "b b a b", Outvoted},
-		{"a", "a b", Majority}, {"a", "a a b b", Majority},
+		{"a", "a b", Disputed}, {"a", "a a b b", Disputed},
 	} {
 		votes := map[string]string{"own": c.own}
 		for i, sum := range strings.Fields(c.others) {

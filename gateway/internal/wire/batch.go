@@ -1,6 +1,7 @@
 package wire
 
 import (
+	"bytes"
 	"crypto/sha256"
 	"encoding/hex"
 	"encoding/json"
@@ -8,106 +9,129 @@ import (
 	"strconv"
 )
 
-// maxOps is the most operations of a batch. regd refuses a line with more, so nothing is added to it.
-const maxOps = 64
+const (
+	// MaxQueries is the most queries of a batch that also changes something. regd keeps the replies of such a batch, and the gateway
+	// those of a batch with a token.
+	MaxQueries = 4
 
-// MaxQueries is the most queries of a batch that also changes something. regd keeps the replies of such a batch, and the gateway those of a
-// batch with a token.
-const MaxQueries = 4
+	maxOps            = 64     // regd refuses a batch with more, so nothing is added to it
+	idRoom, tokenRoom = 44, 64 // bytes that the gateway may add to a line: for each id, and for a token
+)
 
-// bytes that the gateway may add to a line: for each id it draws, and for a token
-const idRoom, tokenRoom = 44, 64
+var isChange = map[string]bool{"create": true, "update": true, "delete": true, "prune": true,
+	"set_agent": true, "drop_agent": true, "set_bundle": true, "drop_bundle": true}
 
-var isChange = map[string]bool{
-	"create": true, "update": true, "delete": true, "prune": true,
-	"set_agent": true, "drop_agent": true, "set_bundle": true, "drop_bundle": true,
-}
-
-var isQuery = map[string]bool{
-	"show": true, "show_agent": true, "show_bundle": true, "children": true, "page": true, "authorised": true, "trust": true,
-}
+var isQuery = map[string]bool{"show": true, "show_agent": true, "show_bundle": true, "children": true, "page": true,
+	"authorised": true, "trust": true}
 
 // A Batch is a line that is an object with a list of operations. Whether regd accepts it is not known.
 type Batch struct {
 	line         []byte
-	object       span
+	end          int // of the object: its brace is the byte before
 	ops          []operation
-	token, after []byte // values as they are in the line; nil if absent
+	token, after json.RawMessage // as they are in the line; nil if absent
 }
 
 type operation struct {
-	span
+	text  json.RawMessage
+	end   int // in the line
 	name  string
 	hasID bool
 }
 
-// ReadBatch finds the parts of a line that the gateway needs. It returns false if the line has no list of 1 to 64 objects under ops; regd
-// refuses such a line. What it accepts, regd may still refuse.
-func ReadBatch(line []byte) (Batch, bool) {
-	object, ok := whole(line)
-	if !ok {
-		return Batch{}, false
+// members visits the members of an object in their order, each with the place after its value. It returns false if the text, which is valid JSON,
+// is not an object.
+func members(text []byte, visit func(key string, value json.RawMessage, end int)) bool {
+	in := json.NewDecoder(bytes.NewReader(text))
+	if open, _ := in.Token(); open != json.Delim('{') {
+		return false
 	}
-	b := Batch{line: line, object: object}
-	list := span{}
-	ok = members(line, object, func(key string, value span) {
-		switch key { // of equal keys the last one counts
+	for in.More() {
+		var value json.RawMessage
+		key, _ := in.Token()
+		name, isName := key.(string)
+		if !isName || in.Decode(&value) != nil {
+			return false
+		}
+		visit(name, value, int(in.InputOffset()))
+	}
+	return true
+}
+
+// ReadBatch finds the parts of a line that the gateway needs. It returns false if the line has no list of 1 to 64 objects under ops; regd
+// refuses such a line. What it accepts, regd may still refuse. Of equal keys the last one counts.
+func ReadBatch(line []byte) (b Batch, ok bool) {
+	if !json.Valid(line) {
+		return b, false
+	}
+	b = Batch{line: line, end: len(bytes.TrimRight(line, " \t\r\n"))}
+	var list json.RawMessage
+	listEnd := 0
+	isObject := members(line, func(key string, value json.RawMessage, end int) {
+		switch key {
 		case "ops":
-			list = value
+			list, listEnd = value, end
 		case "token":
-			b.token = value.of(line)
+			b.token = value
 		case "after":
-			b.after = value.of(line)
+			b.after = value
 		}
 	})
-	if !ok || list.to == 0 {
-		return Batch{}, false
+	if !isObject || len(list) == 0 || list[0] != '[' {
+		return b, false
 	}
-	ops, ok := elements(line, list)
-	if !ok || len(ops) == 0 || len(ops) > maxOps {
-		return Batch{}, false
-	}
-	for _, one := range ops {
-		op := operation{span: one}
-		ok = members(line, one, func(key string, value span) {
+	in := json.NewDecoder(bytes.NewReader(list))
+	for in.Token(); in.More(); {
+		var op operation
+		if in.Decode(&op.text) != nil || len(b.ops) == maxOps {
+			return b, false
+		}
+		op.end = listEnd - len(list) + int(in.InputOffset())
+		if !members(op.text, func(key string, value json.RawMessage, _ int) {
 			switch key {
 			case "op":
 				op.name = ""
-				json.Unmarshal(value.of(line), &op.name)
+				json.Unmarshal(value, &op.name)
 			case "id":
-				op.hasID = !isNull(value.of(line))
+				op.hasID = !isNull(value)
 			}
-		})
-		if !ok {
-			return Batch{}, false
+		}) {
+			return b, false
 		}
 		b.ops = append(b.ops, op)
 	}
-	return b, true
+	return b, len(b.ops) > 0
 }
 
 func isNull(value []byte) bool { return string(value) == "null" }
 
 // IsMixed returns true if the batch changes something and has more than MaxQueries queries.
 func (b Batch) IsMixed() bool {
-	changes, queries := 0, 0
+	queries := 0
 	for _, op := range b.ops {
-		if isChange[op.name] {
-			changes++
-		} else if isQuery[op.name] {
+		if isQuery[op.name] {
 			queries++
 		}
 	}
-	return changes > 0 && queries > MaxQueries
+	return b.changes() && queries > MaxQueries
+}
+
+func (b Batch) changes() bool {
+	for _, op := range b.ops {
+		if isChange[op.name] {
+			return true
+		}
+	}
+	return false
 }
 
 func (b Batch) hasToken() bool { return b.token != nil && !isNull(b.token) }
 
-// undrawn returns the creates that regd would give an id of its own.
-func (b Batch) undrawn() []operation {
+// withoutID returns the creates that have no id.
+func (b Batch) withoutID() []operation {
 	var all []operation
 	for _, op := range b.ops {
-		if op.name == "create" && !op.hasID && !b.hasToken() {
+		if op.name == "create" && !op.hasID {
 			all = append(all, op)
 		}
 	}
@@ -116,9 +140,9 @@ func (b Batch) undrawn() []operation {
 
 // HasRoom returns true if the line stays within MaxLine with everything that the gateway may add to it.
 func (b Batch) HasRoom() bool {
-	room := idRoom * len(b.undrawn())
-	if b.hasToken() {
-		room += tokenRoom
+	room := tokenRoom
+	if !b.hasToken() {
+		room = idRoom * len(b.withoutID())
 	}
 	return room == 0 || len(b.line)+room <= MaxLine
 }
@@ -126,24 +150,15 @@ func (b Batch) HasRoom() bool {
 // WithIDs returns the line with an id in each create that has none, so that every replica makes the same entries. A line with a token stays
 // as it is: there regd requires the ids.
 func (b Batch) WithIDs(draw func() string) []byte {
-	undrawn := b.undrawn()
-	if len(undrawn) == 0 {
+	if b.hasToken() {
 		return b.line
 	}
-	made, done := make([]byte, 0, len(b.line)+idRoom*len(undrawn)), 0
-	for _, op := range undrawn {
-		made = append(made, b.line[done:op.to-1]...)
-		made = append(made, `,"id":"`+draw()+`"`...)
-		done = op.to - 1
+	made, done := []byte(nil), 0
+	for _, op := range b.withoutID() {
+		made = append(append(made, b.line[done:op.end-1]...), `,"id":"`+draw()+`"`...)
+		done = op.end - 1
 	}
 	return append(made, b.line[done:]...)
-}
-
-// added returns the line with a member behind the other keys of its object.
-func (b Batch) added(member string) []byte {
-	made := make([]byte, 0, len(b.line)+len(member))
-	made = append(append(made, b.line[:b.object.to-1]...), member...)
-	return append(made, b.line[b.object.to-1:]...)
 }
 
 // A Tokened is a change with a token, for the table of tokens that the gateway keeps in place of regd.
@@ -155,105 +170,75 @@ type Tokened struct {
 	After uint64
 }
 
-// ReadTokened returns false if the line has no token, or if regd refuses it for a reason that taking the token off would hide. Such a line
-// goes to regd as it is.
-func ReadTokened(line []byte) (Tokened, bool) {
-	if !mayHaveToken(line) {
-		return Tokened{}, false
+// ReadTokened returns false if the line has no token, or if regd refuses it for a reason that taking the token off would hide: L5, U1 or B14.
+// Such a line goes to regd as it is.
+func ReadTokened(line []byte) (t Tokened, ok bool) {
+	if !bytes.Contains(line, []byte(`"token"`)) && bytes.IndexByte(line, '\\') < 0 {
+		return t, false
 	}
 	b, ok := ReadBatch(line)
-	if !ok || !b.hasToken() {
-		return Tokened{}, false
-	}
 	var text string
-	if json.Unmarshal(b.token, &text) != nil {
-		return Tokened{}, false // L5
+	if !ok || !b.hasToken() || json.Unmarshal(b.token, &text) != nil || !b.changes() || len(b.withoutID()) > 0 {
+		return t, false
 	}
-	t := Tokened{}
 	if t.Token, ok = readUUID(text); !ok {
-		return Tokened{}, false // U1
+		return t, false
 	}
 	if b.after != nil && !isNull(b.after) {
-		after, err := strconv.ParseUint(string(b.after), 10, 64)
-		if err != nil {
-			return Tokened{}, false // L5
-		}
-		t.After = after
-	}
-	changes := false
-	for _, op := range b.ops {
-		changes = changes || isChange[op.name]
-		if op.name == "create" && !op.hasID {
-			return Tokened{}, false // L5
+		var err error
+		if t.After, err = strconv.ParseUint(string(b.after), 10, 64); err != nil {
+			return t, false
 		}
 	}
-	if !changes {
-		return Tokened{}, false // B14
+	with := func(member string) []byte {
+		return append(append(append([]byte(nil), line[:b.end-1]...), member...), line[b.end-1:]...)
 	}
-	t.Same = b.same()
-	t.Line = b.added(`,"token":null`)
-	t.Probe = b.added(`,"token":null,"after":18446744073709551615`)
+	t.Same, t.Line, t.Probe = b.same(), with(`,"token":null`), with(`,"token":null,"after":18446744073709551615`)
 	return t, true
 }
+
+// the defaults of optional keys, as they are in JSON
+var defaults = map[string]string{"hint": `""`, "expiry": "0", "x509_svid_ttl": "0", "jwt_svid_ttl": "0", "domains": "[]",
+	"mode": `"restrict"`, "match": `"superset"`}
 
 // same returns a hash of the operations as regd compares them: the order of keys, spelling, nulls, defaults, the order in sets and repeats
 // in them make no difference.
 func (b Batch) same() string {
-	all := []any{}
+	var all []map[string]string
 	for _, op := range b.ops {
-		all = append(all, plainOperation(b.line, op.span))
+		plain := map[string]string{}
+		members(op.text, func(key string, value json.RawMessage, _ int) {
+			delete(plain, key)
+			if text := plainValue(key, value); !isNull(value) && text != defaults[key] {
+				plain[key] = text
+			}
+		})
+		all = append(all, plain)
 	}
 	text, _ := json.Marshal(all) // the keys of a map are sorted
 	sum := sha256.Sum256(text)
 	return hex.EncodeToString(sum[:16])
 }
 
-// defaults of optional keys, as they are in JSON
-var defaults = map[string]string{
-	"hint": `""`, "expiry": "0", "x509_svid_ttl": "0", "jwt_svid_ttl": "0", "domains": "[]", "mode": `"restrict"`, "match": `"superset"`,
-}
-
-func plainOperation(line []byte, object span) map[string]any {
-	op := map[string]any{}
-	members(line, object, func(key string, value span) {
-		delete(op, key)
-		text := value.of(line)
-		if plain := plainValue(key, text); !isNull(text) && plain != defaults[key] {
-			op[key] = plain
+// plainValue returns one text for all spellings of a value.
+func plainValue(key string, value json.RawMessage) string {
+	var text string
+	var list []string
+	switch {
+	case json.Unmarshal(value, &text) == nil && !isNull(value):
+		if id, ok := readUUID(text); ok && (key == "id" || key == "from") {
+			text = id
 		}
-	})
-	return op
-}
-
-// plainValue returns the text that stands for all spellings of a value.
-func plainValue(key string, text []byte) string {
-	switch text[0] {
-	case '"':
-		var value string
-		json.Unmarshal(text, &value)
-		if key == "id" || key == "from" {
-			if id, ok := readUUID(value); ok {
-				value = id
+		value, _ = json.Marshal(text)
+	case json.Unmarshal(value, &list) == nil && !isNull(value):
+		sort.Strings(list)
+		set := []string{}
+		for i, one := range list {
+			if i == 0 || one != list[i-1] {
+				set = append(set, one)
 			}
 		}
-		made, _ := json.Marshal(value)
-		return string(made)
-	case '[':
-		var set []string
-		json.Unmarshal(text, &set)
-		sort.Strings(set)
-		made, _ := json.Marshal(unique(set))
-		return string(made)
+		value, _ = json.Marshal(set)
 	}
-	return string(text)
-}
-
-func unique(sorted []string) []string {
-	kept := []string{}
-	for i, one := range sorted {
-		if i == 0 || one != sorted[i-1] {
-			kept = append(kept, one)
-		}
-	}
-	return kept
+	return string(value)
 }

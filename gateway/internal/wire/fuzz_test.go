@@ -42,7 +42,7 @@ func FuzzAdditions(f *testing.F) {
 		}
 		made := b.WithIDs(NewID)
 		again, ok := ReadBatch(made)
-		if !ok || len(again.undrawn()) != 0 || len(again.ops) != len(b.ops) || len(made) != len(line)+idRoom*len(b.undrawn()) {
+		if !ok || !again.hasToken() && len(again.withoutID()) != 0 || len(again.ops) != len(b.ops) || !b.hasToken() && len(made) != len(line)+idRoom*len(b.withoutID()) {
 			t.Fatalf("%q became %q", line, made)
 		}
 		at := 0

@@ -7,8 +7,6 @@ import (
 
 var callKey, lineKey = []byte(`{"call":`), []byte(`,"line":`)
 
-func appendUint(to []byte, n uint64) []byte { return strconv.AppendUint(to, n, 10) }
-
 // Tail returns the part of a reply that is the same on every replica: what follows the call number, or what precedes the line number.
 func Tail(reply []byte) []byte {
 	if bytes.HasPrefix(reply, callKey) {
@@ -27,10 +25,10 @@ func IsRefusal(reply []byte) bool { return !bytes.HasPrefix(reply, callKey) }
 func AppendReply(to, reply []byte, call, line int) []byte {
 	tail := Tail(reply)
 	if !IsRefusal(reply) {
-		to = append(appendUint(append(to, callKey...), uint64(call)), ',')
+		to = append(strconv.AppendInt(append(to, callKey...), int64(call), 10), ',')
 		return append(append(to, tail...), '\n')
 	}
-	to = appendUint(append(append(to, tail...), lineKey...), uint64(line))
+	to = strconv.AppendInt(append(append(to, tail...), lineKey...), int64(line), 10)
 	rest := bytes.TrimLeft(bytes.TrimPrefix(reply[len(tail):], lineKey), "0123456789")
 	if len(rest) == 0 {
 		rest = []byte("}")
@@ -60,10 +58,10 @@ func numberAfter(text []byte, key string) uint64 {
 
 // HasCode returns true if the reply has the code, which is its first key but for the call.
 func HasCode(reply []byte, code string) bool {
-	if bytes.HasPrefix(reply, callKey) {
-		return bytes.HasPrefix(Tail(reply), []byte(`"code":"`+code+`"`))
+	if IsRefusal(reply) {
+		return bytes.HasPrefix(reply, []byte(`{"code":"`+code+`"`))
 	}
-	return bytes.HasPrefix(reply, []byte(`{"code":"`+code+`"`))
+	return bytes.HasPrefix(Tail(reply), []byte(`"code":"`+code+`"`))
 }
 
 var committed, repeated = []byte(`"result":"committed"}`), []byte(`"result":"repeated"}`)

@@ -5,7 +5,10 @@
 // because of equal keys in one object regd takes the last value.
 package wire
 
-import "bytes"
+import (
+	"bytes"
+	"strconv"
+)
 
 // MaxLine is the largest number of bytes in a line, without its line feed.
 const MaxLine = 1 << 20
@@ -31,25 +34,15 @@ func MayChange(line []byte) bool {
 	return false
 }
 
-// mayHaveToken returns false only if no reader of JSON can find the key token in the line.
-func mayHaveToken(line []byte) bool {
-	return bytes.Contains(line, []byte(`"token"`)) || bytes.IndexByte(line, '\\') >= 0
-}
-
 // WithAfter adds the commit number in front of the keys of a query, so that a value of the caller still counts. It returns the line itself
 // if that is not an object with a key, or has no room.
 func WithAfter(line []byte, place uint64) []byte {
-	open := skipSpace(line, 0)
-	if place == 0 || len(line)+40 > MaxLine || open == len(line) || line[open] != '{' {
+	inside := bytes.TrimLeft(line, " \t\r")
+	if place == 0 || len(line)+40 > MaxLine || len(inside) == 0 || inside[0] != '{' || !bytes.HasPrefix(bytes.TrimLeft(inside[1:], " \t\r"), []byte(`"`)) {
 		return line
 	}
-	if first := skipSpace(line, open+1); first == len(line) || line[first] != '"' {
-		return line
-	}
-	made := make([]byte, 0, len(line)+40)
-	made = append(made, line[:open+1]...)
-	made = append(made, `"after":`...)
-	made = appendUint(made, place)
-	made = append(made, ',')
-	return append(made, line[open+1:]...)
+	open := len(line) - len(inside) + 1
+	made := append(make([]byte, 0, len(line)+40), line[:open]...)
+	made = append(strconv.AppendUint(append(made, `"after":`...), place, 10), ',')
+	return append(made, line[open:]...)
 }

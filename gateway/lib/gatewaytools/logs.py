@@ -67,10 +67,8 @@ class Store:
         text = self.get("snapshot")
         if text is None:
             return None
-        head, lines, tokens = json.loads(text), [], []
-        for number in range(head["Chunks"]):
-            chunk = json.loads(self.get(f"snapshot/{head['Entry']:016x}/{number:08x}"))
-            lines += [line.encode() for line in chunk.get("Lines", [])]
-            tokens += [(kept["Token"], base64.b64decode(kept["Reply"])) for kept in chunk.get("Tokens", [])]
-        empty = [EMPTY_LINE] * (head["Place"] - head["Lines"])
-        return Snapshot(head["Entry"], head["Place"], empty + lines, tokens)
+        head = json.loads(text)
+        content = json.loads(b"".join(self.get(f"snapshot/{head['Entry']:016x}/{number:08x}") for number in range(head["Chunks"])))
+        lines = [line.encode() for line in content["Lines"] or []]
+        tokens = [(kept["Token"], base64.b64decode(kept["Reply"])) for kept in content["Tokens"] or []]
+        return Snapshot(head["Entry"], content["Place"], [EMPTY_LINE] * (content["Place"] - len(lines)) + lines, tokens)
