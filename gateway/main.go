@@ -26,13 +26,6 @@ import (
 	"regd/gateway/internal/sums"
 )
 
-// the exit statuses
-const (
-	failed   = 1
-	misused  = 2
-	outvoted = 4
-)
-
 // sumVersion changes with the way in which replies make a checksum.
 const sumVersion = "1"
 
@@ -69,8 +62,7 @@ func parse(words []string) (settings, error) {
 	if err := flags.Parse(words); err != nil {
 		return s, err
 	}
-	if s.name == "" {
-		host, _ := os.Hostname()
+	if host, _ := os.Hostname(); s.name == "" {
 		s.name = host + "/" + s.listen
 	}
 	isTLS := s.files != policy.Files{}
@@ -91,7 +83,7 @@ func parse(words []string) (settings, error) {
 	return s, nil
 }
 
-// isLoopback returns true if nobody on another machine can connect to the address.
+// isLoopback returns true if no other machine can connect to the address.
 func isLoopback(address string) bool {
 	host, _, err := net.SplitHostPort(address)
 	ip := net.ParseIP(host)
@@ -100,24 +92,20 @@ func isLoopback(address string) bool {
 
 func main() {
 	s, err := parse(os.Args[1:])
-	if errors.Is(err, flag.ErrHelp) {
-		os.Exit(misused)
-	}
 	if err != nil {
-		fmt.Fprintln(os.Stderr, "regd-gateway:", err)
-		os.Exit(misused)
+		if !errors.Is(err, flag.ErrHelp) {
+			fmt.Fprintln(os.Stderr, "regd-gateway:", err)
+		}
+		os.Exit(2)
 	}
 	ctx, stop := signal.NotifyContext(context.Background(), syscall.SIGINT, syscall.SIGTERM)
 	defer stop()
-	err = run(ctx, s)
-	switch {
-	case ctx.Err() != nil || err == nil:
-	case errors.Is(err, sums.ErrOutvoted):
+	if err := run(ctx, s); err != nil && ctx.Err() == nil {
 		logline.Error("stopped", "error", err)
-		os.Exit(outvoted)
-	default:
-		logline.Error("stopped", "error", err)
-		os.Exit(failed)
+		if errors.Is(err, sums.ErrOutvoted) {
+			os.Exit(4)
+		}
+		os.Exit(1)
 	}
 }
 
@@ -149,13 +137,9 @@ func run(ctx context.Context, s settings) error {
 	if err := server.Open(ctx, log, s.domain); err != nil {
 		return err
 	}
-	options := server.Options{
-		Name:      s.name,
-		Program:   sumVersion + fmt.Sprintf("-%x", sha256.Sum256(text))[:17],
-		Replica:   replica.Options{Program: program, Domain: s.domain, Workers: s.workers},
-		TLS:       callerTLS,
-		Operators: strings.Split(s.operators, ","),
-	}
+	options := server.Options{Name: s.name, Program: sumVersion + fmt.Sprintf("-%x", sha256.Sum256(text))[:17],
+		Replica: replica.Options{Program: program, Domain: s.domain, Workers: s.workers},
+		TLS:     callerTLS, Operators: strings.Split(s.operators, ",")}
 	if s.isSnapshot {
 		return snapshot.Make(ctx, log, options.Replica, s.keep)
 	}
@@ -164,40 +148,41 @@ func run(ctx context.Context, s settings) error {
 
 // serve listens, and prints the address for callers as soon as queries can be answered.
 func serve(ctx context.Context, g *server.Gateway, s settings) error {
-	ended := make(chan error, 4)
-	go func() { ended <- g.Run(ctx) }()
-	listen := func(address string, serve func(net.Listener) error) (net.Listener, error) {
+	ended := make(chan error, 5)
+	listen := func(address string, serve func(net.Listener) error) (string, error) {
 		if address == "" {
-			return nil, nil
+			return "", nil
 		}
 		on, err := net.Listen("tcp", address)
-		if err == nil {
-			go func() { ended <- serve(on) }()
+		if err != nil {
+			return "", err
 		}
-		return on, err
+		go func() { ended <- serve(on) }()
+		return on.Addr().String(), nil
 	}
 	mux := http.NewServeMux()
 	mux.Handle("/status", g)
 	if _, err := listen(s.status, func(on net.Listener) error { return http.Serve(on, mux) }); err != nil {
 		return err
 	}
-	ready := make(chan error, 1)
-	go func() { ready <- g.Ready(ctx) }()
+	go func() { ended <- g.Run(ctx) }()
+	ready := make(chan struct{})
+	go func() {
+		g.Ready(ctx)
+		close(ready)
+	}()
 	select {
 	case err := <-ended:
 		return err
-	case err := <-ready:
-		if err != nil {
-			return err
-		}
+	case <-ready:
 	}
 	if _, err := listen(s.fresh, func(on net.Listener) error { return g.Serve(ctx, on, true) }); err != nil {
 		return err
 	}
-	on, err := listen(s.listen, func(on net.Listener) error { return g.Serve(ctx, on, false) })
+	address, err := listen(s.listen, func(on net.Listener) error { return g.Serve(ctx, on, false) })
 	if err != nil {
 		return err
 	}
-	fmt.Printf("{\"listening\":\"%s\"}\n", on.Addr())
+	fmt.Printf("{\"listening\":\"%s\"}\n", address)
 	return <-ended
 }

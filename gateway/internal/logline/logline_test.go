@@ -13,10 +13,10 @@ func TestFormat(t *testing.T) {
 		pairs []any
 		want  string
 	}{
-		{"ready", nil, "event=ready"},
-		{"replica ready", []any{"entry", uint64(7), "seconds", 0.5}, `event="replica ready" entry=7 seconds=0.5`},
-		{"failed", []any{"error", errors.New("a\nb")}, `event=failed error="a\nb"`},
-		{"failed", []any{"text", ""}, `event=failed text=""`},
+		{"ready", nil, `event="ready"`},
+		{"replica ready", []any{"entry", uint64(7), "seconds", 0.5}, `event="replica ready" entry="7" seconds="0.5"`},
+		{"failed", []any{"error", errors.New("a\nb")}, `event="failed" error="a\nb"`},
+		{"failed", []any{"text", ""}, `event="failed" text=""`},
 	} {
 		want := "time=2001-02-03T04:05:06.007Z level=info " + c.want + "\n"
 		if got := format(now, "info", c.event, c.pairs); got != want {

@@ -26,13 +26,8 @@ func (f Files) load() (*tls.Config, error) {
 	if !pool.AppendCertsFromPEM(text) {
 		return nil, fmt.Errorf("%s has no certificate", f.Authorities)
 	}
-	return &tls.Config{
-		Certificates: []tls.Certificate{pair},
-		ClientCAs:    pool,
-		RootCAs:      pool,
-		ClientAuth:   tls.RequireAndVerifyClientCert,
-		MinVersion:   tls.VersionTLS13,
-	}, nil
+	return &tls.Config{Certificates: []tls.Certificate{pair}, ClientCAs: pool, RootCAs: pool,
+		ClientAuth: tls.RequireAndVerifyClientCert, MinVersion: tls.VersionTLS13}, nil
 }
 
 // Server returns a configuration that reads the files at each handshake, since such certificates live for hours only.
@@ -64,7 +59,7 @@ func (f Files) Client() (*tls.Config, error) {
 }
 
 // CallerOf returns the caller of a connection after its handshake. A certificate names a caller if its only URI is a SPIFFE ID, as the
-// specification of X.509-SVIDs requires. Otherwise the caller is nobody, and may send nothing.
+// specification of X.509-SVIDs requires. Otherwise the caller has no name, and may send nothing.
 func CallerOf(state tls.ConnectionState, operators []string) (Caller, error) {
 	if len(state.PeerCertificates) == 0 {
 		return Caller{}, errors.New("no certificate")

@@ -33,7 +33,7 @@ type process struct {
 }
 
 // startProcess starts a regd that accepts as many connections as it has workers, and opens all of them. So connection 0 is the only
-// writer, each connection has a worker of its own, nobody else can connect, and regd ends when this gateway ends.
+// writer, each connection has a worker of its own, no other process can connect, and regd ends when this gateway ends.
 func startProcess(ctx context.Context, options Options) (*process, error) {
 	workers := strconv.Itoa(options.Workers)
 	// the seed stays the default: ids are drawn before a change is appended to the log

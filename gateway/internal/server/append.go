@@ -16,7 +16,7 @@ import (
 const mostLines, mostBytes = 1000, 1 << 18
 
 // A change is a line for the log. It is answered once: by the reply that this gateway's regd gives when the line's turn comes, or by nil if
-// nobody can know any more whether the change was made.
+// it can't be known any more whether the change was made.
 type change struct {
 	line  []byte
 	reply chan []byte
@@ -41,9 +41,9 @@ func (f *flights) set(name string, changes []*change) {
 	}
 }
 
-// answerer returns the function that answers the lines of an entry. Entries of other gateways are answered there. If a replica ends in the
+// answering returns the function that answers the lines of an entry. Entries of other gateways are answered there. If a replica ends in the
 // middle of an entry, the next one executes all of it, and answers what is not answered.
-func (f *flights) answerer(name string) func(number int, reply []byte) {
+func (f *flights) answering(name string) func(number int, reply []byte) {
 	f.mu.Lock()
 	defer f.mu.Unlock()
 	changes := f.byName[name]

@@ -24,7 +24,7 @@ func (g *Gateway) answerFresh(ctx context.Context) error {
 		case <-ctx.Done():
 			return ctx.Err()
 		}
-		for len(g.fresh) > 0 { // nobody else receives
+		for len(g.fresh) > 0 { // no other goroutine receives
 			all = append(all, <-g.fresh)
 		}
 		head, err := g.log.Head(ctx)

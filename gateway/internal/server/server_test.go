@@ -191,7 +191,7 @@ func TestLostAppend(t *testing.T) {
 	}
 }
 
-// TestOpenAppend cuts off an entry whose append is open: nobody can know any more whether it was made, so the connection ends.
+// TestOpenAppend cuts off an entry whose append is open: it can't be known any more whether it was made, so the connection ends.
 func TestOpenAppend(t *testing.T) {
 	s := newSite(t)
 	g, address, _ := s.gateway("a")

@@ -40,7 +40,7 @@ type session struct {
 	row          []waiting // lines whose answer is not yet written
 	isChanging   bool      // the lines of the row are changes
 	lines, calls int
-	place        uint64 // the newest commit number that the caller was told
+	place        uint64 // the newest commit number that the caller has seen
 	left         atomic.Bool
 }
 
@@ -131,7 +131,7 @@ func (s *session) query(ctx context.Context, line []byte) bool {
 	return true
 }
 
-// ask sends a query to the replica, for a book that is no older than what the caller was told. The reply is nil if there is no replica.
+// ask sends a query to the replica, for a book that is no older than what the caller has seen. The reply is nil if there is no replica.
 func (s *session) ask(w waiting) {
 	r, _ := s.board.read()
 	if r == nil {
@@ -165,7 +165,7 @@ func (s *session) answer(ctx context.Context, most int) bool {
 	return s.flush()
 }
 
-// await returns the answer to a line, or nil. It asks a query again if regd ended, and if the reply is older than what the caller was told.
+// await returns the answer to a line, or nil. It asks a query again if regd ended, and if the reply is older than what the caller has seen.
 func (s *session) await(ctx context.Context, w waiting) []byte {
 	late := time.NewTimer(waitTime)
 	defer late.Stop()
@@ -203,7 +203,7 @@ func (s *session) await(ctx context.Context, w waiting) []byte {
 	}
 }
 
-// isOld returns true if the worker that answered a query has not yet seen a commit that the caller was told of, or that the gateway has seen.
+// isOld returns true if the worker that answered a query has not yet seen a commit that the caller has seen, or that the gateway has seen.
 func (s *session) isOld(reply []byte) bool {
 	if wire.HasCode(reply, "W1") {
 		_, state := s.board.read()

@@ -1,7 +1,7 @@
 // Package sums compares the checksums of the replicas, and finds out which one is wrong.
 //
 // Each gateway votes: it stores the checksum of all replies up to an entry under the name of its program, the entry and its own name. Votes
-// of different programs are not compared, so that an upgrade, which may change replies, stops nobody. A gateway stops if a majority of the
+// of different programs are not compared, so that an upgrade, which may change replies, stops no gateway. A gateway stops if a majority of the
 // votes agrees on another checksum than its own. Two that differ don't decide anything: both go on until a third one votes.
 package sums
 
@@ -83,7 +83,7 @@ func NewBooth(store Store, program, name string) *Booth {
 	return &Booth{store: store, program: program, name: name, arrived: make(chan struct{}, 1)}
 }
 
-// Add hands in a checksum without waiting. Of many that wait, only the last ones count.
+// Add submits a checksum without waiting. Of many that wait, only the last ones count.
 func (b *Booth) Add(mark Mark) {
 	b.mu.Lock()
 	defer b.mu.Unlock()

@@ -117,7 +117,7 @@ func TestOracle(t *testing.T) {
 	}
 }
 
-// randomLine returns a line of one or two operations, spelled in unusual ways, and often damaged.
+// randomLine returns a line of one or two operations, in unusual spellings, and often damaged.
 func randomLine(random *rand.Rand) []byte {
 	pick := func(all ...string) string { return all[random.Intn(len(all))] }
 	spelled := func(text string) string {

@@ -19,7 +19,7 @@ var changeNames = [][]byte{
 	[]byte(`"set_agent"`), []byte(`"drop_agent"`), []byte(`"set_bundle"`), []byte(`"drop_bundle"`),
 }
 
-// MayChange returns false only if no reader of JSON can find a change in the line. Without a backslash every string of a line stands in it
+// MayChange returns false only if no reader of JSON can find a change in the line. Without a backslash every string of a line is in it
 // as it is, so a line without the name of a change holds none. A query or a malformed line for which it returns true goes through the log,
 // which costs time and changes nothing.
 func MayChange(line []byte) bool {

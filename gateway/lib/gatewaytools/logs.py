@@ -8,7 +8,7 @@ import urllib.request
 
 # an entry of the log: its number, its name and its lines
 Entry = collections.namedtuple("Entry", "number name lines")
-# what stands in for the entries up to `entry`: lines that make the book at the commit number `place`, and the retained tokens
+# what replaces the entries up to `entry`: lines that make the book at the commit number `place`, and the retained tokens
 Snapshot = collections.namedtuple("Snapshot", "entry place lines tokens")
 
 PAGE = 500

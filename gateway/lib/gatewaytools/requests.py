@@ -21,7 +21,7 @@ class Lines:
         self.sent = []  # lines with a token
 
     def line(self):
-        """Returns a line. One in five with a token is an earlier one, spelled differently."""
+        """Returns a line. One in five with a token is an earlier one in another spelling."""
         random = self.random
         if self.sent and random.random() < 0.08:
             batch = json.loads(random.choice(self.sent))

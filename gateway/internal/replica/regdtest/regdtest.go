@@ -16,7 +16,7 @@ import (
 	"time"
 )
 
-// Main serves as regd and never returns if the arguments say so. Otherwise it returns at once.
+// Main serves as regd and never returns if the arguments say so. Otherwise it returns immediately.
 func Main() {
 	if len(os.Args) < 2 || os.Args[1] != "serve" {
 		return
