@@ -8,6 +8,7 @@ import (
 	"errors"
 	"flag"
 	"fmt"
+	"io"
 	"net"
 	"net/http"
 	"os"
@@ -43,6 +44,7 @@ type settings struct {
 func parse(words []string) (settings, error) {
 	var s settings
 	flags := flag.NewFlagSet("regd-gateway", flag.ContinueOnError)
+	flags.SetOutput(io.Discard)
 	flags.StringVar(&s.domain, "domain", "", "the trust `domain` (required)")
 	flags.StringVar(&s.members, "etcd", "http://127.0.0.1:2379", "the `URLs` of etcd's members, separated by commas")
 	flags.StringVar(&s.etcdFiles, "etcd-files", "", "a `folder` with ca.pem, cert.pem and key.pem, for etcd over https")
@@ -59,7 +61,12 @@ func parse(words []string) (settings, error) {
 	flags.StringVar(&s.operators, "operators", "", "TLS: the SPIFFE `IDs` of callers that may send every line, separated by commas")
 	flags.BoolVar(&s.isSnapshot, "snapshot", false, "make a snapshot, cut the log behind it, and exit")
 	flags.Uint64Var(&s.keep, "keep", 10000, "with -snapshot: how many entries stay in the log")
-	if err := flags.Parse(words); err != nil {
+	err := flags.Parse(words)
+	if errors.Is(err, flag.ErrHelp) {
+		flags.SetOutput(os.Stderr)
+		flags.PrintDefaults()
+	}
+	if err != nil {
 		return s, err
 	}
 	if host, _ := os.Hostname(); s.name == "" {

@@ -150,15 +150,16 @@ func (l Log) watch(ctx context.Context, next uint64, revision int64, take func(u
 }
 
 // Cut deletes the entries up to a number, some at a time, since etcd does nothing else while it deletes.
-func (l Log) Cut(ctx context.Context, from, last uint64) error {
-	const most = 1000
-	for to := from; from <= last; from = to {
-		if to = from + most; to > last+1 {
-			to = last + 1
+func (l Log) Cut(ctx context.Context, last uint64) error {
+	for {
+		var page found
+		request := object{"key": l.key("log/"), "range_end": l.key(EntryKey(last + 1)), "limit": "1000", "keys_only": true}
+		if err := l.insist(ctx, "/v3/kv/range", request, &page); err != nil || len(page.Kvs) == 0 {
+			return err
 		}
-		if err := l.Delete(ctx, EntryKey(from), EntryKey(to)); err != nil {
+		end := string(page.Kvs[len(page.Kvs)-1].Key[len(l.prefix):]) + "\x00"
+		if err := l.Delete(ctx, "log/", end); err != nil {
 			return err
 		}
 	}
-	return nil
 }

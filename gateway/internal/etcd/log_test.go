@@ -56,7 +56,7 @@ func TestAppend(t *testing.T) {
 	if head, err := log.Head(ctx); head != 3 || err != nil {
 		t.Errorf("head: got %d, %v", head, err)
 	}
-	if err := log.Cut(ctx, 1, 2); err != nil {
+	if err := log.Cut(ctx, 2); err != nil {
 		t.Error(err)
 	}
 	if _, err := log.Append(ctx, 2, []byte("b")); !errors.Is(err, etcd.ErrGone) {
@@ -94,11 +94,11 @@ func TestFollow(t *testing.T) {
 	if err != nil || caught != before || taken != before+5 || next != before+5 {
 		t.Errorf("caught up at %d, ended at %d, next %d, %v", caught, taken, next, err)
 	}
-	log.Cut(ctx, 1, 100)
+	log.Cut(ctx, 100)
 	if _, err := log.Follow(ctx, 50, func(uint64) {}, func(uint64, []byte) bool { return true }); !errors.Is(err, etcd.ErrCut) {
 		t.Errorf("cut off in front: got %v", err)
 	}
-	log.Cut(ctx, 101, before+5)
+	log.Cut(ctx, before+5)
 	if _, err := log.Follow(ctx, 50, func(uint64) {}, func(uint64, []byte) bool { return true }); !errors.Is(err, etcd.ErrCut) {
 		t.Errorf("all cut off: got %v", err)
 	}

@@ -201,7 +201,7 @@ func TestOpenAppend(t *testing.T) {
 	go func() {
 		for {
 			if head, _ := s.log.Head(s.ctx); head == 1 {
-				s.log.Cut(s.ctx, 1, 1)
+				s.log.Cut(s.ctx, 1)
 				close(cut)
 				return
 			}

@@ -131,14 +131,19 @@ func (s *session) query(ctx context.Context, line []byte) bool {
 	return true
 }
 
-// ask sends a query to the replica, for a book that is no older than what the caller has seen. The reply is nil if there is no replica.
+// ask sends a query to the replica, for a book that is no older than what the caller has seen, and on the fresh port than what the replica
+// has executed. The reply is nil if there is no replica.
 func (s *session) ask(w waiting) {
-	r, _ := s.board.read()
+	r, state := s.board.read()
 	if r == nil {
 		w.reply <- nil
 		return
 	}
-	r.Query(s.number, wire.WithAfter(w.query, s.place), func(reply []byte) { w.reply <- reply })
+	place := s.place
+	if s.isFresh && state.Place > place {
+		place = state.Place
+	}
+	r.Query(s.number, wire.WithAfter(w.query, place), func(reply []byte) { w.reply <- reply })
 }
 
 // answer writes answers, in order, until at most the given number of lines waits, and flushes them. It returns false if the connection is of

@@ -127,7 +127,7 @@ func Make(ctx context.Context, log etcd.Log, options replica.Options, keep uint6
 	}
 	logline.Info("snapshot made", "entry", last, "place", c.Place, "lines", len(lines), "tokens", len(c.Tokens))
 	// a replica that starts now starts from the snapshot
-	if err := log.Cut(ctx, first, last); err != nil {
+	if err := log.Cut(ctx, last); err != nil {
 		return err
 	}
 	return log.Delete(ctx, "snapshot/", chunkKey(last, 0))

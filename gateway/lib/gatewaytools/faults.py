@@ -25,21 +25,24 @@ class Site:
             log = self.folder / f"gateway{number}.log"
             log.unlink(missing_ok=True)
             self.gateways.append(cluster.Gateway(programs.gateway, regd, self.etcd, self.folder, number))
-        self.notes = []
+        self.notes, self.loads = [], []
 
     def __enter__(self):
         return self
 
     def __exit__(self, *_):
+        for load in self.loads:
+            load.kill()
         for gateway in self.gateways:
             gateway.kill()
         self.etcd.__exit__()
 
     def load(self, seconds, *words, fresh=False, callers=40, record="record"):
         addresses = ",".join(f"127.0.0.1:{gateway.fresh if fresh else gateway.port}" for gateway in self.gateways)
-        return subprocess.Popen(
-            [self.programs.load, "-addresses", addresses, "-connections", str(callers), "-seconds", str(seconds), "-tokens",
-             "-record", str(self.folder / record), *words], stdout=subprocess.PIPE)
+        words = [self.programs.load, "-addresses", addresses, "-connections", str(callers), "-seconds", str(seconds), "-tokens",
+                 "-record", str(self.folder / record), *words]
+        self.loads.append(subprocess.Popen(words, stdout=subprocess.PIPE))
+        return self.loads[-1]
 
     def snapshot(self, keep):
         words = [self.programs.gateway, "-domain", cluster.DOMAIN, "-etcd", ",".join(self.etcd.urls), "-regd", self.programs.regd,
@@ -137,12 +140,13 @@ def killed_all(site):
 
 
 def snapshots(site):
-    """Snapshots and a log that is cut, while gateways are killed."""
+    """Snapshots, a log that is cut, and an etcd whose history is compacted, while gateways are killed."""
     made = []
 
     def snap():
         for _ in range(5):
             made.append(site.snapshot(50))
+            site.etcd.store().compact()
             time.sleep(1.5)
 
     worker = threading.Thread(target=snap)
@@ -211,12 +215,10 @@ def run(programs, folder, name, callers=40, fresh=False):
         done = subprocess.run([programs.load, "-addresses", f"127.0.0.1:{site.gateways[0].port}", "-populate", "-seconds", "0"], capture_output=True)
         if done.returncode:
             raise RuntimeError(done.stderr)
-        stop = threading.Event()
         load = site.load(LENGTHS.get(name, 12), "-changes", "50", "-think", "5ms", *(["-history"] if fresh else []), fresh=fresh, callers=callers)
         time.sleep(1)
         fault(site)
         out, _ = load.communicate(timeout=300)
-        stop.set()
         seen = json.loads(out)
         found, acknowledged = checked(site)
         if seen["back"]:

@@ -48,6 +48,11 @@ class Store:
     def head(self):
         return int(self.get("head") or b"0")
 
+    def compact(self):
+        """Lets etcd forget all values that were replaced or deleted."""
+        revision = self.call("/v3/kv/range", {"key": self.key("head")})["header"]["revision"]
+        self.call("/v3/kv/compaction", {"revision": revision})
+
     def entries(self):
         """Yields the entries that are in the log."""
         begin = self.key("log/")

@@ -1,4 +1,6 @@
 """Scenarios that need a site of their own: a replica short of memory, a full etcd, a wrong replica, certificates."""
+import concurrent.futures
+import contextlib
 import json
 import os
 import pathlib
@@ -260,4 +262,39 @@ class SecureEtcd(cluster.Etcd):
         cluster.wait_for(listens, 30, "etcd")
 
 
-SCENARIOS = {"memory": memory, "full-etcd": full_etcd, "wrong-replica": wrong_replica, "identity": identity}
+# ---- many callers
+
+
+def many_callers(programs, folder):
+    """Callers that are silent, callers that never read, and the longest lines together: other callers are served."""
+    folder, query = pathlib.Path(folder), cluster.page()
+    with cluster.Etcd(folder / "etcd", 1) as etcd, cluster.Gateway(programs.gateway, programs.regd, etcd, folder, 0) as gateway:
+        def served():
+            begin = time.monotonic()
+            expect(b'"answered"' in gateway.call(query, seconds=5)[0], True, "another caller")
+            return time.monotonic() - begin
+
+        def bundles(number):
+            ops = [{"op": "set_bundle", "domain": f"b{number}x{part}.org", "text": "y" * 65536} for part in range(15)]
+            return json.dumps({"ops": ops}).encode()
+
+        with concurrent.futures.ThreadPoolExecutor(8) as pool:
+            answers = list(pool.map(lambda number: gateway.call(bundles(number))[0], range(8)))
+        expect([answer.endswith(b'"committed"}') for answer in answers], [True] * 8, "lines of a megabyte")
+        with contextlib.ExitStack() as stack:
+            for _ in range(20):
+                connection = stack.enter_context(socket.create_connection(("127.0.0.1", gateway.port)))
+                connection.setblocking(False)
+                with contextlib.suppress(BlockingIOError):
+                    for _ in range(200):
+                        connection.send(b'{"ops":[{"op":"show_bundle","domain":"b0x0.org"}]}\n' * 500)
+            waits = [served() for _ in range(5)]
+            for _ in range(900):
+                stack.enter_context(socket.create_connection(("127.0.0.1", gateway.port)))
+            waits += [served() for _ in range(5)]
+            expect(gateway.status()["sessions"] >= 920, True, "open connections")
+        cluster.wait_for(lambda: gateway.status()["sessions"] == 0, 10, "closed connections")
+        return f"920 idle connections, longest wait of another caller {max(waits):.2f} s"
+
+
+SCENARIOS = {"memory": memory, "full-etcd": full_etcd, "wrong-replica": wrong_replica, "identity": identity, "many-callers": many_callers}

@@ -65,6 +65,7 @@ type request struct {
 	Key           []byte
 	RangeEnd      []byte `json:"range_end"`
 	Value         []byte
+	Limit         int `json:"limit,string"`
 	Target        string
 	Compare       []request
 	Success       []step
@@ -115,6 +116,9 @@ func (s *Server) find(in *request) object {
 		}
 	}
 	sort.Strings(keys)
+	if in.Limit > 0 && len(keys) > in.Limit {
+		keys = keys[:in.Limit]
+	}
 	for _, key := range keys {
 		pairs = append(pairs, object{"key": []byte(key), "value": s.values[key]})
 	}
