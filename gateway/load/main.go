@@ -10,6 +10,7 @@ import (
 	"crypto/tls"
 	"crypto/x509"
 	"encoding/json"
+	"errors"
 	"flag"
 	"fmt"
 	"math/rand"
@@ -40,6 +41,9 @@ var (
 	key         = flag.String("key", "", "TLS: its key")
 	authorities = flag.String("authorities", "", "TLS: the authorities of the servers")
 )
+
+// patience is how long callers try to connect again after the end.
+const patience = 5 * time.Minute
 
 // An event is a line of the record.
 type event struct {
@@ -95,8 +99,10 @@ func main() {
 		group.Add(1)
 		go func(j int) {
 			defer group.Done()
-			c := caller{addresses: list, at: j, number: j, random: rand.New(rand.NewSource(start.UnixNano() + int64(j))), note: note, seen: &all[j]}
-			c.run(start.Add(time.Duration(*seconds*1e9)), next)
+			stop := start.Add(time.Duration(*seconds * 1e9))
+			random := rand.New(rand.NewSource(start.UnixNano() + int64(j)))
+			c := caller{addresses: list, at: j, number: j, random: random, note: note, seen: &all[j], giveUp: stop.Add(patience)}
+			c.run(stop, next)
 		}(j)
 	}
 	group.Wait()
@@ -140,7 +146,7 @@ func operation(name string, k int, hint string) string {
 
 // create creates the agents and the entries.
 func create(list []string) {
-	c := caller{addresses: list, random: rand.New(rand.NewSource(1)), seen: &seen{}}
+	c := caller{addresses: list, random: rand.New(rand.NewSource(1)), seen: &seen{}, giveUp: time.Now().Add(patience)}
 	for k := 0; k < *entries; k += 50 {
 		var ops []string
 		for a := k / 10; a < k/10+5; a++ {
@@ -163,6 +169,7 @@ type caller struct {
 	random     *rand.Rand
 	note       func(event)
 	seen       *seen
+	giveUp     time.Time
 	conn       net.Conn
 	in         *bufio.Reader
 	place      uint64
@@ -170,6 +177,9 @@ type caller struct {
 
 func (c *caller) connect() {
 	for c.conn == nil {
+		if time.Now().After(c.giveUp) {
+			check(errors.New("no address accepts connections"))
+		}
 		conn, err := net.DialTimeout("tcp", c.addresses[c.at%len(c.addresses)], 2*time.Second)
 		if err == nil && *certificate != "" {
 			secure := tls.Client(conn, secured())
