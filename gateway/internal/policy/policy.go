@@ -31,29 +31,23 @@ func Admit(caller Caller, line []byte) (admitted []byte, code string) {
 		}
 		return line, ""
 	}
-	if !wire.MayChange(line) {
-		return line, ""
-	}
-	if b, ok := wire.ReadBatch(line); ok {
-		if b.IsMixed() {
-			return nil, TooMixed
-		}
-		if !b.HasRoom() {
-			return nil, NoRoom
-		}
+	if b, ok := wire.ReadChange(line); ok && b.IsMixed() {
+		return nil, TooMixed
+	} else if ok && !b.HasRoom() {
+		return nil, NoRoom
 	}
 	return line, ""
 }
 
-// An agent may query what it serves itself.
-var own = map[string]bool{"authorised": true, "trust": true}
-
-// ownQuery returns the line written from what was read of it, or nil if it has anything but queries of the agent about itself, or says
-// anything twice.
+// ownQuery returns the line written from what was read of it, or nil if it has anything but the queries authorised and trust of the agent about
+// itself.
 func ownQuery(agent string, line []byte) []byte {
 	var request struct {
-		Ops   []struct{ Op, Agent string }
-		After *uint64
+		After *uint64 `json:"after,omitempty"`
+		Ops   []struct {
+			Op    string `json:"op"`
+			Agent string `json:"agent"`
+		} `json:"ops"`
 	}
 	in := json.NewDecoder(bytes.NewReader(line))
 	in.DisallowUnknownFields()
@@ -61,25 +55,13 @@ func ownQuery(agent string, line []byte) []byte {
 		return nil
 	}
 	if _, err := in.Token(); err != io.EOF {
-		return nil
+		return nil // something follows the object
 	}
-	type operation struct {
-		Op    string `json:"op"`
-		Agent string `json:"agent"`
-	}
-	made := struct {
-		After *uint64     `json:"after,omitempty"`
-		Ops   []operation `json:"ops"`
-	}{After: request.After}
 	for _, op := range request.Ops {
-		if op.Agent != agent || !own[op.Op] {
+		if op.Agent != agent || op.Op != "authorised" && op.Op != "trust" {
 			return nil
 		}
-		made.Ops = append(made.Ops, operation{op.Op, agent})
 	}
-	text, err := json.Marshal(made)
-	if err != nil {
-		return nil
-	}
+	text, _ := json.Marshal(request)
 	return text
 }

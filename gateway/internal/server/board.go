@@ -3,6 +3,7 @@ package server
 import (
 	"context"
 	"sync"
+	"time"
 
 	"regd/gateway/internal/replica"
 )
@@ -36,8 +37,16 @@ func (b *board) read() (*replica.Replica, replica.State) {
 	return b.replica, b.state
 }
 
-// wait waits until the replica is ready and has executed an entry and a commit. It returns nil if the context ends first.
-func (b *board) wait(ctx context.Context, entry, place uint64) *replica.Replica {
+// place returns the commit number of the book.
+func (b *board) place() uint64 {
+	_, state := b.read()
+	return state.Place
+}
+
+// wait waits until the replica is ready and has executed an entry and a commit. It returns false if the time is over or the context ends first.
+func (b *board) wait(ctx context.Context, most time.Duration, entry, place uint64) bool {
+	late, stop := context.WithTimeout(ctx, most)
+	defer stop()
 	b.mu.Lock()
 	defer b.mu.Unlock()
 	for b.replica == nil || b.state.Entry < entry || b.state.Place < place {
@@ -46,13 +55,13 @@ func (b *board) wait(ctx context.Context, entry, place uint64) *replica.Replica 
 		b.mu.Unlock()
 		select {
 		case <-changed:
-		case <-ctx.Done():
+		case <-late.Done():
 		}
 		b.mu.Lock()
 		b.waiting--
-		if ctx.Err() != nil {
-			return nil
+		if late.Err() != nil {
+			return false
 		}
 	}
-	return b.replica
+	return true
 }

@@ -4,6 +4,7 @@ import (
 	"context"
 	"errors"
 	"fmt"
+	"sync/atomic"
 	"time"
 
 	"regd/gateway/internal/etcd"
@@ -28,21 +29,23 @@ func (g *Gateway) follow(ctx context.Context) error {
 			return ctx.Err()
 		}
 		logline.Error("replica ended", "ready", isReady, "error", err)
-		if pause *= 2; isReady || pause > longPause {
-			pause = shortPause
-		}
 		etcd.Pause(ctx, pause)
+		if pause *= 2; isReady {
+			pause = shortPause
+		} else if pause > longPause {
+			pause = longPause
+		}
 	}
 }
 
 // runReplica makes a replica from the newest snapshot and the log, and keeps it at the end of the log until it ends. It returns whether the
 // replica was ready to answer queries.
 func (g *Gateway) runReplica(ctx context.Context, began time.Time) (isReady bool, err error) {
-	g.generation.Add(1)
-	generation := g.generation.Load()
+	var isOver atomic.Bool
+	defer isOver.Store(true)
 	r, err := replica.Start(ctx, g.options.Replica, func(state replica.State) {
-		if generation != g.generation.Load() {
-			return // a late reply of the replica before
+		if isOver.Load() {
+			return // a late reply, when there may be another replica
 		}
 		g.board.update(func() { g.board.state = state })
 		if state.Entry%sums.Interval == 0 {
@@ -97,7 +100,7 @@ func (g *Gateway) guard(ctx context.Context, stop func(), r *replica.Replica) {
 	ticks := time.NewTicker(time.Second)
 	defer ticks.Stop()
 	entry, moved := r.State().Entry, time.Now()
-	for {
+	for time.Since(moved) < silentTime {
 		select {
 		case <-ctx.Done():
 			return
@@ -112,9 +115,6 @@ func (g *Gateway) guard(ctx context.Context, stop func(), r *replica.Replica) {
 		g.heard(head)
 		if now := r.State().Entry; now != entry || now >= head {
 			entry, moved = now, time.Now()
-		}
-		if time.Since(moved) > silentTime {
-			return
 		}
 	}
 }

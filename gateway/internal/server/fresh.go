@@ -1,17 +1,24 @@
 package server
 
-import "context"
+import (
+	"context"
+	"time"
+)
 
-// freshHead returns the number of the last entry of the log, so that every change that was answered before the call is counted.
+// freshHead returns the number of the last entry of the log, so that every change that was answered before the call is counted. It
+// returns false if etcd doesn't answer.
 func (g *Gateway) freshHead(ctx context.Context) (uint64, bool) {
 	reply := make(chan uint64, 1)
 	g.fresh <- reply
+	late := time.NewTimer(waitTime)
+	defer late.Stop()
 	select {
 	case head := <-reply:
 		return head, true
+	case <-late.C:
 	case <-ctx.Done():
-		return 0, false
 	}
+	return 0, false
 }
 
 // answerFresh asks etcd where the log ends, once for all that wait, until the context ends.

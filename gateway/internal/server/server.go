@@ -22,8 +22,8 @@ import (
 	"regd/gateway/internal/wire"
 )
 
-// handshakeTime is how long a caller may take for its TLS handshake.
-const handshakeTime = 10 * time.Second
+// How long a caller may take for its TLS handshake, and to read when its answers fill all buffers.
+var handshakeTime, writeTime = 10 * time.Second, 60 * time.Second
 
 // Options configure a gateway.
 type Options struct {
@@ -45,11 +45,10 @@ type Gateway struct {
 	changes chan *change
 	fresh   chan chan uint64
 
-	generation atomic.Uint64 // of the replica
-	sessions   atomic.Int64  // open ones
-	accepted   atomic.Int64
-	head       atomic.Uint64 // where the log ended when etcd was last asked
-	headTime   atomic.Int64  // when that was, in seconds
+	sessions atomic.Int64 // open ones
+	accepted atomic.Int64
+	head     atomic.Uint64 // where the log ended when etcd was last asked
+	headTime atomic.Int64  // when that was, in seconds
 }
 
 // New returns a gateway of a log.
@@ -99,7 +98,8 @@ func (g *Gateway) Run(ctx context.Context) error {
 
 // Ready waits until queries can be answered.
 func (g *Gateway) Ready(ctx context.Context) error {
-	g.board.wait(ctx, 0, 0)
+	for ctx.Err() == nil && !g.board.wait(ctx, waitTime, 0, 0) {
+	}
 	return ctx.Err()
 }
 

@@ -4,8 +4,10 @@ import (
 	"bufio"
 	"bytes"
 	"context"
+	"crypto/tls"
 	"encoding/json"
 	"fmt"
+	"io"
 	"net"
 	"net/http/httptest"
 	"os"
@@ -254,6 +256,42 @@ func TestCallerLeft(t *testing.T) {
 		time.Sleep(10 * time.Millisecond)
 	}
 	s.expect("a change", s.call(address, prune), committed(1, 2))
+}
+
+// TestSlowCallers checks that a caller that never reads, and one that never begins its handshake, are cut off.
+func TestSlowCallers(t *testing.T) {
+	defer func(h, w time.Duration) { handshakeTime, writeTime = h, w }(handshakeTime, writeTime)
+	handshakeTime, writeTime = 100*time.Millisecond, 100*time.Millisecond
+	s := newSite(t)
+	g, address, _ := s.gateway("a")
+	conn, _ := s.dial(address)
+	conn.(*net.TCPConn).SetReadBuffer(4096)
+	conn.SetWriteDeadline(time.Now().Add(20 * time.Second))
+	lines := []byte(strings.Repeat(show+"\n", 1000))
+	for count := 0; ; count++ {
+		if _, err := conn.Write(lines); err != nil {
+			break
+		}
+		if count == 2000 {
+			t.Fatal("a caller that never reads is served")
+		}
+	}
+	secure := New(s.log, Options{TLS: &tls.Config{}})
+	on, err := net.Listen("tcp", "127.0.0.1:0")
+	if err != nil {
+		t.Fatal(err)
+	}
+	go secure.Serve(s.ctx, on, false)
+	_, in := s.dial(on.Addr().String())
+	if _, err := in.ReadByte(); err != io.EOF {
+		t.Errorf("a caller without a handshake: got %v", err)
+	}
+	for i := 0; g.sessions.Load()+secure.sessions.Load() > 0; i++ {
+		if i == 500 {
+			t.Fatal("a connection stays")
+		}
+		time.Sleep(10 * time.Millisecond)
+	}
 }
 
 func TestStatus(t *testing.T) {

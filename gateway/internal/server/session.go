@@ -9,19 +9,18 @@ import (
 	"sync/atomic"
 	"time"
 
+	"regd/gateway/internal/etcd"
 	"regd/gateway/internal/policy"
 	"regd/gateway/internal/wire"
 )
 
 const (
-	mostRow     = 256              // lines of a connection that are under way
-	waitTime    = 20 * time.Second // for an answer; then the connection ends
-	afterTime   = 2 * time.Second  // that a query waits for the commit number of its caller
-	writeTime   = 60 * time.Second // for a caller that doesn't read
-	flushSize   = 1 << 15
-	readBuffer  = 1 << 13
-	retryTime   = time.Millisecond
-	restartTime = 20 * time.Millisecond
+	mostRow    = 256              // lines of a connection that are under way
+	waitTime   = 20 * time.Second // for an answer; then the connection ends
+	afterTime  = 2 * time.Second  // that a query waits for the commit number of its caller
+	retryTime  = 2 * time.Millisecond
+	flushSize  = 1 << 15
+	readBuffer = 1 << 13
 )
 
 // A session is a connection of a caller. One goroutine reads lines, sends each on its way, and writes the answers in the order of the lines.
@@ -110,20 +109,15 @@ func (s *session) change(ctx context.Context, line []byte) {
 // query sends a line to the replica. It returns false if the session ends.
 func (s *session) query(ctx context.Context, line []byte) bool {
 	if s.isFresh {
-		late, stop := context.WithTimeout(ctx, waitTime)
-		defer stop()
-		head, ok := s.freshHead(late)
-		if !ok || s.board.wait(late, head, 0) == nil {
+		if head, ok := s.freshHead(ctx); !ok || !s.board.wait(ctx, waitTime, head, 0) {
 			return false
 		}
 	}
-	if _, state := s.board.read(); wire.After(line) > state.Place {
+	if after := wire.After(line); after > s.board.place() {
 		if !s.answer(ctx, 0) {
 			return false
 		}
-		late, stop := context.WithTimeout(ctx, afterTime)
-		s.board.wait(late, 0, wire.After(line)) // too early, and regd says W1
-		stop()
+		s.board.wait(ctx, afterTime, 0, after) // if it is still too early, regd says W1
 	}
 	w := waiting{number: s.lines, query: line, reply: make(chan []byte, 1)}
 	s.row = append(s.row, w)
@@ -172,47 +166,31 @@ func (s *session) answer(ctx context.Context, most int) bool {
 
 // await returns the answer to a line, or nil. It asks a query again if regd ended, and if the reply is older than what the caller has seen.
 func (s *session) await(ctx context.Context, w waiting) []byte {
+	if len(w.reply) == 0 && !s.flush() {
+		return nil
+	}
 	late := time.NewTimer(waitTime)
 	defer late.Stop()
 	for {
-		var reply []byte
 		select {
-		case reply = <-w.reply:
-		default:
-			if !s.flush() {
-				return nil
+		case reply := <-w.reply:
+			if w.query == nil || reply != nil && !s.isOld(reply) {
+				return reply
 			}
-			select {
-			case reply = <-w.reply:
-			case <-late.C:
-				return nil
-			case <-ctx.Done():
-				return nil
-			}
-		}
-		if w.query == nil || reply != nil && !s.isOld(reply) {
-			return reply
-		}
-		pause := retryTime
-		if reply == nil {
-			pause = restartTime
-		}
-		select {
-		case <-time.After(pause):
+			etcd.Pause(ctx, retryTime)
+			s.ask(w)
 		case <-late.C:
 			return nil
 		case <-ctx.Done():
 			return nil
 		}
-		s.ask(w)
 	}
 }
 
 // isOld returns true if the worker that answered a query has not yet seen a commit that the caller has seen, or that the gateway has seen.
 func (s *session) isOld(reply []byte) bool {
 	if wire.HasCode(reply, "W1") {
-		_, state := s.board.read()
-		return wire.Place(reply) < state.Place
+		return wire.Place(reply) < s.board.place()
 	}
 	return !wire.IsRefusal(reply) && wire.Place(reply) < s.place
 }

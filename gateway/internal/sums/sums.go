@@ -9,7 +9,7 @@ import (
 	"context"
 	"errors"
 	"fmt"
-	"sync"
+	"sync/atomic"
 	"time"
 
 	"regd/gateway/internal/logline"
@@ -70,38 +70,26 @@ type Mark struct {
 type Booth struct {
 	store         Store
 	program, name string
-
-	mu         sync.Mutex
-	waiting    []Mark
-	isDisputed bool
-	arrived    chan struct{}
+	marks         chan Mark
+	isDisputed    atomic.Bool
 }
 
 // NewBooth returns a booth for a gateway of this name, which stays the same when it is started again. program names regd and everything else
 // that a reply depends on.
 func NewBooth(store Store, program, name string) *Booth {
-	return &Booth{store: store, program: program, name: name, arrived: make(chan struct{}, 1)}
+	return &Booth{store: store, program: program, name: name, marks: make(chan Mark, left)}
 }
 
-// Add submits a checksum without waiting. Of many that wait, only the last ones count.
+// Add submits a checksum without waiting. While etcd doesn't answer, those that there is no room for don't count.
 func (b *Booth) Add(mark Mark) {
-	b.mu.Lock()
-	defer b.mu.Unlock()
-	if b.waiting = append(b.waiting, mark); len(b.waiting) > left {
-		b.waiting = b.waiting[1:]
-	}
 	select {
-	case b.arrived <- struct{}{}:
+	case b.marks <- mark:
 	default:
 	}
 }
 
 // IsDisputed returns true if checksums differ and this gateway is not outvoted.
-func (b *Booth) IsDisputed() bool {
-	b.mu.Lock()
-	defer b.mu.Unlock()
-	return b.isDisputed
-}
+func (b *Booth) IsDisputed() bool { return b.isDisputed.Load() }
 
 // Run votes, and looks at the votes of the others, until it is outvoted or the context ends.
 func (b *Booth) Run(ctx context.Context) error {
@@ -112,19 +100,13 @@ func (b *Booth) Run(ctx context.Context) error {
 		case <-ctx.Done():
 			return ctx.Err()
 		case <-ticks.C:
-		case <-b.arrived:
-		}
-		b.mu.Lock()
-		marks := b.waiting
-		b.waiting = nil
-		b.mu.Unlock()
-		for _, mark := range marks {
+		case mark := <-b.marks:
 			if err := b.vote(ctx, mark); err != nil {
 				return err
 			}
-		}
-		if last = append(last, marks...); len(last) > watched {
-			last = last[len(last)-watched:]
+			if last = append(last, mark); len(last) > watched {
+				last = last[1:]
+			}
 		}
 		isDisputed := false
 		for _, mark := range last {
@@ -134,9 +116,7 @@ func (b *Booth) Run(ctx context.Context) error {
 			}
 			isDisputed = isDisputed || verdict == Disputed
 		}
-		b.mu.Lock()
-		b.isDisputed = isDisputed
-		b.mu.Unlock()
+		b.isDisputed.Store(isDisputed)
 	}
 }
 
@@ -166,7 +146,7 @@ func (b *Booth) count(ctx context.Context, mark Mark) (Verdict, error) {
 		logline.Error("checksums differ", "entry", mark.Entry, "sum", mark.Sum, "votes", votes)
 	}
 	if verdict == Outvoted {
-		return verdict, ErrOutvoted
+		err = ErrOutvoted
 	}
-	return verdict, nil
+	return verdict, err
 }

@@ -103,6 +103,14 @@ func ReadBatch(line []byte) (b Batch, ok bool) {
 	return b, len(b.ops) > 0
 }
 
+// ReadChange reads a line that may be a change. It returns false for a query, and for a line that ReadBatch can't read.
+func ReadChange(line []byte) (Batch, bool) {
+	if !MayChange(line) {
+		return Batch{}, false
+	}
+	return ReadBatch(line)
+}
+
 func isNull(value []byte) bool { return string(value) == "null" }
 
 // IsMixed returns true if the batch changes something and has more than MaxQueries queries.
