@@ -1,0 +1,134 @@
+package snapshot
+
+import (
+	"context"
+	"fmt"
+	"math/rand"
+	"os"
+	"reflect"
+	"strings"
+	"testing"
+	"time"
+
+	"regd/gateway/internal/etcd"
+	"regd/gateway/internal/etcd/etcdtest"
+	"regd/gateway/internal/replica"
+)
+
+func options(t *testing.T) replica.Options {
+	program := os.Getenv("REGD")
+	if program == "" {
+		t.Skip("REGD names no program")
+	}
+	return replica.Options{Program: program, Domain: "ex.org", Workers: 2}
+}
+
+// randomLine returns a change of one of a few rows, sometimes with a token, and sometimes one that regd refuses.
+func randomLine(random *rand.Rand, number int) string {
+	id := fmt.Sprintf(`"id":"00000000-0000-4000-8000-%012x"`, random.Intn(30))
+	entry := fmt.Sprintf(`%s,"parent":"spiffe://ex.org/spire/agent/n%d","identity":"spiffe://ex.org/w%d","selectors":["u:%d"],"hint":"%d","domains":[%s]`,
+		id, random.Intn(3), random.Intn(9), random.Intn(3), number, []string{"", `"b0.org"`, `"b0.org","b1.org"`}[random.Intn(3)])
+	agent := fmt.Sprintf(`"agent":"spiffe://ex.org/spire/agent/n%d"`, random.Intn(3))
+	op := []string{
+		`{"op":"create",` + entry + `}`, `{"op":"create",` + entry + `}`, `{"op":"update",` + entry + `}`, `{"op":"delete",` + id + `}`,
+		`{"op":"set_agent",` + agent + `,"selectors":["x:1"]}`, `{"op":"set_\u0061gent",` + agent + `,"selectors":[]}`, `{"op":"drop_agent",` + agent + `}`,
+		fmt.Sprintf(`{"op":"set_bundle","domain":"b%d.org","text":"\"\\%d"}`, random.Intn(3), number), `{"op":"drop_bundle","domain":"b1.org","mode":"dissociate"}`,
+	}[random.Intn(9)]
+	token := ""
+	if random.Intn(3) == 0 {
+		token = fmt.Sprintf(`,"token":"00000000-0000-4000-9000-%012x"`, random.Intn(200))
+	}
+	return `{"ops":[` + op + `]` + token + `}`
+}
+
+// site returns a log of 400 entries and a replica that has executed all of it.
+func site(t *testing.T, ctx context.Context) (*etcdtest.Server, etcd.Log, *replica.Replica, Names) {
+	store := etcdtest.New()
+	t.Cleanup(store.CloseClientConnections)
+	log := etcd.Log{Client: etcd.NewClient([]string{store.URL}, "r/", nil)}
+	log.PutNew(ctx, "head", []byte("0"))
+	random := rand.New(rand.NewSource(1))
+	for entry := uint64(1); entry <= 400; entry++ {
+		if _, err := log.Append(ctx, entry, etcd.JoinEntry(fmt.Sprint(entry), [][]byte{[]byte(randomLine(random, int(entry))), []byte(emptyLine)})); err != nil {
+			t.Fatal(err)
+		}
+	}
+	r, names := started(t, ctx), NewNames()
+	if err := replay(ctx, log, r, names, 1, 400); err != nil {
+		t.Fatal(err)
+	}
+	return store, log, r, names
+}
+
+func started(t *testing.T, ctx context.Context) *replica.Replica {
+	r, err := replica.Start(ctx, options(t), func(replica.State) {})
+	if err != nil {
+		t.Fatal(err)
+	}
+	t.Cleanup(r.Close)
+	return r
+}
+
+// TestMake compares a replica that begins with a snapshot with one that has executed the whole log. It needs REGD.
+func TestMake(t *testing.T) {
+	ctx, cancel := context.WithTimeout(context.Background(), time.Minute)
+	defer cancel()
+	store, log, whole, names := site(t, ctx)
+	for _, keep := range []uint64{300, 100, 7} {
+		if err := Make(ctx, log, options(t), keep); err != nil {
+			t.Fatal(err)
+		}
+		last, noted := 400-keep, NewNames()
+		r := started(t, ctx)
+		first, err := Load(ctx, log, r, noted)
+		if err != nil || first != last+1 {
+			t.Fatalf("the log begins at %d, %v", first, err)
+		}
+		if err := replay(ctx, log, r, noted, first, 400); err != nil {
+			t.Fatal(err)
+		}
+		if r.State() != whole.State() || !reflect.DeepEqual(r.Tokens(), whole.Tokens()) {
+			t.Errorf("keep %d: got %v, want %v", keep, r.State(), whole.State())
+		}
+		got, _ := bookLines(r, names)
+		want, _ := bookLines(whole, names)
+		if len(want) == 0 || strings.Join(got, "\n") != strings.Join(want, "\n") {
+			t.Errorf("keep %d: another book", keep)
+		}
+		if keys := store.Keys(); len(keys) > int(keep)+3 {
+			t.Errorf("keep %d: %d keys stay", keep, len(keys))
+		}
+	}
+	before := strings.Join(store.Keys(), " ")
+	if err := Make(ctx, log, options(t), 7); err != nil || strings.Join(store.Keys(), " ") != before {
+		t.Errorf("a snapshot of nothing new: %v", err)
+	}
+}
+
+// TestVerify checks that a snapshot that makes another book is refused. It needs REGD.
+func TestVerify(t *testing.T) {
+	ctx, cancel := context.WithTimeout(context.Background(), time.Minute)
+	defer cancel()
+	_, _, r, names := site(t, ctx)
+	lines, err := bookLines(r, names)
+	if err != nil {
+		t.Fatal(err)
+	}
+	sum := strings.Repeat("00", 32)
+	changed := append([]string{}, lines...)
+	changed[len(changed)-1] = strings.Replace(changed[len(changed)-1], `"hint":"`, `"hint":"x`, 1)
+	for _, c := range []struct {
+		name    string
+		content content
+		isRight bool
+	}{
+		{"as it is", content{Place: r.State().Place, Sum: sum, Lines: lines}, true},
+		{"a line changed", content{Place: r.State().Place, Sum: sum, Lines: changed}, false},
+		{"a smaller commit number", content{Place: uint64(len(lines)) - 1, Sum: sum, Lines: lines}, false},
+		{"no checksum", content{Place: r.State().Place, Lines: lines}, false},
+	} {
+		if err := c.content.verify(ctx, options(t), names, 1); (err == nil) != c.isRight {
+			t.Errorf("%s: got %v", c.name, err)
+		}
+	}
+}
