@@ -62,32 +62,29 @@ func parse(words []string) (settings, error) {
 	flags.BoolVar(&s.isSnapshot, "snapshot", false, "make a snapshot, cut the log behind it, and exit")
 	flags.Uint64Var(&s.keep, "keep", 10000, "with -snapshot: how many entries stay in the log")
 	err := flags.Parse(words)
-	if errors.Is(err, flag.ErrHelp) {
-		flags.SetOutput(os.Stderr)
-		flags.PrintDefaults()
-	}
-	if err != nil {
-		return s, err
-	}
 	if host, _ := os.Hostname(); s.name == "" {
 		s.name = host + "/" + s.listen
 	}
 	isTLS := s.files != policy.Files{}
 	switch {
+	case errors.Is(err, flag.ErrHelp):
+		flags.SetOutput(os.Stderr)
+		flags.PrintDefaults()
+	case err != nil:
 	case flags.NArg() > 0:
-		return s, fmt.Errorf("an unknown word: %s", flags.Arg(0))
+		err = fmt.Errorf("an unknown word: %s", flags.Arg(0))
 	case s.domain == "":
-		return s, errors.New("-domain is required")
+		err = errors.New("-domain is required")
 	case s.workers < 2 || s.workers > 32:
-		return s, errors.New("-workers is not 2 to 32")
+		err = errors.New("-workers is not 2 to 32")
 	case isTLS && (s.files.Certificate == "" || s.files.Key == "" || s.files.Authorities == ""):
-		return s, errors.New("TLS takes -certificate, -key and -authorities")
+		err = errors.New("TLS takes -certificate, -key and -authorities")
 	case !isTLS && s.operators != "":
-		return s, errors.New("-operators needs TLS")
+		err = errors.New("-operators needs TLS")
 	case !isTLS && !(isLoopback(s.listen) && isLoopback(s.fresh)):
-		return s, errors.New("without TLS the gateway listens on loopback addresses alone")
+		err = errors.New("without TLS the gateway listens on loopback addresses alone")
 	}
-	return s, nil
+	return s, err
 }
 
 // isLoopback returns true if no other machine can connect to the address.
@@ -121,10 +118,10 @@ func run(ctx context.Context, s settings) error {
 	ctx, stop := context.WithCancel(ctx)
 	defer stop()
 	program, err := exec.LookPath(s.program)
-	if err != nil {
-		return err
+	var text []byte
+	if err == nil {
+		text, err = os.ReadFile(program)
 	}
-	text, err := os.ReadFile(program)
 	if err != nil {
 		return err
 	}

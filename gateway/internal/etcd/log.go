@@ -56,12 +56,11 @@ func (l Log) Append(ctx context.Context, number uint64, value []byte) (uint64, e
 	if len(done.Responses) != 2 || len(done.Responses[1].Range.Kvs) == 0 {
 		return 0, errors.New("etcd: the log has no head")
 	}
-	last, err := strconv.ParseUint(string(done.Responses[1].Range.Kvs[0].Value), 10, 64)
-	if err != nil {
-		return 0, err
-	}
 	had := done.Responses[0].Range.Kvs
+	last, err := strconv.ParseUint(string(done.Responses[1].Range.Kvs[0].Value), 10, 64)
 	switch {
+	case err != nil:
+		return 0, err
 	case len(had) == 0:
 		return last, ErrGone
 	case bytes.Equal(had[0].Value, value):
@@ -71,46 +70,51 @@ func (l Log) Append(ctx context.Context, number uint64, value []byte) (uint64, e
 	return last, ErrTaken
 }
 
-// pageSize is how many entries Follow reads in one call.
-const pageSize = 500
+// Follow reads up to mostEntries at a time, and fewer after a page of more than mostBytes.
+const mostEntries, mostBytes = 500, 1 << 22
 
 // Follow passes all entries from a number on to take, in order and without a gap: first those that exist, then, after a call of caughtUp, new
 // ones. It ends if take returns false, with the context, or with an error, and returns the number of the entry that is due next.
 func (l Log) Follow(ctx context.Context, next uint64, caughtUp func(last uint64), take func(number uint64, value []byte) bool) (uint64, error) {
-	var revision int64
-	for isSecond := false; ; {
+	for size, isSecond := uint64(16), false; ; {
 		var page found
 		// bounded by keys: given a limit, etcd also counts all keys after the page
-		request := object{"key": l.key(EntryKey(next)), "range_end": l.key(EntryKey(next + pageSize))}
+		request := object{"key": l.key(EntryKey(next)), "range_end": l.key(EntryKey(next + size))}
 		if err := l.call(ctx, pageTime, "/v3/kv/range", request, &page); err != nil {
 			return next, err
 		}
+		bytes := 0
 		for _, one := range page.Kvs {
-			if !bytes.Equal(one.Key, l.key(EntryKey(next))) {
+			if string(one.Key) != l.prefix+EntryKey(next) {
 				return next, ErrCut
 			}
 			if !take(next, one.Value) {
 				return next, nil
 			}
 			next++
+			bytes += len(one.Value)
 		}
-		if revision = page.Header.Revision; len(page.Kvs) == pageSize {
+		isFull := uint64(len(page.Kvs)) == size
+		if size *= 2; bytes > mostBytes {
+			size = 16
+		} else if size > mostEntries {
+			size = mostEntries
+		}
+		if isFull {
 			continue
 		}
 		head, err := l.Head(ctx)
-		if err != nil {
+		switch {
+		case err != nil:
 			return next, err
-		}
-		if len(page.Kvs) > 0 || head < next {
-			break
-		}
-		if isSecond {
+		case len(page.Kvs) > 0 || head < next:
+			caughtUp(next - 1)
+			return l.watch(ctx, next, page.Header.Revision+1, take)
+		case isSecond:
 			return next, ErrCut
 		}
 		isSecond = true // an entry may have been made between the two calls
 	}
-	caughtUp(next - 1)
-	return l.watch(ctx, next, revision+1, take)
 }
 
 // watch passes on the entries that are made from a revision on.
@@ -131,14 +135,11 @@ func (l Log) watch(ctx context.Context, next uint64, revision int64, take func(u
 				Events   []struct{ Kv pair }
 			}
 		}
-		if err := in.Decode(&news); err != nil {
-			return next, fmt.Errorf("watch: %w", err)
-		}
-		if news.Error != nil || news.Result.Canceled {
-			return next, fmt.Errorf("watch: etcd ended it: %v", news.Error)
+		if err := in.Decode(&news); err != nil || news.Error != nil || news.Result.Canceled {
+			return next, fmt.Errorf("watch: %v, %v", err, news.Error)
 		}
 		for _, event := range news.Result.Events {
-			if !bytes.Equal(event.Kv.Key, l.key(EntryKey(next))) {
+			if string(event.Kv.Key) != l.prefix+EntryKey(next) {
 				return next, fmt.Errorf("watch: got %s, but entry %d is due", event.Kv.Key, next)
 			}
 			if !take(next, event.Kv.Value) {

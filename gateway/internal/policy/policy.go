@@ -26,7 +26,7 @@ type Caller struct {
 // For anybody else the gateway writes the line from what it has read, so that what was checked is what regd runs.
 func Admit(caller Caller, line []byte) (admitted []byte, code string) {
 	if !caller.IsOperator {
-		if line = ownQuery(caller.ID, line); line == nil {
+		if line = ownQuery(caller.ID, line); line == nil || wire.MayChange(line) { // of no agent a line reaches the log
 			return nil, NotAllowed
 		}
 		return line, ""

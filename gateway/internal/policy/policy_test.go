@@ -55,6 +55,14 @@ func TestAdmitNobody(t *testing.T) {
 	}
 }
 
+// TestAdmitStrangeAgent checks that a line is refused if the agent's name makes it one for the log.
+func TestAdmitStrangeAgent(t *testing.T) {
+	const strange = "spiffe://ex.org/spire/agent/a&b"
+	if line, code := Admit(Caller{ID: strange}, []byte(strings.ReplaceAll(web, n1, strange))); code != NotAllowed {
+		t.Errorf("got %s", line)
+	}
+}
+
 func TestAdmitOperator(t *testing.T) {
 	operator := Caller{ID: "spiffe://ex.org/operator", IsOperator: true}
 	query := `{"op":"children","parent":"` + n1 + `"}`

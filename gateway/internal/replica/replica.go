@@ -109,13 +109,10 @@ func (r *Replica) Settle() bool { return r.process.links[0].settle(0) }
 
 func (r *Replica) apply(line []byte, answer func(reply []byte)) {
 	writer := r.process.links[0]
-	tokened, hasToken := wire.ReadTokened(line)
 	var kept *Kept
-	if hasToken {
+	if tokened, ok := wire.ReadTokened(line); ok {
 		if r.find(tokened.Token) != nil { // rare, and the answer may depend on changes that are under way
-			if !writer.settle(0) {
-				return
-			}
+			writer.settle(0)
 			if kept := r.find(tokened.Token); kept != nil {
 				if reply := r.again(kept, tokened); reply != nil {
 					answer(reply)
@@ -145,14 +142,12 @@ func (r *Replica) find(token string) *Kept {
 // other change is under way. It returns nil if regd has ended.
 func (r *Replica) again(kept *Kept, tokened wire.Tokened) []byte {
 	reply := r.process.links[0].call(string(tokened.Probe))
-	if reply == nil || r.leaves(reply) {
-		return nil
-	}
-	if !wire.HasCode(reply, "W1") {
-		return reply
-	}
 	place := r.State().Place
 	switch {
+	case reply == nil || r.leaves(reply):
+		return nil
+	case !wire.HasCode(reply, "W1"):
+		return reply
 	case tokened.After > place:
 		return wire.Refused("W1", place)
 	case kept.Same != tokened.Same:

@@ -69,13 +69,12 @@ func (g *Gateway) heard(head uint64) {
 // Open prepares a log for a trust domain. It returns an error if the log is that of another one.
 func Open(ctx context.Context, log etcd.Log, domain string) error {
 	had, err := log.PutNew(ctx, "domain", []byte(domain))
-	if err != nil {
-		return err
+	if err == nil && string(had) != domain {
+		err = fmt.Errorf("this log is that of the trust domain %s", had)
 	}
-	if string(had) != domain {
-		return fmt.Errorf("this log is that of the trust domain %s", had)
+	if err == nil {
+		_, err = log.PutNew(ctx, "head", []byte("0"))
 	}
-	_, err = log.PutNew(ctx, "head", []byte("0"))
 	return err
 }
 
@@ -111,18 +110,15 @@ func (g *Gateway) Serve(ctx context.Context, on net.Listener, isFresh bool) erro
 	}()
 	for {
 		conn, err := on.Accept()
-		if ctx.Err() != nil {
-			return ctx.Err()
-		}
-		if errors.Is(err, net.ErrClosed) {
+		switch {
+		case err == nil:
+			go g.receive(ctx, conn, isFresh)
+		case ctx.Err() != nil || errors.Is(err, net.ErrClosed):
 			return err
-		}
-		if err != nil { // such as: no free descriptor
+		default: // such as: no free descriptor
 			logline.Error("accept failed", "error", err)
-			time.Sleep(10 * time.Millisecond)
-			continue
+			etcd.Pause(ctx, 10*time.Millisecond)
 		}
-		go g.receive(ctx, conn, isFresh)
 	}
 }
 
@@ -145,11 +141,8 @@ func (g *Gateway) receive(ctx context.Context, conn net.Conn, isFresh bool) {
 		conn.SetDeadline(time.Time{})
 		conn = secure
 	}
-	s := &session{
-		Gateway: g, conn: conn, in: bufio.NewReaderSize(conn, readBuffer), caller: caller, isFresh: isFresh,
-		number: int(g.accepted.Add(1)),
-	}
-	s.serve(ctx)
+	in := bufio.NewReaderSize(conn, readBuffer)
+	(&session{Gateway: g, conn: conn, in: in, caller: caller, isFresh: isFresh, number: int(g.accepted.Add(1))}).serve(ctx)
 }
 
 // ServeHTTP answers with the status of the gateway as JSON: with 200 if it answers queries, otherwise with 503.
