@@ -11,7 +11,7 @@ import subprocess
 import sys
 import time
 
-from gatewaytools import cluster, faults
+from gatewaytools import cluster, differential, faults, plain, rules
 
 AGENT = "spiffe://ex.org/spire/agent/n1"
 OTHER = "spiffe://ex.org/spire/agent/n2"
@@ -184,7 +184,7 @@ def talk(folder, port, who, *lines, version=None):
     if who:
         context.load_cert_chain(f"{folder}/{who}.pem", f"{folder}/{who}.key")
     try:
-        with socket.create_connection(("127.0.0.1", port), 10) as plain, context.wrap_socket(plain, server_hostname="gateway.ex.org") as connection:
+        with socket.create_connection(("127.0.0.1", port), 10) as opened, context.wrap_socket(opened, server_hostname="gateway.ex.org") as connection:
             connection.sendall(b"".join(line.encode() + b"\n" for line in lines))
             with connection.makefile("rb") as stream:
                 answers = [stream.readline().decode().rstrip("\n") for _ in lines]
@@ -262,6 +262,36 @@ class SecureEtcd(cluster.Etcd):
         cluster.wait_for(listens, 30, "etcd")
 
 
+# ---- retained tokens
+
+
+def tokens(programs, folder):
+    """The last 65,536 tokens are retained and no others, also by a gateway that starts again, from the log and from a snapshot."""
+    count = rules.MOST_TOKENS + 100
+    lines = [b'{"ops":[{"op":"prune","before":0}],"token":"00000000-0000-4000-8000-%012x"}' % number for number in range(count)]
+    with cluster.Etcd(pathlib.Path(folder) / "etcd", 1) as etcd, cluster.Gateway(programs.gateway, programs.regd, etcd, folder, 0) as gateway:
+        first = differential.answers_of(gateway.port, b"".join(line + b"\n" for line in lines))
+        expect(all(answer.endswith(b'"committed"}') for answer in first), True, "all changes")
+
+        def boundary(oldest):
+            """Checks which token is the oldest one. Afterwards the next one is."""
+            repeated, again = gateway.call(lines[oldest], lines[oldest - 1])
+            expect(plain.tail(repeated), plain.tail(first[oldest]).replace(b'"committed"}', b'"repeated"}'), "the oldest retained token")
+            expect(again.endswith(b'"committed"}'), True, "a forgotten token")
+
+        boundary(100)
+        gateway.kill()
+        gateway.start()
+        boundary(101)
+        words = [programs.gateway, "-domain", cluster.DOMAIN, "-etcd", etcd.urls[0], "-regd", programs.regd, "-snapshot", "-keep", "1"]
+        subprocess.run(words, check=True, capture_output=True)
+        gateway.kill()
+        gateway.start()
+        boundary(102)
+        expect(gateway.status()["tokens"], rules.MOST_TOKENS, "tokens")
+    return f"{count} tokens, the oldest retained one as expected, three times"
+
+
 # ---- many callers
 
 
@@ -297,4 +327,4 @@ def many_callers(programs, folder):
         return f"920 idle connections, longest wait of another caller {max(waits):.2f} s"
 
 
-SCENARIOS = {"memory": memory, "full-etcd": full_etcd, "wrong-replica": wrong_replica, "identity": identity, "many-callers": many_callers}
+SCENARIOS = {"memory": memory, "full-etcd": full_etcd, "wrong-replica": wrong_replica, "identity": identity, "many-callers": many_callers, "tokens": tokens}
