@@ -180,6 +180,20 @@ func TestGateways(t *testing.T) {
 	}
 }
 
+// TestSilentWatch holds the watch of one gateway. Its usual port doesn't see a change of another one. A fresh query does: the gateway notices that
+// the watch is silent, and reads the log again.
+func TestSilentWatch(t *testing.T) {
+	s := newSite(t)
+	_, first, _ := s.gateway("a")
+	_, usual, fresh := s.gateway("b")
+	s.expect("a change", s.call(first, prune), committed(1, 1))
+	s.expect("a fresh query", s.call(fresh, show), answered(1, 1))
+	s.store.HoldWatch()
+	s.expect("a change that the other one doesn't see", s.call(first, prune), committed(1, 2))
+	s.expect("the usual port", s.call(usual, show), answered(1, 1))
+	s.expect("the fresh port", s.call(fresh, show), answered(1, 2))
+}
+
 // TestLostAppend loses answers of etcd: an entry is made once.
 func TestLostAppend(t *testing.T) {
 	s := newSite(t)

@@ -119,6 +119,13 @@ def stopped_regd(site):
     os.kill(regd, signal.SIGCONT)
 
 
+def stopped_gateway(site):
+    process = site.gateways[1].process
+    os.kill(process.pid, signal.SIGSTOP)
+    time.sleep(3)
+    os.kill(process.pid, signal.SIGCONT)
+
+
 def killed_all(site):
     for _ in range(2):
         for number in range(MEMBERS):
@@ -163,7 +170,7 @@ def everything(site):
 
 
 FAULTS = {fault.__name__: fault for fault in (nothing, killed_regds, killed_gateways, killed_leader, killed_follower, lost_majority,
-                                              stopped_members, stopped_regd, killed_all, snapshots, everything)}
+                                              stopped_members, stopped_regd, stopped_gateway, killed_all, snapshots, everything)}
 
 
 # ---- what is checked

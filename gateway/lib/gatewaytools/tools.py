@@ -30,10 +30,10 @@ def need(*commands):
     subprocess.run(words, check=True, stdout=subprocess.DEVNULL, env={**os.environ, "DEBIAN_FRONTEND": "noninteractive"})
 
 
-def go(*words, **more):
+def go(*words, env=None, cwd=SOURCES, **more):
     """Runs the command go on the sources, without a network."""
-    environment = {**os.environ, "GOFLAGS": "-mod=mod", "GOPROXY": "off", "GOTOOLCHAIN": "local", **more.pop("env", {})}
-    return subprocess.run(["go", *words], cwd=SOURCES, env=environment, **more)
+    environment = {**os.environ, "GOFLAGS": "-mod=mod", "GOPROXY": "off", "GOTOOLCHAIN": "local", **(env or {})}
+    return subprocess.run(["go", *words], cwd=cwd, env=environment, **more)
 
 
 def build(folder, regd, *words):

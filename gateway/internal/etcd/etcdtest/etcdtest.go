@@ -20,6 +20,7 @@ type Server struct {
 	changed  chan struct{} // closed and replaced at each put
 
 	loseAnswers, refuse int
+	watches, held       int // the number of watches so far, and of the one that is held
 }
 
 type event struct {
@@ -48,6 +49,9 @@ func (s *Server) LoseAnswers(count int) { s.mu.Lock(); s.loseAnswers = count; s.
 
 // Refuse makes the server answer the next requests with an error.
 func (s *Server) Refuse(count int) { s.mu.Lock(); s.refuse = count; s.mu.Unlock() }
+
+// HoldWatch makes the watch that was opened last bring nothing more.
+func (s *Server) HoldWatch() { s.mu.Lock(); s.held = s.watches; s.mu.Unlock() }
 
 // Keys returns all keys in order.
 func (s *Server) Keys() []string {
@@ -171,6 +175,10 @@ func (s *Server) watch(w http.ResponseWriter, r *http.Request) {
 		http.Error(w, err.Error(), http.StatusBadRequest)
 		return
 	}
+	s.mu.Lock()
+	s.watches++
+	number := s.watches
+	s.mu.Unlock()
 	from, out := in.CreateRequest, json.NewEncoder(w)
 	out.Encode(object{"result": object{"created": true}})
 	for next := 0; ; {
@@ -178,6 +186,9 @@ func (s *Server) watch(w http.ResponseWriter, r *http.Request) {
 		s.mu.Lock()
 		news, changed := s.events[next:], s.changed
 		next = len(s.events)
+		if s.held == number {
+			news = nil
+		}
 		s.mu.Unlock()
 		for _, one := range news {
 			if one.revision >= from.StartRevision && string(from.Key) <= string(one.key) && string(one.key) < string(from.RangeEnd) {
