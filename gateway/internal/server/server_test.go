@@ -70,10 +70,21 @@ func (s *site) gateway(name string) (*Gateway, string, string) {
 		if err != nil {
 			s.t.Fatal(err)
 		}
-		go g.Serve(ctx, on, isFresh)
+		go g.Serve(ctx, small{on}, isFresh)
 		addresses = append(addresses, on.Addr().String())
 	}
 	return g, addresses[0], addresses[1]
+}
+
+// small is a listener whose connections have small buffers, so that a caller that doesn't read is noticed soon.
+type small struct{ net.Listener }
+
+func (l small) Accept() (net.Conn, error) {
+	conn, err := l.Listener.Accept()
+	if err == nil {
+		conn.(*net.TCPConn).SetWriteBuffer(4096)
+	}
+	return conn, err
 }
 
 func (s *site) dial(address string) (net.Conn, *bufio.Reader) {
