@@ -147,18 +147,14 @@ func (c *Client) Put(ctx context.Context, name string, value []byte) error {
 
 // PutNew stores a value if the key has none, and returns the value that the key has then.
 func (c *Client) PutNew(ctx context.Context, name string, value []byte) ([]byte, error) {
-	for {
-		if had, err := c.Get(ctx, name); had != nil || err != nil {
-			return had, err
-		}
-		request := object{
-			"compare": []object{{"target": "CREATE", "key": c.key(name), "create_revision": "0"}},
-			"success": []object{{"request_put": object{"key": c.key(name), "value": value}}},
-		}
-		if err := c.insist(ctx, "/v3/kv/txn", request, &struct{}{}); err != nil {
-			return nil, err
-		}
+	request := object{
+		"compare": []object{{"target": "CREATE", "key": c.key(name), "create_revision": "0"}},
+		"success": []object{{"request_put": object{"key": c.key(name), "value": value}}},
 	}
+	if err := c.insist(ctx, "/v3/kv/txn", request, &struct{}{}); err != nil {
+		return nil, err
+	}
+	return c.Get(ctx, name)
 }
 
 // Delete deletes the keys from one name up to and without another.

@@ -1,11 +1,11 @@
 package replica
 
 import (
-	"bufio"
 	"bytes"
 	"context"
 	"encoding/json"
 	"fmt"
+	"io"
 	"net"
 	"os"
 	"os/exec"
@@ -50,30 +50,32 @@ func startProcess(ctx context.Context, options Options) (*process, error) {
 	p := &process{command: command}
 	late := time.AfterFunc(startTime, func() { command.Process.Kill() })
 	defer late.Stop()
-	line, err := bufio.NewReader(out).ReadBytes('\n')
-	var first struct{ Listening string }
-	if err == nil {
-		err = json.Unmarshal(line, &first)
-	}
-	if err != nil {
+	if err := p.connect(out, options.Workers); err != nil {
 		p.stop()
-		return nil, fmt.Errorf("regd didn't listen: %w", err)
+		return nil, err
 	}
-	for i := 0; i < options.Workers; i++ {
+	return p, nil
+}
+
+// connect opens all connections to the address that regd prints.
+func (p *process) connect(out io.Reader, workers int) error {
+	var first struct{ Listening string }
+	if err := json.NewDecoder(out).Decode(&first); err != nil {
+		return fmt.Errorf("regd didn't listen: %w", err)
+	}
+	for i := 0; i < workers; i++ {
 		conn, err := net.Dial("tcp", first.Listening)
 		if err != nil {
-			p.stop()
-			return nil, err
+			return err
 		}
 		l := newLink(conn)
 		p.links = append(p.links, l)
 		go l.read()
 		if reply := l.call(firstLine); !bytes.HasPrefix(reply, []byte(`{"call":1,`)) {
-			p.stop()
-			return nil, fmt.Errorf("connection %d to regd isn't alone on its worker: %s", i, reply)
+			return fmt.Errorf("connection %d to regd isn't alone on its worker: %s", i, reply)
 		}
 	}
-	return p, nil
+	return nil
 }
 
 // stop kills regd and waits for its end.

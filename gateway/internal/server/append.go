@@ -26,33 +26,17 @@ type change struct {
 
 func (c *change) answer(reply []byte) { c.once.Do(func() { c.reply <- reply }) }
 
-// flights are the entries of this gateway that are not yet answered: their changes, by their names.
-type flights struct {
-	mu     sync.Mutex
-	byName map[string][]*change
-}
-
-// set adds an entry, or drops it if there are no changes.
-func (f *flights) set(name string, changes []*change) {
-	f.mu.Lock()
-	defer f.mu.Unlock()
-	if f.byName[name] = changes; changes == nil {
-		delete(f.byName, name)
-	}
-}
-
 // answering returns the function that answers the lines of an entry. Entries of other gateways are answered there. If a replica ends in the
 // middle of an entry, the next one executes all of it, and answers what is not answered.
-func (f *flights) answering(name string) func(number int, reply []byte) {
-	f.mu.Lock()
-	defer f.mu.Unlock()
-	changes := f.byName[name]
+func (g *Gateway) answering(name string) func(number int, reply []byte) {
+	value, isOwn := g.flights.Load(name)
 	return func(number int, reply []byte) {
-		if changes == nil {
+		if !isOwn {
 			return
 		}
+		changes := value.([]*change)
 		if changes[number].answer(reply); number == len(changes)-1 { // replies come in order
-			f.set(name, nil)
+			g.flights.Delete(name)
 		}
 	}
 }
@@ -69,14 +53,14 @@ func (g *Gateway) appendChanges(ctx context.Context) error {
 			continue
 		}
 		name := fmt.Sprintf("%s.%d", g.run, count)
-		g.flights.set(name, changes)
+		g.flights.Store(name, changes)
 		last, err := g.append(ctx, next, etcd.JoinEntry(name, lines))
 		switch {
 		case ctx.Err() != nil:
 			return ctx.Err()
 		case err != nil: // to append the changes again might make them twice
 			logline.Error("it is not known whether an entry was made", "entry", name, "error", err)
-			g.flights.set(name, nil)
+			g.flights.Delete(name)
 			for _, c := range changes {
 				c.answer(nil)
 			}

@@ -72,7 +72,7 @@ func (g *Gateway) runReplica(ctx context.Context, began time.Time) (isReady bool
 	}
 	take := func(number uint64, value []byte) bool {
 		name, lines := etcd.SplitEntry(value)
-		return r.Apply(number, lines, g.flights.answering(name))
+		return r.Apply(number, lines, g.answering(name))
 	}
 	for {
 		part, stop := context.WithCancel(ctx)

@@ -11,6 +11,7 @@ import (
 	"fmt"
 	"net"
 	"net/http"
+	"sync"
 	"sync/atomic"
 	"time"
 
@@ -41,7 +42,7 @@ type Gateway struct {
 	run     string // no other gateway, and no other run of this one, has it
 	board   *board
 	booth   *sums.Booth
-	flights flights
+	flights sync.Map // from the names of this gateway's entries that are not yet answered to their changes
 	changes chan *change
 	fresh   chan chan uint64
 
@@ -56,7 +57,6 @@ func New(log etcd.Log, options Options) *Gateway {
 	return &Gateway{
 		log: log, options: options, run: wire.NewID(), board: newBoard(),
 		booth:   sums.NewBooth(log, options.Program, options.Name),
-		flights: flights{byName: map[string][]*change{}},
 		changes: make(chan *change, 4096), fresh: make(chan chan uint64, 4096),
 	}
 }

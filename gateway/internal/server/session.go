@@ -80,7 +80,7 @@ func (s *session) serve(ctx context.Context) {
 			return
 		}
 		if s.isChanging = isChange; isChange {
-			s.change(ctx, line)
+			s.change(line)
 		} else if !s.query(ctx, line) {
 			return
 		}
@@ -94,16 +94,13 @@ func (s *session) hasLine() bool {
 }
 
 // change sends a line to the log.
-func (s *session) change(ctx context.Context, line []byte) {
+func (s *session) change(line []byte) {
 	if b, ok := wire.ReadBatch(line); ok {
 		line = b.WithIDs(wire.NewID)
 	}
 	c := &change{line: line, reply: make(chan []byte, 1), left: &s.left}
 	s.row = append(s.row, waiting{number: s.lines, reply: c.reply})
-	select {
-	case s.changes <- c:
-	case <-ctx.Done():
-	}
+	s.changes <- c
 }
 
 // query sends a line to the replica. It returns false if the session ends.
