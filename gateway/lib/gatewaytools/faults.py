@@ -97,6 +97,9 @@ def lost_majority(site):
     for number in both:
         site.etcd.kill(number)
     time.sleep(4)
+    for gateway in site.gateways:
+        [answer] = gateway.call(cluster.page(), seconds=2)  # queries go on
+        assert answer.endswith(b'"answered"}'), answer
     for number in both:
         site.etcd.start(number)
     for number in both:
