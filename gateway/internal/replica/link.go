@@ -18,10 +18,11 @@ type link struct {
 	waiting   []func(reply []byte) // one for each line whose reply hasn't come
 	open      int                  // lines whose reply is not yet passed on
 	isDown    bool
+	ended     chan struct{} // closed with the connection
 }
 
 func newLink(conn net.Conn) *link {
-	l := &link{conn: conn}
+	l := &link{conn: conn, ended: make(chan struct{})}
 	l.changed.L = &l.mu
 	return l
 }
@@ -105,6 +106,9 @@ func (l *link) read() {
 func (l *link) close() {
 	l.conn.Close()
 	l.mu.Lock()
+	if !l.isDown {
+		close(l.ended)
+	}
 	lost := l.waiting
 	l.waiting, l.pending, l.isDown = nil, nil, true
 	l.changed.Broadcast()

@@ -54,7 +54,7 @@ func Start(ctx context.Context, options Options, onEntry func(State)) (*Replica,
 	r := &Replica{process: process, onEntry: onEntry, done: make(chan struct{}), tokens: NewTokens(MostTokens)}
 	for _, l := range process.links {
 		go func(l *link) {
-			l.settle(-1) // returns when the connection has ended
+			<-l.ended
 			r.Close()
 		}(l)
 	}

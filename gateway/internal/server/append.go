@@ -72,6 +72,7 @@ func (g *Gateway) appendChanges(ctx context.Context) error {
 // append appends an entry with the first free number, exactly once. It returns the number of the last entry of the log; with an error the entry
 // may have been made.
 func (g *Gateway) append(ctx context.Context, next uint64, value []byte) (uint64, error) {
+	pause := 50 * time.Millisecond
 	for isOpen := false; ; {
 		last, err := g.log.Append(ctx, next, value)
 		switch {
@@ -84,8 +85,11 @@ func (g *Gateway) append(ctx context.Context, next uint64, value []byte) (uint64
 		default: // the same again, since it may have been made, or may still be made
 			logline.Error("no answer to an append", "entry", next, "error", err)
 			isOpen = true
-			if etcd.Pause(ctx, 50*time.Millisecond); ctx.Err() != nil {
+			if etcd.Pause(ctx, pause); ctx.Err() != nil {
 				return 0, ctx.Err()
+			}
+			if pause < 400*time.Millisecond {
+				pause *= 2
 			}
 		}
 	}

@@ -54,11 +54,13 @@ type Gateway struct {
 
 // New returns a gateway of a log.
 func New(log etcd.Log, options Options) *Gateway {
-	return &Gateway{
+	g := &Gateway{
 		log: log, options: options, run: wire.NewID(), board: newBoard(),
 		booth:   sums.NewBooth(log, options.Program, options.Name),
 		changes: make(chan *change, 4096), fresh: make(chan chan uint64, 4096),
 	}
+	g.heard(0)
+	return g
 }
 
 func (g *Gateway) heard(head uint64) {

@@ -145,6 +145,39 @@ func TestOrder(t *testing.T) {
 	s.expect("many lines", s.call(address, many...), want...)
 }
 
+// TestLongLines checks that a connection stops reading while its lines under way are long, and that all are answered.
+func TestLongLines(t *testing.T) {
+	s := newSite(t)
+	g, address, _ := s.gateway("a")
+	long := prune + strings.Repeat(" ", wire.MaxLine-len(prune))
+	var lines, want []string
+	for i := 0; i < 12; i++ {
+		lines, want = append(lines, long), append(want, committed(i+1, i+1))
+	}
+	most := make(chan int)
+	stop := make(chan struct{})
+	go func() {
+		seen := 0
+		for {
+			select {
+			case <-stop:
+				most <- seen
+				return
+			case <-time.After(time.Millisecond):
+				if now := len(g.changes); now > seen {
+					seen = now
+				}
+			}
+		}
+	}()
+	s.store.Refuse(10) // so that lines pile up
+	s.expect("long lines", s.call(address, lines...), want...)
+	close(stop)
+	if seen := <-most; seen > mostSize/wire.MaxLine+1 {
+		t.Errorf("%d long lines waited", seen)
+	}
+}
+
 func TestCutOff(t *testing.T) {
 	s := newSite(t)
 	_, address, _ := s.gateway("a")

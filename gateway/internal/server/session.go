@@ -16,6 +16,7 @@ import (
 
 const (
 	mostRow    = 256              // lines of a connection that are under way
+	mostSize   = 4 << 20          // bytes of such lines, after which no more are read
 	waitTime   = 20 * time.Second // for an answer; then the connection ends
 	afterTime  = 2 * time.Second  // that a query waits for the commit number of its caller
 	retryTime  = 2 * time.Millisecond
@@ -37,6 +38,7 @@ type session struct {
 	number  int // of the connection, which chooses a worker of regd
 
 	row          []waiting // lines whose answer is not yet written
+	size         int       // bytes of these lines
 	isChanging   bool      // the lines of the row are changes
 	lines, calls int
 	place        uint64 // the newest commit number that the caller has seen
@@ -45,9 +47,9 @@ type session struct {
 
 // waiting is a line without its answer.
 type waiting struct {
-	number int
-	query  []byte // nil for a change or a refusal
-	reply  chan []byte
+	number, size int
+	query        []byte // nil for a change or a refusal
+	reply        chan []byte
 }
 
 // serve serves a connection to its end.
@@ -55,7 +57,8 @@ func (s *session) serve(ctx context.Context) {
 	defer s.conn.Close()
 	defer s.left.Store(true)
 	for {
-		if len(s.row) >= mostRow && !s.answer(ctx, mostRow/2) || !s.hasLine() && !s.answer(ctx, 0) {
+		isFull := len(s.row) >= mostRow || s.size > mostSize
+		if isFull && !s.answer(ctx, len(s.row)/2) || !s.hasLine() && !s.answer(ctx, 0) {
 			return
 		}
 		line, code, err := wire.ReadLine(s.in)
@@ -70,9 +73,7 @@ func (s *session) serve(ctx context.Context) {
 			line, code = policy.Admit(s.caller, line)
 		}
 		if code != "" {
-			refused := waiting{number: s.lines, reply: make(chan []byte, 1)}
-			refused.reply <- wire.Refusal(code)
-			s.row = append(s.row, refused)
+			s.add(nil, 0) <- wire.Refusal(code)
 			continue
 		}
 		isChange := wire.MayChange(line)
@@ -98,9 +99,15 @@ func (s *session) change(line []byte) {
 	if b, ok := wire.ReadBatch(line); ok {
 		line = b.WithIDs(wire.NewID)
 	}
-	c := &change{line: line, reply: make(chan []byte, 1), left: &s.left}
-	s.row = append(s.row, waiting{number: s.lines, reply: c.reply})
-	s.changes <- c
+	s.changes <- &change{line: line, reply: s.add(nil, len(line)), left: &s.left}
+}
+
+// add adds the line that was read last to the row, and returns where its answer goes.
+func (s *session) add(query []byte, size int) chan []byte {
+	reply := make(chan []byte, 1)
+	s.row = append(s.row, waiting{s.lines, size, query, reply})
+	s.size += size
+	return reply
 }
 
 // query sends a line to the replica. It returns false if the session ends.
@@ -116,9 +123,8 @@ func (s *session) query(ctx context.Context, line []byte) bool {
 		}
 		s.board.wait(ctx, afterTime, 0, after) // if it is still too early, regd says W1
 	}
-	w := waiting{number: s.lines, query: line, reply: make(chan []byte, 1)}
-	s.row = append(s.row, w)
-	s.ask(w)
+	s.add(line, len(line))
+	s.ask(s.row[len(s.row)-1])
 	return true
 }
 
@@ -142,7 +148,7 @@ func (s *session) ask(w waiting) {
 func (s *session) answer(ctx context.Context, most int) bool {
 	for len(s.row) > most {
 		w := s.row[0]
-		s.row = s.row[1:]
+		s.row, s.size = s.row[1:], s.size-w.size
 		reply := s.await(ctx, w)
 		if reply == nil {
 			s.flush()
