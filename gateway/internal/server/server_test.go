@@ -145,7 +145,7 @@ func TestOrder(t *testing.T) {
 	s.expect("many lines", s.call(address, many...), want...)
 }
 
-// TestLongLines checks that a connection stops reading while its lines under way are long, and that all are answered.
+// TestLongLines checks that long lines of one connection don't pile up, and that all are answered.
 func TestLongLines(t *testing.T) {
 	s := newSite(t)
 	g, address, _ := s.gateway("a")
@@ -170,10 +170,10 @@ func TestLongLines(t *testing.T) {
 			}
 		}
 	}()
-	s.store.Refuse(10) // so that lines pile up
+	s.store.Refuse(10) // so that changes wait
 	s.expect("long lines", s.call(address, lines...), want...)
 	close(stop)
-	if seen := <-most; seen > mostSize/wire.MaxLine+1 {
+	if seen := <-most; seen > 1 {
 		t.Errorf("%d long lines waited", seen)
 	}
 }

@@ -16,7 +16,6 @@ import (
 
 const (
 	mostRow    = 256              // lines of a connection that are under way
-	mostSize   = 4 << 20          // bytes of such lines, after which no more are read
 	waitTime   = 20 * time.Second // for an answer; then the connection ends
 	afterTime  = 2 * time.Second  // that a query waits for the commit number of its caller
 	retryTime  = 2 * time.Millisecond
@@ -38,7 +37,6 @@ type session struct {
 	number  int // of the connection, which chooses a worker of regd
 
 	row          []waiting // lines whose answer is not yet written
-	size         int       // bytes of these lines
 	isChanging   bool      // the lines of the row are changes
 	lines, calls int
 	place        uint64 // the newest commit number that the caller has seen
@@ -47,9 +45,9 @@ type session struct {
 
 // waiting is a line without its answer.
 type waiting struct {
-	number, size int
-	query        []byte // nil for a change or a refusal
-	reply        chan []byte
+	number int
+	query  []byte // nil for a change or a refusal
+	reply  chan []byte
 }
 
 // serve serves a connection to its end.
@@ -57,8 +55,7 @@ func (s *session) serve(ctx context.Context) {
 	defer s.conn.Close()
 	defer s.left.Store(true)
 	for {
-		isFull := len(s.row) >= mostRow || s.size > mostSize
-		if isFull && !s.answer(ctx, len(s.row)/2) || !s.hasLine() && !s.answer(ctx, 0) {
+		if len(s.row) >= mostRow && !s.answer(ctx, mostRow/2) || !s.hasLine() && !s.answer(ctx, 0) {
 			return
 		}
 		line, code, err := wire.ReadLine(s.in)
@@ -73,7 +70,7 @@ func (s *session) serve(ctx context.Context) {
 			line, code = policy.Admit(s.caller, line)
 		}
 		if code != "" {
-			s.add(nil, 0) <- wire.Refusal(code)
+			s.add(nil) <- wire.Refusal(code)
 			continue
 		}
 		isChange := wire.MayChange(line)
@@ -88,7 +85,8 @@ func (s *session) serve(ctx context.Context) {
 	}
 }
 
-// hasLine returns true if the next line has arrived.
+// hasLine returns true if the next line has arrived. It is false for a line that is longer than the buffer, so such a line is read when the lines
+// before it are answered, and a connection holds few bytes.
 func (s *session) hasLine() bool {
 	arrived, _ := s.in.Peek(s.in.Buffered())
 	return bytes.IndexByte(arrived, '\n') >= 0
@@ -99,14 +97,13 @@ func (s *session) change(line []byte) {
 	if b, ok := wire.ReadBatch(line); ok {
 		line = b.WithIDs(wire.NewID)
 	}
-	s.changes <- &change{line: line, reply: s.add(nil, len(line)), left: &s.left}
+	s.changes <- &change{line: line, reply: s.add(nil), left: &s.left}
 }
 
 // add adds the line that was read last to the row, and returns where its answer goes.
-func (s *session) add(query []byte, size int) chan []byte {
+func (s *session) add(query []byte) chan []byte {
 	reply := make(chan []byte, 1)
-	s.row = append(s.row, waiting{s.lines, size, query, reply})
-	s.size += size
+	s.row = append(s.row, waiting{s.lines, query, reply})
 	return reply
 }
 
@@ -123,7 +120,7 @@ func (s *session) query(ctx context.Context, line []byte) bool {
 		}
 		s.board.wait(ctx, afterTime, 0, after) // if it is still too early, regd says W1
 	}
-	s.add(line, len(line))
+	s.add(line)
 	s.ask(s.row[len(s.row)-1])
 	return true
 }
@@ -148,7 +145,7 @@ func (s *session) ask(w waiting) {
 func (s *session) answer(ctx context.Context, most int) bool {
 	for len(s.row) > most {
 		w := s.row[0]
-		s.row, s.size = s.row[1:], s.size-w.size
+		s.row = s.row[1:]
 		reply := s.await(ctx, w)
 		if reply == nil {
 			s.flush()
