@@ -73,8 +73,9 @@ func TestBooths(t *testing.T) {
 	ended := map[string]chan error{}
 	start := func(program, name, sum string) *Booth {
 		b := NewBooth(store, program, name)
-		ended[name] = make(chan error, 1)
-		go func() { ended[name] <- b.Run(ctx) }()
+		end := make(chan error, 1)
+		ended[name] = end
+		go func() { end <- b.Run(ctx) }()
 		b.Add(Mark{Interval, sum})
 		return b
 	}
