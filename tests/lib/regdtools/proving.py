@@ -142,14 +142,15 @@ class Prover:
         return sorted(found, key=lambda proof: -proof.chain)
 
     def start(self, proof, is_first):
-        """Starts `rt ci` in a copy. By itself it gives a proof half as many jobs as there are processors; with RT_JOBS every proof gets one."""
+        """Starts `rt ci` in a copy. By itself it gives a proof half as many jobs as there are processors; with RT_JOBS every proof gets one.
+        All runs stay in one session, since Linux divides the processors evenly among sessions, whatever the priorities in them."""
         copy = self.folder / proof.name
         copy_crates([*proof.below, proof.name], copy, self.sources)
         variables = {} if is_first else {"RT_JOBS": str(self.report.processors)}
         with open(self.folder / f"{proof.name}.log", "w") as printed:
             proof.process = subprocess.Popen(
                 ["nice", "-n", "0" if is_first else "10", "rt", "ci"], cwd=copy, env={**os.environ, **variables}, stdin=subprocess.DEVNULL,
-                stdout=printed, stderr=subprocess.STDOUT, start_new_session=True,
+                stdout=printed, stderr=subprocess.STDOUT, process_group=0,
             )  # fmt: skip
 
     def start_ready(self):
