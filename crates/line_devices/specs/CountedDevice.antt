@@ -17,6 +17,6 @@ calls_left_of c = 2 ^ 64 - 1 - c.calls
 abbrev pub is_flushed_of : {D : Type 0} → CountedDevice D → Bool
 is_flushed_of c = c.is_flushed
 
--- the device was called; only what failed had perhaps no call left
+-- a call was counted, unless the call failed and none was left to count
 abbrev pub IsCalled : {D T E : Type 0} → CountedDevice D → CountedDevice D → Result T E → Type 0
 IsCalled old new r = MatchResult r (λ _. calls_left_of new < calls_left_of old) (λ _. (calls_left_of new < calls_left_of old) ⊎ (calls_left_of old ≡ 0))
