@@ -1,7 +1,7 @@
 -- What a line spells: a request, or the first fault found. The order of the lines of each reader is the order of the format.
-use Rattle.std.specs.Prelude.{ℕ, List, [], ◌∷◌, Option, Some, None, Result, Ok, ⊤, length, nat_lt, if◌then◌else◌}
+use Rattle.std.specs.Prelude.{◌≡◌, ℕ, List, [], ◌∷◌, Option, Some, None, Result, Ok, ⊤, length, nat_lt, if◌then◌else◌}
 use Rattle.std.specs.Io.BufRead.{ends_with_byte, strip_last}
-use Rattle.std.specs.Str.{is_utf8}
+use Rattle.std.specs.Str.{IsUtf8, is_utf8}
 use Rattle.serde_json.specs.Data.{Data, Members}
 use Rattle.serde_json.specs.Find.{as_object}
 use Rattle.serde_json.specs.Read.{read}
@@ -41,6 +41,10 @@ json_in (Some d) = Ok d
 -- the value that the line's text is
 unfoldable pub value_in : List ℕ → Result Data Fault
 value_in line = json_in (if is_utf8 line then read line else None)
+
+-- The line isn't too long, has its LF and is UTF-8. To refuse any other line takes no memory.
+abbrev pub NeedsMemory : List ℕ → Type 0
+NeedsMemory line = (framed line ≡ Ok tt) × IsUtf8 line
 
 abbrev pub object_in : Option Members → Result Members Fault
 object_in None = at_line code.NotObject

@@ -1,17 +1,19 @@
 //! Which event does a line spell?
 
-ghost use Rattle.std.specs.Prelude.{◌≡◌, IfOk, MatchResult, OnErr};
+ghost use Rattle.std.specs.Prelude.{◌≡◌, IfErr, IfOk, MatchResult, OnErr};
 ghost use Rattle.serde_json.specs.View.{members_view, view};
+ghost use Rattle.spiffe_name.specs.Failures.{IsNoMemory};
 ghost use Rattle.call_events.specs.Events.{IsFor};
 ghost use Rattle.line_reading.specs.Events.{event_alone_in, event_in, event_of, invoke_in, kind_at, kind_of, spelled_event};
 ghost use Rattle.line_reading.specs.Fields.{Fails, Gives};
+ghost use Rattle.line_reading.specs.Requests.{NeedsMemory};
 
 use crate::batch::batch_alone_in;
 use crate::fault::{Code, Fault, Key};
 use crate::fields::{at_key, no_others, number_at, value_at};
 use crate::ids::Ids;
 use crate::refusal::LineRefusal;
-use crate::request::{framed, object_in, value_in};
+use crate::request::{framed, object_in, text_in, value_in};
 use call_events::Event;
 use serde_json::{Map, Value};
 use spiffe_name::{Failure, TrustDomain};
@@ -140,23 +142,8 @@ fn event_in(
     event_of(alloc, domain, ids, kind, call, object, members)
 }
 
-/// What the line spells.
+/// What the line spells; if it is no event, the ids stay. The checks that take no memory come first.
 #[tactic(auto, unfolding(crate::specs::Events::spelled_event))]
-fn spelled_event(
-    alloc: Global,
-    domain: &TrustDomain,
-    ids: &mut Ids,
-    line: &[u8],
-) -> Result<Event, Failure<Fault>>
-    ensures { Gives (λ event. (event, ids.new)) result (spelled_event domain.now ids.old line.now) }
-{
-    framed(line)?;
-    let value = value_in(alloc, line)?;
-    let members = object_in(&value)?;
-    event_in(alloc, domain, ids, &value, members)
-}
-
-/// What the line spells; if it is no event, the ids stay.
 fn drawn_event(
     alloc: Global,
     domain: &TrustDomain,
@@ -165,17 +152,22 @@ fn drawn_event(
 ) -> Result<Event, Failure<Fault>>
     ensures spelled { Gives (λ event. (event, ids.new)) result (spelled_event domain.now ids.old line.now) }
     ensures kept { OnErr result (ids.new ≡ ids.old) }
+    ensures memory { IfErr result (λ failure. IsNoMemory failure → NeedsMemory line.now) }
 {
+    framed(line)?;
+    let text = text_in(line)?;
+    let value = value_in(alloc, text)?;
+    let members = object_in(&value)?;
     let mut after = ids.clone()?;
-    let event = spelled_event(alloc, domain, &mut after, line)?;
+    let event = event_in(alloc, domain, &mut after, &value, members)?;
     *ids = after;
     Ok(event)
 }
 
 /// Reads an event's line: its bytes with its LF where it has one (of a line over the limit the first 1,048,577 bytes are
 /// enough), and its number from 1. Each entry of its batch that comes without an id gets the next of the ids, as
-/// [`read_request`](crate::read_request) gives them. The error is the first fault found, or want of memory, with the line's
-/// number; the ids are then as before.
+/// [`read_request`](crate::read_request) gives them. The error is the first fault found, or out of memory, with the line's
+/// number; the ids are then as before. It isn't out of memory for a line that is too long, has no LF or isn't UTF-8.
 pub fn read_event(
     alloc: Global,
     domain: &TrustDomain,
@@ -187,6 +179,7 @@ pub fn read_event(
         (λ event. spelled_event domain.now ids.old line.now ≡ Ok (event, ids.new))
         (λ refusal. (refusal.line ≡ number) × Fails refusal.failure (spelled_event domain.now ids.old line.now)) }
     ensures kept { OnErr result (ids.new ≡ ids.old) }
+    ensures memory { IfErr result (λ refusal. IsNoMemory refusal.failure → NeedsMemory line.now) }
     ensures domain { IfOk result (IsFor domain.now) }
 {
     match drawn_event(alloc, domain, ids, line) {

@@ -1,10 +1,11 @@
 //! What can be wrong with a line, and where.
 
 ghost use Rattle.std.specs.Prelude.{◌≡◌};
+ghost use Rattle.spiffe_name.specs.declared.refusals.Failure.TheVariants.{Refused};
 ghost use Rattle.line_reading.specs.Codes.{code_text, field_text, key_name};
 
 use entry_book::{BatchRefusal, Text};
-use spiffe_name::{IdRefusal, SelectorRefusal};
+use spiffe_name::{Failure, IdRefusal, SelectorRefusal};
 
 /// A key of the format.
 #[derive(Clone, Copy, Debug, PartialEq, Eq, Drop)]
@@ -183,4 +184,13 @@ pub struct Fault {
     pub field: Option<Field>,
     /// The operation, counted from 0, in which the fault lies or to which it belongs.
     pub op: Option<usize>,
+}
+
+/// A fault found by a check that takes no memory.
+impl From<Fault> for Failure<Fault> {
+    ghost from_gives = { λ fault failure. failure ≡ Refused fault };
+
+    fn from(fault: Fault) -> Failure<Fault> {
+        Failure::Refused(fault)
+    }
 }

@@ -27,14 +27,14 @@ use spiffe_name::Failure;
 pub(crate) use texts::{optional_match_at, optional_mode_at, optional_text_at, text_at};
 
 /// A fault of the line as a whole.
-pub(crate) fn at_line(code: Code) -> Failure<Fault>
-    ensures { result ≡ Refused (record { code = code; field = None; op = None }) }
+pub(crate) fn at_line(code: Code) -> Fault
+    ensures { result ≡ record { code = code; field = None; op = None } }
 {
-    Failure::Refused(Fault {
+    Fault {
         code,
         field: None,
         op: None,
-    })
+    }
 }
 
 /// A fault at a key.

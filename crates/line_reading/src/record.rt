@@ -1,10 +1,12 @@
 //! Which record of a call does a line spell?
 
-ghost use Rattle.std.specs.Prelude.{◌≡◌, Ok, IfOk, MatchResult};
+ghost use Rattle.std.specs.Prelude.{◌≡◌, IfErr, Ok, IfOk, MatchResult};
 ghost use Rattle.serde_json.specs.View.{members_view, view};
+ghost use Rattle.spiffe_name.specs.Failures.{IsNoMemory};
 ghost use Rattle.line_reading.specs.Fields.{Fails, Gives};
 ghost use Rattle.line_reading.specs.RecordViews.{recorded};
 ghost use Rattle.line_reading.specs.Records.{number_or_null_at, object_at, record_in, recorded_batch_in, spelled_record};
+ghost use Rattle.line_reading.specs.Requests.{NeedsMemory};
 
 use crate::batch::{batch_of, listed_in};
 use crate::fault::{Code, Fault, Key};
@@ -12,7 +14,7 @@ use crate::fields::{at_key, no_others, number_at, number_in, value_at};
 use crate::ids::{Ids, MissingId};
 use crate::ops::ops_in;
 use crate::refusal::LineRefusal;
-use crate::request::{framed, object_in, value_in};
+use crate::request::{framed, object_in, text_in, value_in};
 use entry_book::Batch;
 use serde_json::{Map, Value};
 use spiffe_name::{Failure, TrustDomain};
@@ -120,24 +122,26 @@ fn record_in(
     })
 }
 
-/// What the line spells.
+/// What the line spells. The checks that take no memory come first.
 #[tactic(auto, unfolding(crate::specs::Records::spelled_record))]
 fn spelled_record(
     alloc: Global,
     domain: &TrustDomain,
     line: &[u8],
 ) -> Result<Record, Failure<Fault>>
-    ensures { Gives recorded result (spelled_record domain.now line.now) }
+    ensures spelled { Gives recorded result (spelled_record domain.now line.now) }
+    ensures memory { IfErr result (λ failure. IsNoMemory failure → NeedsMemory line.now) }
 {
     framed(line)?;
-    let value = value_in(alloc, line)?;
+    let text = text_in(line)?;
+    let value = value_in(alloc, text)?;
     let members = object_in(&value)?;
     record_in(alloc, domain, &value, members)
 }
 
 /// Reads a record's line: its bytes with its LF where it has one (of a line over the limit the first 1,048,577 bytes are
-/// enough), and its number from 1. Each create of its batch has to have its id. The error is the first fault found, or want
-/// of memory, with the line's number.
+/// enough), and its number from 1. Each create of its batch has to have its id. The error is the first fault found, or out
+/// of memory, with the line's number. It isn't out of memory for a line that is too long, has no LF or isn't UTF-8.
 pub fn read_record(
     alloc: Global,
     domain: &TrustDomain,
@@ -147,6 +151,7 @@ pub fn read_record(
     ensures spelled { MatchResult result
         (λ told. spelled_record domain.now line.now ≡ Ok (recorded told))
         (λ refusal. (refusal.line ≡ number) × Fails refusal.failure (spelled_record domain.now line.now)) }
+    ensures memory { IfErr result (λ refusal. IsNoMemory refusal.failure → NeedsMemory line.now) }
     ensures domain { IfOk result (λ told. told.batch.domain ≡ domain.now) }
 {
     match spelled_record(alloc, domain, line) {

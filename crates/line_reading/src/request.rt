@@ -1,11 +1,13 @@
 //! Which request does a line spell?
 
-ghost use Rattle.std.specs.Prelude.{◌≡◌, IfOk, MatchResult, OnErr, length};
+ghost use Rattle.std.specs.Prelude.{◌≡◌, IfErr, IfOk, MatchResult, OnErr, length};
 ghost use Rattle.std.specs.Io.BufRead.{ends_with_byte, strip_last};
+ghost use Rattle.std.specs.Str.{IsUtf8};
 ghost use Rattle.serde_json.specs.Find.{as_object};
 ghost use Rattle.serde_json.specs.View.{members_view, view};
+ghost use Rattle.spiffe_name.specs.Failures.{IsNoMemory};
 ghost use Rattle.line_reading.specs.Fields.{Fails, Gives};
-ghost use Rattle.line_reading.specs.Requests.{framed, object_in, request_in, spelled, value_in};
+ghost use Rattle.line_reading.specs.Requests.{NeedsMemory, framed, object_in, request_in, spelled, value_in};
 
 use crate::batch::{batch_in, listed_in};
 use crate::fault::{Code, Fault, Key};
@@ -47,10 +49,10 @@ fn len_before_lf(line: &[u8]) -> usize
     }
 }
 
-/// Refuses a line that is too long, or has no LF.
+/// Refuses a line that is too long, or has no LF. This takes no memory.
 #[tactic(auto, unfolding(crate::specs::Requests::framed, crate::specs::Requests::line_limit))]
-pub(super) fn framed(line: &[u8]) -> Result<(), Failure<Fault>>
-    ensures { Gives (λ _. tt) result (framed line.now) }
+pub(super) fn framed(line: &[u8]) -> Result<(), Fault>
+    ensures { result ≡ framed line.now }
 {
     if len_before_lf(line) > LINE_LIMIT {
         return Err(at_line(Code::LineTooLong));
@@ -61,20 +63,29 @@ pub(super) fn framed(line: &[u8]) -> Result<(), Failure<Fault>>
     Ok(())
 }
 
-/// The value that the line's text is.
-#[tactic(auto, unfolding(crate::specs::Requests::value_in))]
-pub(super) fn value_in(alloc: Global, line: &[u8]) -> Result<Value, Failure<Fault>>
-    ensures { Gives view result (value_in line.now) }
+/// The line's text: what isn't UTF-8 is no JSON. This takes no memory.
+pub(super) fn text_in(line: &[u8]) -> Result<&str, Fault>
+    ensures { MatchResult result
+        (λ text. (text.now ≡ line.now) × IsUtf8 line.now)
+        (λ fault. value_in line.now ≡ Err fault) }
 {
-    let Ok(text) = str::from_utf8(line) else {
-        return Err(at_line(Code::NotJson));
-    };
+    match str::from_utf8(line) {
+        Ok(text) => Ok(text),
+        Err(_) => Err(at_line(Code::NotJson)),
+    }
+}
+
+/// The value that the text is.
+#[tactic(auto, unfolding(crate::specs::Requests::value_in))]
+pub(super) fn value_in(alloc: Global, text: &str) -> Result<Value, Failure<Fault>>
+    ensures { Gives view result (value_in text.now) }
+{
     match Value::from_str(alloc, text) {
         Ok(value) => Ok(value),
         Err(error) => Err(if error.is_memory() {
             Failure::NoMemory
         } else {
-            at_line(Code::NotJson)
+            Failure::Refused(at_line(Code::NotJson))
         }),
     }
 }
@@ -84,7 +95,7 @@ pub(super) fn object_in(value: &Value) -> Result<&Map<String, Value>, Failure<Fa
 {
     match value.as_object() {
         Some(members) => Ok(members),
-        None => Err(at_line(Code::NotObject)),
+        None => Err(Failure::Refused(at_line(Code::NotObject))),
     }
 }
 
@@ -107,23 +118,8 @@ fn request_in(
     Ok(Request { batch, tries })
 }
 
-/// What the line spells.
+/// What the line spells; if it is no request, the ids stay. The checks that take no memory come first.
 #[tactic(auto, unfolding(crate::specs::Requests::spelled))]
-fn spelled(
-    alloc: Global,
-    domain: &TrustDomain,
-    ids: &mut Ids,
-    line: &[u8],
-) -> Result<Request, Failure<Fault>>
-    ensures { Gives (λ request. (request, ids.new)) result (spelled domain.now ids.old line.now) }
-{
-    framed(line)?;
-    let value = value_in(alloc, line)?;
-    let members = object_in(&value)?;
-    request_in(alloc, domain, ids, &value, members)
-}
-
-/// What the line spells; if it is no request, the ids stay.
 fn drawn(
     alloc: Global,
     domain: &TrustDomain,
@@ -132,17 +128,22 @@ fn drawn(
 ) -> Result<Request, Failure<Fault>>
     ensures spelled { Gives (λ request. (request, ids.new)) result (spelled domain.now ids.old line.now) }
     ensures kept { OnErr result (ids.new ≡ ids.old) }
+    ensures memory { IfErr result (λ failure. IsNoMemory failure → NeedsMemory line.now) }
 {
+    framed(line)?;
+    let text = text_in(line)?;
+    let value = value_in(alloc, text)?;
+    let members = object_in(&value)?;
     let mut after = ids.clone()?;
-    let request = spelled(alloc, domain, &mut after, line)?;
+    let request = request_in(alloc, domain, &mut after, &value, members)?;
     *ids = after;
     Ok(request)
 }
 
 /// Reads a request line: its bytes with its LF where it has one (of a line over the limit the first 1,048,577 bytes
 /// are enough), and its number from 1. Each entry that comes without an id gets the next of the ids, unless its batch
-/// carries a token: then it is refused. The error is the first fault found, or want of memory, with the line's number;
-/// the ids are then as before.
+/// carries a token: then it is refused. The error is the first fault found, or out of memory, with the line's number;
+/// the ids are then as before. It isn't out of memory for a line that is too long, has no LF or isn't UTF-8.
 pub fn read_request(
     alloc: Global,
     domain: &TrustDomain,
@@ -154,6 +155,7 @@ pub fn read_request(
         (λ request. spelled domain.now ids.old line.now ≡ Ok (request, ids.new))
         (λ refusal. (refusal.line ≡ number) × Fails refusal.failure (spelled domain.now ids.old line.now)) }
     ensures kept { OnErr result (ids.new ≡ ids.old) }
+    ensures memory { IfErr result (λ refusal. IsNoMemory refusal.failure → NeedsMemory line.now) }
     ensures domain { IfOk result (λ request. request.batch.domain ≡ domain.now) }
 {
     match drawn(alloc, domain, ids, line) {
