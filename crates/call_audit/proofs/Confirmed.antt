@@ -9,9 +9,10 @@ use Rattle.entry_book.specs.History.{books_of, is_committed, reply_to}
 use Rattle.entry_book.specs.declared.reply.Outcome.{Outcome}
 use Rattle.entry_book.specs.declared.reply.Outcome.TheVariants as outcome
 use Rattle.reg_lines.specs.Lines.{AreLines, IsWhole, OnlyLinesJoin, lines_of}
+use Rattle.reg_lines.specs.OneLine.{RecordsHaveNoLf}
 use Rattle.reg_lines.specs.Records.{AuditRecord, spelled_record}
 use Rattle.reg_lines.specs.Replies.{reply_json}
-use Rattle.reg_lines.specs.Spelled.{RecordsAreLines, RecordsAreSpelled}
+use Rattle.reg_lines.specs.Spelled.{RecordsAreSpelled}
 use Rattle.reg_lines.specs.Values.{RepliesAreCompact, RepliesHaveNoFloat, outcome_data, reply_data}
 use Rattle.call_audit.specs.Audits.{batches_of}
 use Rattle.call_audit.specs.Confirmed.{AreConfirmed, CallAt, CallHasEnded, ConfirmedAreAudited, IsReadable, RecordedCall, line_of_call, text_of_call}
@@ -103,13 +104,13 @@ module _ (compact : RepliesAreCompact) (plain : RepliesHaveNoFloat) (calls : Lis
 
 -- ---- the lines of what is printed
 
-whole : (law : RecordsAreLines) (domain : List ℕ) (c : RecordedCall) → IsReadable domain c → IsWhole (line_of_call c)
-whole law domain c h = (text_of_call c, law c.batch c.call c.invoked c.replied c.reply h.batch h.call, refl)
+whole : (law : RecordsHaveNoLf) (c : RecordedCall) → IsWhole (line_of_call c)
+whole law c = (text_of_call c, law c.batch c.call c.invoked c.replied c.reply, refl)
 
-are_lines : (law : RecordsAreLines) (domain : List ℕ) (calls : List RecordedCall) → ((i : ℕ) (c : RecordedCall) → CallAt calls i c → IsReadable domain c) → AreLines (map line_of_call calls)
-are_lines law domain [] h = tt
-are_lines law domain (c ∷ []) h = inl (whole law domain c (h 0 c refl))
-are_lines law domain (c ∷ d ∷ calls) h = (whole law domain c (h 0 c refl), are_lines law domain (d ∷ calls) (λ i e at. h (suc i) e at))
+are_lines : (law : RecordsHaveNoLf) (calls : List RecordedCall) → AreLines (map line_of_call calls)
+are_lines law [] = tt
+are_lines law (c ∷ []) = inl (whole law c)
+are_lines law (c ∷ d ∷ calls) = (whole law c, are_lines law (d ∷ calls))
 
 joined : (calls : List RecordedCall) → flat_map line_of_call calls ≡ concat (map line_of_call calls)
 joined [] = refl
@@ -119,9 +120,9 @@ count : (calls : List RecordedCall) → length (records_of calls) ≡ length cal
 count [] = refl
 count (c ∷ calls) = ap suc (count calls)
 
-pub confirmed_are_audited : RecordsAreSpelled → RecordsAreLines → OnlyLinesJoin → RepliesAreCompact → RepliesHaveNoFloat → ConfirmedAreAudited
+pub confirmed_are_audited : RecordsAreSpelled → RecordsHaveNoLf → OnlyLinesJoin → RepliesAreCompact → RepliesHaveNoFloat → ConfirmedAreAudited
 confirmed_are_audited law lines only compact plain domain calls h readable =
     ap (λ bytes. verdict_of domain (lines_of bytes)) (joined calls)
-    ∙ ap (verdict_of domain) (sym (only (map line_of_call calls) (are_lines lines domain calls readable)))
+    ∙ ap (verdict_of domain) (sym (only (map line_of_call calls) (are_lines lines calls)))
     ∙ history_is_yes domain (map line_of_call calls) (records_of calls) (all-spell law domain calls readable) (are_history compact plain calls h)
     ∙ ap (λ n. Yes n) (count calls)

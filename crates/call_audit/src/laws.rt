@@ -7,7 +7,7 @@ ghost use Rattle.call_audit.specs.Confirmed.{ConfirmedAreAudited};
 ghost use Rattle.call_audit.specs.Follows.{FaultlessAreHistory, HistoryIsFaultless};
 ghost use Rattle.call_audit.specs.Verdicts.{HistoryIsYes, NoIsFirst, YesIsHistory};
 
-use reg_lines::{lines_law, printed_law, read_back_law};
+use reg_lines::{lines_law, one_line_law, printed_law, read_back_law};
 
 /// Records none of which has a fault behind those before it are a history, and so are those of lines that are audited yes. A no
 /// tells the first line that has a fault behind such a history, and the first fault that it has.
@@ -26,6 +26,7 @@ pub fn confirmed_law()
     ensures calls { ConfirmedAreAudited }
 {
     read_back_law();
+    one_line_law();
     lines_law();
     printed_law();
 }

@@ -18,18 +18,16 @@ use Rattle.line_reading.specs.Batches.{batch_in, listed_in, missing_beside}
 use Rattle.line_reading.specs.Codes.{key_name}
 use Rattle.reg_lines.specs.ReadBack.{IsWrittenOp}
 use Rattle.line_reading.specs.Fields.{◌>>=◌, no_others, optional_number_at, tries_at}
-use Rattle.line_devices.specs.Lines.{has_lf}
 use Rattle.reg_lines.specs.RecordLines.{batch_json, record_json}
 use Rattle.reg_lines.specs.RecordValues.{batch_data, op_data, record_data}
 use Rattle.line_reading.specs.Records.{record_in, spelled_record}
 use Rattle.line_reading.specs.Requests.{framed, line_limit, object_in, request_in, spelled, value_in}
 use Rattle.reg_lines.proofs.Typed.{typed-put}
-use Rattle.reg_lines.specs.Spelled.{BatchesAreSpelled, OpsAreSpelled, batch_of_one, Fits, IsTyped, IsWrittenBatch, IsWrittenCall, RecordsAreLines, RecordsAreSpelled}
+use Rattle.reg_lines.specs.Spelled.{BatchesAreSpelled, OpsAreSpelled, batch_of_one, Fits, IsTyped, IsWrittenBatch, IsWrittenCall, RecordsAreSpelled}
 use Rattle.reg_lines.specs.Values.{list_data, option_data, reply_data, whole}
 use Rattle.reg_lines.proofs.CompactRecords.{batch_json-is, record_json-is}
 use Rattle.reg_lines.proofs.Neat.{IsNeat, line-utf8, read-line}
 use Rattle.reg_lines.proofs.NeatValues.{batch-neat, record-neat}
-use Rattle.reg_lines.proofs.OneLine.{no_lf-compact}
 use Rattle.reg_lines.proofs.ReadBack.{Due, found, members_due, or_none}
 use Rattle.reg_lines.proofs.ReadBackOps.{only}
 use Rattle.reg_lines.proofs.ReadBackRecords.{batch-due, batch_due, listed-back, ops-back, record-back}
@@ -138,10 +136,6 @@ record-spelled batch call invoked replied reply w c fits =
     record-text batch.domain (record_json batch call invoked replied reply ++ 10 ∷ []) d (framed-text (record_json batch call invoked replied reply) fits)
     (ap (λ s. value_in (s ++ 10 ∷ [])) (record_json-is batch call invoked replied reply) ∙ value-text 7 d (record-neat batch call invoked replied reply) (omega arith) typed)
     ∙ record-back batch call invoked replied reply w.ops w.token w.no_fault
-
-pub record-line : RecordsAreLines
-record-line batch call invoked replied reply w c =
-    ap has_lf (record_json-is batch call invoked replied reply) ∙ no_lf-compact (record_data batch call invoked replied reply) (record-typed batch call invoked replied reply w.typed c)
 
 -- ---- an operation alone
 

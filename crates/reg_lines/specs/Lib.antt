@@ -9,6 +9,7 @@ pub mod SeatValues
 pub mod RecordLines
 pub mod RecordValues
 pub mod CallRecords
+pub mod OneLine
 pub mod ReadBack
 pub mod Spelled
 pub use Rattle.line_devices.specs.CountedDevice

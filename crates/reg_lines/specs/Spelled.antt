@@ -1,5 +1,5 @@
 -- Each batch without a fault is spelled by a line, its own text, and the text of a record by the record.
-use Rattle.std.specs.Prelude.{◌≡◌, ◌<◌, ◌≤◌, ◌^◌, ◌++◌, ⊤, ℕ, false, List, [], ◌∷◌, length, codes, Option, None, IfSome, Ok}
+use Rattle.std.specs.Prelude.{◌≡◌, ◌<◌, ◌≤◌, ◌^◌, ◌++◌, ⊤, ℕ, List, [], ◌∷◌, length, codes, Option, None, IfSome, Ok}
 use Rattle.std.specs.List.{AllByRecursion}
 use Rattle.std.specs.Str.{IsUtf8}
 use Rattle.serde_json.specs.Data.{Num, unsigned, negative, float, Data, null, boolean, number, string, array, object, Items, no_items, item, Members, no_members, member}
@@ -7,7 +7,6 @@ use Rattle.rand_chacha.specs.ChaCha.{ChaCha}
 use Rattle.entry_book.specs.Batches.{Batch, batch_refusal, op_fault}
 use Rattle.entry_book.specs.declared.op.Op.{Op}
 use Rattle.entry_book.specs.declared.reply.Reply.{Reply}
-use Rattle.line_devices.specs.Lines.{has_lf}
 use Rattle.reg_lines.specs.ReadBack.{IsUuid, IsWrittenOp}
 use Rattle.line_reading.specs.Records.{spelled_record}
 use Rattle.reg_lines.specs.RecordLines.{batch_json, record_json}
@@ -79,8 +78,3 @@ abbrev pub RecordsAreSpelled : Type 0
 RecordsAreSpelled = (batch : Batch) (call invoked : ℕ) (replied : Option ℕ) (reply : Reply) → IsWrittenBatch batch → IsWrittenCall call invoked replied reply
     → Fits (record_json batch call invoked replied reply)
     → spelled_record batch.domain (record_json batch call invoked replied reply ++ codes "\n") ≡ Ok (record { batch = batch; call = call; invoked = invoked; replied = replied; reply = reply_data call reply })
-
--- It has no line feed: with one behind it, it is one line.
-abbrev pub RecordsAreLines : Type 0
-RecordsAreLines = (batch : Batch) (call invoked : ℕ) (replied : Option ℕ) (reply : Reply) → IsWrittenBatch batch → IsWrittenCall call invoked replied reply
-    → has_lf (record_json batch call invoked replied reply) ≡ false

@@ -15,14 +15,15 @@
 //!   are, and [`CallRecord::know_types`] that they hold what the types of their parts see to, so that the line is read back.
 //! - [`spelled_law`] says that each batch without a fault is spelled by the text that is printed of it, and [`read_back_law`] that
 //!   the text of a record spells it.
+//! - [`one_line_law`] says that no printed line has a line feed inside.
 //!
-//! - `printing`: which bytes print a value; `laws`: what is printed is read back.
+//! - `printing`: which bytes print a value; `laws`: what is printed is read back, and each line is one line.
 #![tactic(auto)]
 
 mod laws;
 mod printing;
 
-pub use laws::{read_back_law, spelled_law};
+pub use laws::{one_line_law, read_back_law, spelled_law};
 pub use line_devices::{
     CountedDevice, Input, KEPT_BYTES, Line, Output, Sink, SinkFailed, Source, SourceFailed,
     flush_before_waiting, lines_law, most_lines,

@@ -9,4 +9,4 @@ pub returns-clause-yes : goal.returns-clause-yes
 returns-clause-yes c = history_is_yes
 
 pub returns-clause-calls : goal.returns-clause-calls
-returns-clause-calls c = confirmed_are_audited c.read_back_law.ensures.record_texts c.read_back_law.ensures.record_lines c.lines_law.ensures.only c.printed_law.ensures.replies c.printed_law.ensures.no_float_in_replies
+returns-clause-calls c = confirmed_are_audited c.read_back_law.ensures.record_texts c.one_line_law.ensures.records c.lines_law.ensures.only c.printed_law.ensures.replies c.printed_law.ensures.no_float_in_replies

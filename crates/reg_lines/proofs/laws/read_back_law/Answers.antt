@@ -1,6 +1,6 @@
 use Rattle.reg_lines.proofs.ReadBackOps.{op-back}
 use Rattle.reg_lines.proofs.ReadBackRecords.{batch-back, record-back}
-use Rattle.reg_lines.proofs.Spelled.{record-line, record-spelled}
+use Rattle.reg_lines.proofs.Spelled.{record-spelled}
 use Rattle.reg_lines.proofs.laws.read_back_law.Goals as goal
 
 pub returns-clause-ops : goal.returns-clause-ops
@@ -14,6 +14,3 @@ returns-clause-records c = record-back
 
 pub returns-clause-record_texts : goal.returns-clause-record_texts
 returns-clause-record_texts c = record-spelled
-
-pub returns-clause-record_lines : goal.returns-clause-record_lines
-returns-clause-record_lines c = record-line
