@@ -7,3 +7,4 @@ pub mod Yes
 pub mod No
 pub mod Faultless
 pub mod Confirmed
+pub mod OneLine

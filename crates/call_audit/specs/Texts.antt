@@ -1,7 +1,8 @@
 -- Which lines tell how an audit ended. Compact JSON text, the keys in ascending order of their bytes.
-use Rattle.std.specs.Prelude.{ℕ, List, ◌++◌, codes, decimal}
+use Rattle.std.specs.Prelude.{◌≡◌, ℕ, false, List, ◌++◌, codes, decimal}
 use Rattle.reg_lines.specs.Codes.{code_text}
 use Rattle.reg_lines.specs.Json.{text_json}
+use Rattle.reg_lines.specs.Lines.{has_lf}
 use Rattle.call_audit.specs.declared.cause.Cause.{Cause}
 use Rattle.call_audit.specs.declared.cause.Cause.TheVariants as cause
 use Rattle.call_audit.specs.declared.verdict.Verdict.{Verdict}
@@ -23,3 +24,8 @@ no_json line cause = codes "{\"audit\":\"no\",\"line\":" ++ decimal line ++ code
 abbrev pub verdict_json : Verdict → List ℕ
 verdict_json (Yes calls) = yes_json calls
 verdict_json (No line cause) = no_json line cause
+
+-- ---- the law: the line has no line feed inside
+
+abbrev pub VerdictsHaveNoLf : Type 0
+VerdictsHaveNoLf = (verdict : Verdict) → has_lf (verdict_json verdict) ≡ false

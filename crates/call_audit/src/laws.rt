@@ -1,10 +1,11 @@
-//! What do records without a fault promise, and which records have none?
+//! What do records without a fault promise, which records have none, and is a verdict one line?
 //!
-//! The functions do nothing. What each ensures is a law, stated in `specs/Follows.antt`, `specs/Verdicts.antt` and
-//! `specs/Confirmed.antt`; a caller that calls it may rest on it.
+//! The functions do nothing. What each ensures is a law, stated in `specs/Follows.antt`, `specs/Verdicts.antt`,
+//! `specs/Confirmed.antt` and `specs/Texts.antt`; a caller that calls it may rest on it.
 
 ghost use Rattle.call_audit.specs.Confirmed.{ConfirmedAreAudited};
 ghost use Rattle.call_audit.specs.Follows.{FaultlessAreHistory, HistoryIsFaultless};
+ghost use Rattle.call_audit.specs.Texts.{VerdictsHaveNoLf};
 ghost use Rattle.call_audit.specs.Verdicts.{HistoryIsYes, NoIsFirst, YesIsHistory};
 
 use reg_lines::{lines_law, one_line_law, printed_law, read_back_law};
@@ -29,4 +30,11 @@ pub fn confirmed_law()
     one_line_law();
     lines_law();
     printed_law();
+}
+
+/// The line that is printed of a verdict has no line feed inside.
+pub fn verdict_line_law()
+    ensures { VerdictsHaveNoLf }
+{
+    one_line_law();
 }

@@ -10,7 +10,7 @@
 //! - [`Verdict`]: how an audit ended, which is printed as a line: yes with the count of calls, or no with the first line that has
 //!   a fault, and its cause.
 //! - [`laws`]: records without a fault are a history, in words that know no auditor; a no tells the first line with a fault behind
-//!   a history; no history is audited no, and calls whose replies the plain book confirms are audited yes.
+//!   a history; no history is audited no, and calls whose replies the plain book confirms are audited yes; a verdict is one line.
 //! - `reply`: whether a record's reply is the one that the book gives.
 #![tactic(auto)]
 
