@@ -33,7 +33,7 @@ func TestParse(t *testing.T) {
 		}
 	}
 	s, _ := parse([]string{"-domain", "ex.org", "-listen", "127.0.0.1:7"})
-	if !strings.HasSuffix(s.name, "/127.0.0.1:7") || len(s.name) < 14 {
-		t.Errorf("the name is %s", s.name)
+	if !strings.HasSuffix(s.Name, "/127.0.0.1:7") || len(s.Name) < 14 {
+		t.Errorf("the name is %s", s.Name)
 	}
 }

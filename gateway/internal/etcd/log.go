@@ -1,32 +1,83 @@
+// Package etcd keeps the log of changes, and what belongs to it, in etcd. It calls etcd by its JSON gateway, which needs no library.
 package etcd
 
 import (
 	"bytes"
 	"context"
+	"crypto/tls"
 	"encoding/json"
 	"errors"
 	"fmt"
+	"net/http"
 	"strconv"
+	"sync/atomic"
 
 	"regd/gateway/internal/logline"
 )
 
-// Errors of the log. Any other error of Append leaves open whether the entry was made.
+// Errors of the log.
 var (
-	ErrTaken = errors.New("another entry has this number")
-	ErrGone  = errors.New("the entry of this number was cut off, or is not yet due")
-	ErrCut   = errors.New("the next entry was cut off: a snapshot stands for it")
+	ErrCut     = errors.New("the next entry was cut off: a snapshot stands for it")
+	ErrUnknown = errors.New("it is not known whether an entry was made: the one of its number was cut off")
 )
+
+// pageSize is how many entries are read at a time. They may have a megabyte each.
+const pageSize = 64
 
 // A Log is a list of entries, numbered from 1 without a gap in the order in which they were accepted. The entry n is the key log/n, and the
 // key head has the number of the last one.
-type Log struct{ *Client }
+type Log struct {
+	members  []string
+	prefix   string
+	failures atomic.Uint64 // of requests, which choose the member
+	http     http.Client
+}
+
+// New returns the log whose keys begin with the prefix. The members of etcd are URLs, and config is for those with https.
+func New(members []string, prefix string, config *tls.Config) *Log {
+	transport := &http.Transport{MaxIdleConnsPerHost: 16, TLSClientConfig: config}
+	return &Log{members: members, prefix: prefix, http: http.Client{Transport: transport}}
+}
+
+// Open prepares the log for a trust domain. It returns an error if the log is that of another one.
+func (l *Log) Open(ctx context.Context, domain string) error {
+	err := l.insist(ctx, "/v3/kv/txn", object{
+		"compare": []object{{"target": "CREATE", "key": l.key("head"), "create_revision": "0"}},
+		"success": []object{l.writing("head", []byte("0")), l.writing("domain", []byte(domain))},
+	}, &struct{}{})
+	if err != nil {
+		return err
+	}
+	had, err := l.Get(ctx, "domain")
+	if err == nil && string(had) != domain {
+		err = fmt.Errorf("this log is that of the trust domain %s", had)
+	}
+	return err
+}
+
+// JoinEntry returns the value of an entry: a name that no other entry has, and its lines. Neither holds a line feed.
+func JoinEntry(name string, lines [][]byte) []byte {
+	return append(append([]byte(name+"\n"), bytes.Join(lines, []byte("\n"))...), '\n')
+}
+
+// SplitEntry returns the name and the lines of an entry.
+func SplitEntry(value []byte) (name string, lines [][]byte) {
+	lines = bytes.Split(bytes.TrimSuffix(value, []byte("\n")), []byte("\n"))
+	return string(lines[0]), lines[1:]
+}
 
 // EntryKey returns the key of an entry, without the prefix. Keys are in the order of the numbers.
 func EntryKey(number uint64) string { return fmt.Sprintf("log/%016x", number) }
 
+// writing and reading are parts of a transaction.
+func (l *Log) writing(name string, value []byte) object {
+	return object{"request_put": object{"key": l.key(name), "value": value}}
+}
+
+func (l *Log) reading(name string) object { return object{"request_range": object{"key": l.key(name)}} }
+
 // Head returns the number of the last entry. Every entry whose append had returned before the call is counted.
-func (l Log) Head(ctx context.Context) (uint64, error) {
+func (l *Log) Head(ctx context.Context) (uint64, error) {
 	text, err := l.Get(ctx, "head")
 	if err != nil {
 		return 0, err
@@ -34,97 +85,110 @@ func (l Log) Head(ctx context.Context) (uint64, error) {
 	return strconv.ParseUint(string(text), 10, 64)
 }
 
-// Append makes the value the entry of a number. It returns the number of the last entry: this one without an error, and with ErrTaken or
-// ErrGone that of another entry. After any other error the same call made again finds out whether the entry was made, because no two
-// values are equal.
-func (l Log) Append(ctx context.Context, number uint64, value []byte) (uint64, error) {
-	var done struct {
-		Succeeded bool
-		Responses []struct {
-			Range found `json:"response_range"`
-		}
+// A transaction is the answer to one that asked for entries and the head, or that wrote them.
+type transaction struct {
+	Header struct {
+		Revision int64 `json:"revision,string"`
 	}
-	entry, head := l.key(EntryKey(number)), l.key("head")
-	err := l.call(ctx, callTime, "/v3/kv/txn", object{
-		"compare": []object{{"target": "VALUE", "key": head, "value": decimal(number - 1)}},
-		"success": []object{{"request_put": object{"key": entry, "value": value}}, {"request_put": object{"key": head, "value": decimal(number)}}},
-		"failure": []object{{"request_range": object{"key": entry}}, {"request_range": object{"key": head}}},
-	}, &done)
-	if err != nil || done.Succeeded {
-		return number, err
+	Succeeded bool
+	Responses []struct {
+		Range found `json:"response_range"`
 	}
-	if len(done.Responses) != 2 || len(done.Responses[1].Range.Kvs) == 0 {
-		return 0, errors.New("etcd: the log has no head")
-	}
-	had := done.Responses[0].Range.Kvs
-	last, err := strconv.ParseUint(string(done.Responses[1].Range.Kvs[0].Value), 10, 64)
-	switch {
-	case err != nil:
-		return 0, err
-	case len(had) == 0:
-		return last, ErrGone
-	case bytes.Equal(had[0].Value, value):
-		logline.Info("an append was made although its answer was lost", "entry", number)
-		return last, nil
-	}
-	return last, ErrTaken
 }
 
-// Follow reads up to mostEntries at a time, and fewer after a page of more than mostBytes.
-const mostEntries, mostBytes = 500, 1 << 22
+// read returns the entries and the number of the last entry of the log.
+func (t transaction) read() (entries []pair, last uint64, err error) {
+	if len(t.Responses) != 2 || len(t.Responses[1].Range.Kvs) == 0 {
+		return nil, 0, errors.New("etcd: the log has no head")
+	}
+	last, err = strconv.ParseUint(string(t.Responses[1].Range.Kvs[0].Value), 10, 64)
+	return t.Responses[0].Range.Kvs, last, err
+}
+
+// Append makes the value an entry, exactly once: the one of a number or, if that is taken, the first one after the log's end. It returns the
+// number of the last entry. Without an answer of etcd it sends the same again, which finds out whether the entry was made, because no two values
+// are equal. With ErrUnknown the entry may have been made.
+func (l *Log) Append(ctx context.Context, number uint64, value []byte) (last uint64, err error) {
+	decimal := func(n uint64) []byte { return []byte(strconv.FormatUint(n, 10)) }
+	for isOpen := false; ; {
+		var had []pair
+		var done transaction
+		err := l.call(ctx, callTime, "/v3/kv/txn", object{
+			"compare": []object{{"target": "VALUE", "key": l.key("head"), "value": decimal(number - 1)}},
+			"success": []object{l.writing(EntryKey(number), value), l.writing("head", decimal(number))},
+			"failure": []object{l.reading(EntryKey(number)), l.reading("head")},
+		}, &done)
+		if err == nil && !done.Succeeded {
+			had, last, err = done.read()
+		}
+		switch {
+		case ctx.Err() != nil:
+			return 0, ctx.Err()
+		case err != nil: // it may have been made, or may still be made
+			logline.Error("no answer to an append", "entry", number, "error", err)
+			isOpen = true
+			Pause(ctx, retryTime)
+		case done.Succeeded:
+			return number, nil
+		case len(had) > 0 && bytes.Equal(had[0].Value, value):
+			logline.Info("an append was made although its answer was lost", "entry", number)
+			return last, nil
+		case len(had) == 0 && isOpen: // it was cut off, and may have had this value
+			return last, ErrUnknown
+		default:
+			number, isOpen = last+1, false
+		}
+	}
+}
 
 // Follow passes all entries from a number on to take, in order and without a gap: first those that exist, then, after a call of caughtUp, new
-// ones. It ends if take returns false, with the context, or with an error, and returns the number of the entry that is due next.
-func (l Log) Follow(ctx context.Context, next uint64, caughtUp func(last uint64), take func(number uint64, value []byte) bool) (uint64, error) {
-	for size, isSecond := uint64(16), false; ; {
-		var page found
-		// bounded by keys: given a limit, etcd also counts all keys after the page
-		request := object{"key": l.key(EntryKey(next)), "range_end": l.key(EntryKey(next + size))}
-		if err := l.call(ctx, pageTime, "/v3/kv/range", request, &page); err != nil {
-			return next, err
-		}
-		bytes := 0
-		for _, one := range page.Kvs {
+// ones. It ends with an error: ErrCut, or one of etcd or the context. It also returns the number of the entry that is due next.
+func (l *Log) Follow(ctx context.Context, next uint64, caughtUp func(last uint64), take func(number uint64, value []byte)) (uint64, error) {
+	pass := func(entries ...pair) error {
+		for _, one := range entries {
 			if string(one.Key) != l.prefix+EntryKey(next) {
-				return next, ErrCut
+				return ErrCut
 			}
-			if !take(next, one.Value) {
-				return next, nil
-			}
+			take(next, one.Value)
 			next++
-			bytes += len(one.Value)
 		}
-		isFull := uint64(len(page.Kvs)) == size
-		if size *= 2; bytes > mostBytes {
-			size = 16
-		} else if size > mostEntries {
-			size = mostEntries
-		}
-		if isFull {
-			continue
-		}
-		head, err := l.Head(ctx)
-		switch {
-		case err != nil:
+		return nil
+	}
+	for {
+		var page transaction
+		err := l.call(ctx, pageTime, "/v3/kv/txn", object{"success": []object{
+			// bounded by keys: given a limit, etcd also counts all keys after the page
+			{"request_range": object{"key": l.key(EntryKey(next)), "range_end": l.key(EntryKey(next + pageSize))}},
+			l.reading("head"),
+		}}, &page)
+		if err != nil {
 			return next, err
-		case len(page.Kvs) > 0 || head < next:
-			caughtUp(next - 1)
-			return l.watch(ctx, next, page.Header.Revision+1, take)
-		case isSecond:
-			return next, ErrCut
 		}
-		isSecond = true // an entry may have been made between the two calls
+		entries, last, err := page.read()
+		if err == nil && len(entries) == 0 && last >= next {
+			err = ErrCut
+		}
+		if err == nil {
+			err = pass(entries...)
+		}
+		if err == nil && next > last {
+			caughtUp(last)
+			err = l.watch(ctx, page.Header.Revision+1, pass) // ends with an error
+		}
+		if err != nil {
+			return next, err
+		}
 	}
 }
 
 // watch passes on the entries that are made from a revision on.
-func (l Log) watch(ctx context.Context, next uint64, revision int64, take func(uint64, []byte) bool) (uint64, error) {
+func (l *Log) watch(ctx context.Context, revision int64, pass func(...pair) error) error {
 	body, err := l.open(ctx, "/v3/watch", object{"create_request": object{
-		"key": l.key("log/"), "range_end": following(l.key("log/")),
+		"key": l.key("log/"), "range_end": l.key("log0"), // 0 follows the slash
 		"start_revision": strconv.FormatInt(revision, 10), "filters": []string{"NODELETE"},
 	}})
 	if err != nil {
-		return next, err
+		return err
 	}
 	defer body.Close()
 	for in := json.NewDecoder(body); ; {
@@ -136,29 +200,24 @@ func (l Log) watch(ctx context.Context, next uint64, revision int64, take func(u
 			}
 		}
 		if err := in.Decode(&news); err != nil || news.Error != nil || news.Result.Canceled {
-			return next, fmt.Errorf("watch: %v, %v", err, news.Error)
+			return fmt.Errorf("watch: %v, %v", err, news.Error)
 		}
 		for _, event := range news.Result.Events {
-			if string(event.Kv.Key) != l.prefix+EntryKey(next) {
-				return next, fmt.Errorf("watch: got %s, but entry %d is due", event.Kv.Key, next)
+			if err := pass(event.Kv); err != nil {
+				return err
 			}
-			if !take(next, event.Kv.Value) {
-				return next, nil
-			}
-			next++
 		}
 	}
 }
 
 // Cut deletes the entries up to a number, some at a time, since etcd does nothing else while it deletes.
-func (l Log) Cut(ctx context.Context, last uint64) error {
+func (l *Log) Cut(ctx context.Context, last uint64) error {
 	for {
-		var page found
-		request := object{"key": l.key("log/"), "range_end": l.key(EntryKey(last + 1)), "limit": "1000", "keys_only": true}
-		if err := l.insist(ctx, "/v3/kv/range", request, &page); err != nil || len(page.Kvs) == 0 {
+		page, err := l.find(ctx, object{"key": l.key("log/"), "range_end": l.key(EntryKey(last + 1)), "limit": "1000", "keys_only": true})
+		if err != nil || len(page) == 0 {
 			return err
 		}
-		end := string(page.Kvs[len(page.Kvs)-1].Key[len(l.prefix):]) + "\x00"
+		end := string(page[len(page)-1].Key[len(l.prefix):]) + "\x00"
 		if err := l.Delete(ctx, "log/", end); err != nil {
 			return err
 		}

@@ -12,16 +12,32 @@ import (
 	"regd/gateway/internal/etcd/etcdtest"
 )
 
-func open(t *testing.T) (*etcdtest.Server, etcd.Log, context.Context) {
+func open(t *testing.T) (*etcdtest.Server, *etcd.Log, context.Context) {
 	server := etcdtest.New()
 	t.Cleanup(server.CloseClientConnections)
 	ctx, cancel := context.WithTimeout(context.Background(), 20*time.Second)
 	t.Cleanup(cancel)
-	log := etcd.Log{Client: etcd.NewClient([]string{server.URL}, "r/", nil)}
-	if had, err := log.PutNew(ctx, "head", []byte("0")); err != nil || string(had) != "0" {
-		t.Fatal(string(had), err)
+	log := etcd.New([]string{server.URL}, "r/", nil)
+	if err := log.Open(ctx, "ex.org"); err != nil {
+		t.Fatal(err)
 	}
 	return server, log, ctx
+}
+
+func TestOpen(t *testing.T) {
+	_, log, ctx := open(t)
+	if _, err := log.Append(ctx, 1, []byte("a")); err != nil {
+		t.Fatal(err)
+	}
+	if err := log.Open(ctx, "ex.org"); err != nil {
+		t.Error(err)
+	}
+	if err := log.Open(ctx, "other.org"); err == nil {
+		t.Error("the log of another trust domain was opened")
+	}
+	if head, err := log.Head(ctx); head != 1 || err != nil {
+		t.Errorf("head: got %d, %v", head, err)
+	}
 }
 
 func TestAppend(t *testing.T) {
@@ -30,40 +46,41 @@ func TestAppend(t *testing.T) {
 		name   string
 		number uint64
 		value  string
-		lose   int
+		lose   int // answers
 		last   uint64
 		err    error
 	}{
 		{"the first", 1, "a", 0, 1, nil},
-		{"taken", 1, "b", 0, 1, etcd.ErrTaken},
-		{"not yet due", 3, "b", 0, 1, etcd.ErrGone},
-		{"the second", 2, "b", 0, 2, nil},
-		{"made before", 1, "a", 0, 2, nil},
+		{"two answers lost", 2, "b", 2, 2, nil},
+		{"taken", 1, "c", 0, 3, nil},
+		{"not yet due", 9, "d", 0, 4, nil},
+		{"taken, and an answer lost", 1, "e", 1, 5, nil},
+		{"made before", 4, "d", 0, 5, nil},
+		{"made before, and an answer lost", 4, "d", 1, 5, nil},
+		{"not made, and an answer lost", 9, "f", 1, 5, etcd.ErrUnknown},
 	} {
 		server.LoseAnswers(c.lose)
-		last, err := log.Append(ctx, c.number, []byte(c.value))
-		if last != c.last || !errors.Is(err, c.err) {
+		if last, err := log.Append(ctx, c.number, []byte(c.value)); last != c.last || !errors.Is(err, c.err) {
 			t.Errorf("%s: got %d, %v", c.name, last, err)
 		}
 	}
-	server.LoseAnswers(1)
-	if _, err := log.Append(ctx, 3, []byte("c")); err == nil || errors.Is(err, etcd.ErrTaken) || errors.Is(err, etcd.ErrGone) {
-		t.Errorf("a lost answer: got %v", err)
+	for number, want := range []string{"a", "b", "c", "d", "e", ""} {
+		if got, err := log.Get(ctx, etcd.EntryKey(uint64(number+1))); string(got) != want || err != nil {
+			t.Errorf("entry %d is %s, %v", number+1, got, err)
+		}
 	}
-	if last, err := log.Append(ctx, 3, []byte("c")); last != 3 || err != nil {
-		t.Errorf("the same again: got %d, %v", last, err)
-	}
-	if head, err := log.Head(ctx); head != 3 || err != nil {
-		t.Errorf("head: got %d, %v", head, err)
-	}
-	if err := log.Cut(ctx, 2); err != nil {
+	if err := log.Cut(ctx, 4); err != nil {
 		t.Error(err)
 	}
-	if _, err := log.Append(ctx, 2, []byte("b")); !errors.Is(err, etcd.ErrGone) {
-		t.Errorf("cut off: got %v", err)
-	}
-	if keys := strings.Join(server.Keys(), " "); keys != "r/head r/log/0000000000000003" {
+	if keys := strings.Join(server.Keys(), " "); keys != "r/domain r/head r/log/0000000000000005" {
 		t.Errorf("keys: %s", keys)
+	}
+	if last, err := log.Append(ctx, 2, []byte("g")); last != 6 || err != nil {
+		t.Errorf("cut off: got %d, %v", last, err)
+	}
+	server.LoseAnswers(1)
+	if _, err := log.Append(ctx, 2, []byte("h")); !errors.Is(err, etcd.ErrUnknown) {
+		t.Errorf("cut off, and an answer lost: got %v", err)
 	}
 }
 
@@ -75,31 +92,33 @@ func TestFollow(t *testing.T) {
 			t.Fatal(err)
 		}
 	}
-	caught := uint64(0)
-	taken := uint64(0)
-	next, err := log.Follow(ctx, 1, func(last uint64) {
+	reading, stop := context.WithCancel(ctx)
+	defer stop()
+	caught, taken := uint64(0), uint64(0)
+	next, err := log.Follow(reading, 1, func(last uint64) {
 		caught = last
 		go func() {
 			for number := uint64(before + 1); number <= before+5; number++ {
 				log.Append(ctx, number, []byte(fmt.Sprint(number)))
 			}
 		}()
-	}, func(number uint64, value []byte) bool {
+	}, func(number uint64, value []byte) {
 		if number != taken+1 || string(value) != fmt.Sprint(number) {
 			t.Errorf("after %d came %d with %s", taken, number, value)
 		}
-		taken = number
-		return number < before+5
+		if taken = number; number == before+5 {
+			stop()
+		}
 	})
-	if err != nil || caught != before || taken != before+5 || next != before+5 {
+	if err == nil || caught != before || taken != before+5 || next != before+6 {
 		t.Errorf("caught up at %d, ended at %d, next %d, %v", caught, taken, next, err)
 	}
 	log.Cut(ctx, 100)
-	if _, err := log.Follow(ctx, 50, func(uint64) {}, func(uint64, []byte) bool { return true }); !errors.Is(err, etcd.ErrCut) {
+	if _, err := log.Follow(ctx, 50, func(uint64) {}, func(uint64, []byte) {}); !errors.Is(err, etcd.ErrCut) {
 		t.Errorf("cut off in front: got %v", err)
 	}
 	log.Cut(ctx, before+5)
-	if _, err := log.Follow(ctx, 50, func(uint64) {}, func(uint64, []byte) bool { return true }); !errors.Is(err, etcd.ErrCut) {
+	if _, err := log.Follow(ctx, 50, func(uint64) {}, func(uint64, []byte) {}); !errors.Is(err, etcd.ErrCut) {
 		t.Errorf("all cut off: got %v", err)
 	}
 }
@@ -112,11 +131,8 @@ func TestInsist(t *testing.T) {
 	}
 	log.Put(ctx, "x/b", []byte("2"))
 	all, err := log.List(ctx, "x/")
-	if err != nil || len(all) != 2 || string(all["b"]) != "2" {
+	if err != nil || len(all) != 2 || all["b"] != "2" {
 		t.Errorf("got %v, %v", all, err)
-	}
-	if had, err := log.PutNew(ctx, "x/a", []byte("9")); err != nil || string(had) != "1" {
-		t.Errorf("got %s, %v", had, err)
 	}
 	short, cancel := context.WithTimeout(ctx, 50*time.Millisecond)
 	defer cancel()
@@ -130,9 +146,9 @@ func TestInsist(t *testing.T) {
 // TestMembers uses the members that answer.
 func TestMembers(t *testing.T) {
 	server, _, ctx := open(t)
-	client := etcd.NewClient([]string{"http://127.0.0.1:1", server.URL}, "r/", nil)
+	log := etcd.New([]string{"http://127.0.0.1:1", server.URL}, "r/", nil)
 	for i := 0; i < 3; i++ {
-		if had, err := client.Get(ctx, "head"); err != nil || string(had) != "0" {
+		if had, err := log.Get(ctx, "head"); err != nil || string(had) != "0" {
 			t.Errorf("got %s, %v", had, err)
 		}
 	}

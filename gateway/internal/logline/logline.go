@@ -1,10 +1,9 @@
-// Package logline writes log lines to standard error, as words of the form key=value.
+// Package logline writes log lines to standard error, as words of the form key="value".
 package logline
 
 import (
 	"fmt"
 	"os"
-	"strconv"
 	"time"
 )
 
@@ -20,7 +19,7 @@ func Error(event string, pairs ...any) {
 
 // format returns the line. The event and the values are quoted, so that no text of a caller looks like another word or line.
 func format(now time.Time, level, event string, pairs []any) string {
-	line := "time=" + now.UTC().Format("2006-01-02T15:04:05.000Z") + " level=" + level + " event=" + strconv.Quote(event)
+	line := fmt.Sprintf("time=%s level=%s event=%q", now.UTC().Format("2006-01-02T15:04:05.000Z"), level, event)
 	for i := 0; i+1 < len(pairs); i += 2 {
 		line += fmt.Sprintf(" %v=%q", pairs[i], fmt.Sprint(pairs[i+1]))
 	}

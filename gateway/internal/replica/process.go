@@ -11,6 +11,8 @@ import (
 	"os/exec"
 	"strconv"
 	"time"
+
+	"regd/gateway/internal/logline"
 )
 
 // Options say which regd a replica runs.
@@ -23,42 +25,41 @@ type Options struct {
 // firstLine makes regd's first reply on a connection, which shows that the connection is alone on its worker.
 const firstLine = `{"ops":[{"op":"show","id":"00000000-0000-0000-0000-000000000000"}]}`
 
-// startTime is how long regd may take to listen and to answer the first line.
+// startTime is how long regd may take to listen and to answer the first lines.
 const startTime = 30 * time.Second
 
-// A process is a running regd whose connections all belong to this gateway.
-type process struct {
-	command *exec.Cmd
-	links   []*link
-}
-
-// startProcess starts a regd that accepts as many connections as it has workers, and opens all of them. So connection 0 is the only
-// writer, each connection has a worker of its own, no other process can connect, and regd ends when this gateway ends.
-func startProcess(ctx context.Context, options Options) (*process, error) {
+// Start starts a regd with an empty book. It calls onEntry after each entry, in their order; onEntry must not wait.
+//
+// regd accepts as many connections as it has workers, and the replica opens all of them. So connection 0 is the only writer, each connection
+// has a worker of its own, no other process can connect, and regd ends when this gateway ends.
+func Start(ctx context.Context, options Options, onEntry func(State)) (*Replica, error) {
 	workers := strconv.Itoa(options.Workers)
 	// the seed stays the default: ids are drawn before a change is appended to the log
+	ctx, cancel := context.WithCancel(ctx)
 	command := exec.CommandContext(ctx, options.Program, "serve", "--domain", options.Domain, "--listen", "127.0.0.1:0",
 		"--workers", workers, "--connections", workers)
 	command.Stderr = os.Stderr
 	out, err := command.StdoutPipe()
+	if err == nil {
+		err = command.Start()
+	}
 	if err != nil {
+		cancel()
 		return nil, err
 	}
-	if err := command.Start(); err != nil {
-		return nil, err
-	}
-	p := &process{command: command}
-	late := time.AfterFunc(startTime, func() { command.Process.Kill() })
+	late := time.AfterFunc(startTime, cancel)
 	defer late.Stop()
-	if err := p.connect(out, options.Workers); err != nil {
-		p.stop()
+	r := &Replica{command: command, onEntry: onEntry, ctx: ctx, cancel: cancel, slots: make(chan struct{}, mostOpen),
+		tokens: map[string]*Kept{}}
+	if err := r.connect(out, options.Workers); err != nil {
+		r.Close()
 		return nil, err
 	}
-	return p, nil
+	return r, nil
 }
 
 // connect opens all connections to the address that regd prints.
-func (p *process) connect(out io.Reader, workers int) error {
+func (r *Replica) connect(out io.Reader, workers int) error {
 	var first struct{ Listening string }
 	if err := json.NewDecoder(out).Decode(&first); err != nil {
 		return fmt.Errorf("regd didn't listen: %w", err)
@@ -68,21 +69,29 @@ func (p *process) connect(out io.Reader, workers int) error {
 		if err != nil {
 			return err
 		}
-		l := newLink(conn)
-		p.links = append(p.links, l)
-		go l.read()
-		if reply := l.call(firstLine); !bytes.HasPrefix(reply, []byte(`{"call":1,`)) {
+		r.links = append(r.links, &link{conn: conn})
+	}
+	for i, l := range r.links {
+		go func(i int, l *link) {
+			if err := l.read(); r.ctx.Err() == nil {
+				logline.Error("connection to regd ended", "number", i, "error", err)
+			}
+			r.Close()
+		}(i, l)
+		if reply := l.call([]byte(firstLine)); !bytes.HasPrefix(reply, []byte(`{"call":1,`)) {
 			return fmt.Errorf("connection %d to regd isn't alone on its worker: %s", i, reply)
 		}
 	}
 	return nil
 }
 
-// stop kills regd and waits for its end.
-func (p *process) stop() {
-	for _, l := range p.links {
-		l.close()
-	}
-	p.command.Process.Kill()
-	p.command.Wait()
+// Close ends regd. It may be called again.
+func (r *Replica) Close() {
+	r.end.Do(func() {
+		r.cancel() // which also kills regd
+		for _, l := range r.links {
+			l.close()
+		}
+		r.command.Wait()
+	})
 }

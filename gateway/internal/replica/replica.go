@@ -8,8 +8,8 @@ package replica
 import (
 	"context"
 	"crypto/sha256"
-	"errors"
 	"fmt"
+	"os/exec"
 	"sync"
 
 	"regd/gateway/internal/logline"
@@ -19,10 +19,9 @@ import (
 // mostOpen is how many changes may be under way in regd while a replica follows the log.
 const mostOpen = 4096
 
-var errEnded = errors.New("regd ended")
-
-// memoryCodes are the answers that do not depend on the lines alone.
-var memoryCodes = []string{"L6", "L7", "L8"}
+// mostTokens is how many tokens a replica retains. When a batch with a token is committed and there are more, the oldest one is forgotten. So the
+// retained tokens are a function of the log, whatever a clock says.
+var mostTokens = 65536
 
 // State is what a replica has executed.
 type State struct {
@@ -31,49 +30,37 @@ type State struct {
 	Sum   [sha256.Size]byte // of all replies to changes, in their order
 }
 
-// A Replica is a running regd with the state of the log up to an entry. When regd ends or leaves the log, Done is closed, and the replica is
+// A Replica is a running regd with the state of the log up to an entry. When regd ends or leaves the log, its context ends, and the replica is
 // of no more use.
 type Replica struct {
-	process *process
+	command *exec.Cmd
+	links   []*link // the first one is for changes
 	onEntry func(State)
-	done    chan struct{}
+	ctx     context.Context
+	cancel  func()
 	end     sync.Once
+	slots   chan struct{}  // one for each change that may be under way
+	open    sync.WaitGroup // of changes whose reply is not yet passed on
 
-	mu      sync.Mutex
-	state   State
-	tokens  *Tokens
-	hasLeft bool // regd gave a reply that the other replicas may not have got
+	mu       sync.Mutex
+	state    State
+	tokens   map[string]*Kept // also those of batches that are under way
+	retained []*Kept          // those of committed batches, the oldest first
+	hasLeft  bool             // regd gave a reply that the other replicas may not have got
 }
 
-// Start starts a regd with an empty book. It calls onEntry after each entry, in their order; onEntry must not wait.
-func Start(ctx context.Context, options Options, onEntry func(State)) (*Replica, error) {
-	process, err := startProcess(ctx, options)
-	if err != nil {
-		return nil, err
-	}
-	r := &Replica{process: process, onEntry: onEntry, done: make(chan struct{}), tokens: NewTokens(MostTokens)}
-	for _, l := range process.links {
-		go func(l *link) {
-			<-l.ended
-			r.Close()
-		}(l)
-	}
-	return r, nil
+// A Kept is a token under which a batch was committed, or is about to be.
+type Kept struct {
+	Token string
+	Same  string // equal for the same operations
+	Reply []byte `json:",omitempty"` // without the call number; nil while the batch is under way
 }
 
-// Close ends regd. It may be called again.
-func (r *Replica) Close() {
-	r.end.Do(func() {
-		close(r.done)
-		r.process.stop()
-	})
-}
-
-// Done returns a channel that is closed when the replica has ended.
-func (r *Replica) Done() <-chan struct{} { return r.done }
+// Context returns a context that ends with the replica.
+func (r *Replica) Context() context.Context { return r.ctx }
 
 // Pid returns the number of regd's process.
-func (r *Replica) Pid() int { return r.process.command.Process.Pid }
+func (r *Replica) Pid() int { return r.command.Process.Pid }
 
 // State returns what the replica has executed.
 func (r *Replica) State() State {
@@ -82,71 +69,82 @@ func (r *Replica) State() State {
 	return r.state
 }
 
+// Tokens returns the retained tokens, the oldest first. No change may be under way.
+func (r *Replica) Tokens() []*Kept {
+	r.mu.Lock()
+	defer r.mu.Unlock()
+	return append([]*Kept{}, r.retained...)
+}
+
 // Query sends a line to one of the workers for queries; equal numbers give the same worker. It calls done with the reply, or with nil if
 // regd ended first; done must not wait.
 func (r *Replica) Query(number int, line []byte, done func(reply []byte)) {
-	readers := r.process.links[1:]
-	readers[number%len(readers)].submit(line, done)
+	r.links[1+number%(len(r.links)-1)].submit(line, done)
 }
 
+// Ask sends a query to regd and waits for the reply. It returns nil if regd has ended.
+func (r *Replica) Ask(line []byte) []byte { return r.links[1].call(line) }
+
 // Apply executes the lines of an entry, in order, and calls answer with the number and the reply of each. It returns before the replies
-// come. If regd ends, some lines are not answered. It returns false if regd has ended.
-func (r *Replica) Apply(entry uint64, lines [][]byte, answer func(number int, reply []byte)) bool {
+// come. If regd ends, some lines are not answered.
+func (r *Replica) Apply(entry uint64, lines [][]byte, answer func(number int, reply []byte)) {
 	for i, line := range lines {
 		i := i
 		r.apply(line, func(reply []byte) {
-			answer(i, reply)
-			if i == len(lines)-1 {
+			if answer(i, reply); i == len(lines)-1 {
 				r.finish(entry)
 			}
 		})
 	}
-	return r.process.links[0].settle(mostOpen)
 }
 
-// Settle waits until every line is answered. It returns false if regd has ended.
-func (r *Replica) Settle() bool { return r.process.links[0].settle(0) }
+// Settle waits until every line is answered, or regd has ended.
+func (r *Replica) Settle() { r.open.Wait() }
 
+// apply executes a line, and calls answer with the reply unless the replica is of no more use.
 func (r *Replica) apply(line []byte, answer func(reply []byte)) {
-	writer := r.process.links[0]
 	var kept *Kept
 	if tokened, ok := wire.ReadTokened(line); ok {
 		if r.find(tokened.Token) != nil { // rare, and the answer may depend on changes that are under way
-			writer.settle(0)
-			if kept := r.find(tokened.Token); kept != nil {
-				if reply := r.again(kept, tokened); reply != nil {
-					answer(reply)
-				}
-				return
-			}
+			r.Settle()
 		}
+		if kept := r.find(tokened.Token); kept != nil {
+			if reply := r.again(kept, tokened); reply != nil {
+				answer(reply)
+			}
+			return
+		}
+		kept, line = &Kept{Token: tokened.Token, Same: tokened.Same}, tokened.Line
 		r.mu.Lock()
-		kept = r.tokens.Begin(tokened.Token, tokened.Same)
+		r.tokens[kept.Token] = kept
 		r.mu.Unlock()
-		line = tokened.Line
 	}
-	writer.submit(line, func(reply []byte) {
-		if reply != nil && r.note(reply, kept) {
+	r.slots <- struct{}{}
+	r.open.Add(1)
+	r.links[0].submit(line, func(reply []byte) {
+		if r.note(reply, kept) {
 			answer(reply)
 		}
+		<-r.slots
+		r.open.Done()
 	})
 }
 
 func (r *Replica) find(token string) *Kept {
 	r.mu.Lock()
 	defer r.mu.Unlock()
-	return r.tokens.Find(token)
+	return r.tokens[token]
 }
 
 // again returns the reply to a batch whose token is retained, as regd would give it: the fault of the line, W1, O9 or the first replies. No
-// other change is under way. It returns nil if regd has ended.
+// other change is under way. It returns nil if the replica is of no more use.
 func (r *Replica) again(kept *Kept, tokened wire.Tokened) []byte {
-	reply := r.process.links[0].call(string(tokened.Probe))
+	reply := r.links[0].call(tokened.Probe)
 	place := r.State().Place
 	switch {
-	case reply == nil || r.leaves(reply):
+	case r.isLost(reply):
 		return nil
-	case !wire.HasCode(reply, "W1"):
+	case wire.Code(reply) != "W1":
 		return reply
 	case tokened.After > place:
 		return wire.Refused("W1", place)
@@ -156,43 +154,50 @@ func (r *Replica) again(kept *Kept, tokened wire.Tokened) []byte {
 	return wire.Repeated(kept.Reply)
 }
 
-// leaves returns true, and ends the replica, if the reply is one that the other replicas may not have got, or follows such a reply.
-func (r *Replica) leaves(reply []byte) bool {
+// isLost returns true if there is no reply, or if the reply is one that the other replicas may not have got or follows such a reply. Then it ends
+// the replica.
+func (r *Replica) isLost(reply []byte) bool {
 	r.mu.Lock()
 	defer r.mu.Unlock()
-	if r.hasLeft {
-		return true
-	}
-	for _, code := range memoryCodes {
-		if wire.HasCode(reply, code) {
+	switch wire.Code(reply) {
+	case "L6", "L7", "L8": // the codes that do not depend on the lines alone
+		if !r.hasLeft {
 			logline.Error("regd left the log", "reply", string(reply), "entry", r.state.Entry+1)
-			r.hasLeft = true
 			go r.Close()
 		}
+		r.hasLeft = true
 	}
-	return r.hasLeft
+	return r.hasLeft || reply == nil
 }
 
 // note takes the reply to a change into the state. It returns false if the replica is of no more use.
 func (r *Replica) note(reply []byte, kept *Kept) bool {
-	if r.leaves(reply) {
+	if r.isLost(reply) {
 		return false
 	}
 	r.mu.Lock()
 	defer r.mu.Unlock()
-	tail := wire.Tail(reply)
+	tail, isCommitted := wire.Tail(reply), wire.IsCommitted(reply)
 	r.state.Sum = sha256.Sum256(append(r.state.Sum[:], tail...))
-	isCommitted := wire.IsCommitted(reply)
 	if isCommitted {
 		r.state.Place = wire.Place(reply)
 	}
-	switch {
-	case kept != nil && isCommitted:
-		r.tokens.Commit(kept, tail)
-	case kept != nil:
-		r.tokens.Drop(kept)
+	if kept != nil && isCommitted {
+		r.retain(kept, tail)
+	} else if kept != nil { // the line may be sent again, and may be committed then
+		delete(r.tokens, kept.Token)
 	}
 	return true
+}
+
+// retain retains the token of a committed batch.
+func (r *Replica) retain(kept *Kept, reply []byte) {
+	kept.Reply = reply
+	r.tokens[kept.Token] = kept
+	if r.retained = append(r.retained, kept); len(r.retained) > mostTokens {
+		delete(r.tokens, r.retained[0].Token)
+		r.retained = r.retained[1:]
+	}
 }
 
 func (r *Replica) finish(entry uint64) {
@@ -203,52 +208,21 @@ func (r *Replica) finish(entry uint64) {
 	r.onEntry(state)
 }
 
-// Ask sends a query to regd and waits for the reply. It returns an error if regd has ended.
-func (r *Replica) Ask(line string) ([]byte, error) {
-	if reply := r.process.links[1].call(line); reply != nil {
-		return reply, nil
-	}
-	return nil, errEnded
-}
-
-// Fill executes the lines of a snapshot, each of which has to be committed, and returns the commit number of the last one.
-func (r *Replica) Fill(lines []string) (place uint64, err error) {
-	writer := r.process.links[0]
+// Restore executes the lines of a snapshot in an empty replica, which takes on its state and its tokens. It returns an error if the lines don't
+// end at the snapshot's commit number, because one was refused or regd has ended.
+func (r *Replica) Restore(state State, lines []string, tokens []*Kept) error {
 	for _, line := range lines {
-		line := line
-		writer.submit([]byte(line), func(reply []byte) {
-			r.mu.Lock()
-			defer r.mu.Unlock()
-			if place = wire.Place(reply); !wire.IsCommitted(reply) && err == nil {
-				err = fmt.Errorf("%.200s: %s", line, reply)
-			}
-		})
-		if !writer.settle(mostOpen) {
-			break
-		}
+		r.apply([]byte(line), func([]byte) {})
 	}
-	isUp := writer.settle(0)
+	r.Settle()
 	r.mu.Lock()
 	defer r.mu.Unlock()
-	if !isUp {
-		return 0, errEnded
+	if r.state.Place != state.Place {
+		return fmt.Errorf("a snapshot ends at commit %d and not at %d", r.state.Place, state.Place)
 	}
-	return place, err
-}
-
-// Restore sets the state and the tokens of a snapshot whose lines regd has executed.
-func (r *Replica) Restore(state State, tokens []*Kept) {
-	r.mu.Lock()
-	defer r.mu.Unlock()
 	r.state = state
-	for _, k := range tokens {
-		r.tokens.Commit(k, k.Reply)
+	for _, kept := range tokens {
+		r.retain(kept, kept.Reply)
 	}
-}
-
-// Tokens returns the retained tokens, the oldest first. No change may be under way.
-func (r *Replica) Tokens() []*Kept {
-	r.mu.Lock()
-	defer r.mu.Unlock()
-	return append([]*Kept{}, r.tokens.Retained()...)
+	return nil
 }

@@ -1,4 +1,4 @@
-package replica_test
+package replica
 
 import (
 	"context"
@@ -9,7 +9,6 @@ import (
 	"testing"
 	"time"
 
-	"regd/gateway/internal/replica"
 	"regd/gateway/internal/replica/regdtest"
 	"regd/gateway/internal/wire"
 )
@@ -20,10 +19,10 @@ func TestMain(m *testing.M) {
 }
 
 // start returns a replica over a regd in miniature, and the states that it reports.
-func start(t *testing.T) (*replica.Replica, func() []replica.State) {
+func start(t *testing.T) (*Replica, func() []State) {
 	var mu sync.Mutex
-	var states []replica.State
-	r, err := replica.Start(context.Background(), replica.Options{Program: os.Args[0], Domain: "ex.org", Workers: 3}, func(s replica.State) {
+	var states []State
+	r, err := Start(context.Background(), Options{Program: os.Args[0], Domain: "ex.org", Workers: 3}, func(s State) {
 		mu.Lock()
 		states = append(states, s)
 		mu.Unlock()
@@ -32,10 +31,10 @@ func start(t *testing.T) (*replica.Replica, func() []replica.State) {
 		t.Fatal(err)
 	}
 	t.Cleanup(r.Close)
-	return r, func() []replica.State {
+	return r, func() []State {
 		mu.Lock()
 		defer mu.Unlock()
-		return append([]replica.State{}, states...)
+		return append([]State{}, states...)
 	}
 }
 
@@ -46,7 +45,7 @@ func tokened(number int, before int) string {
 }
 
 // apply executes lines as one entry and returns the tails of the replies.
-func apply(t *testing.T, r *replica.Replica, entry uint64, lines ...string) []string {
+func apply(t *testing.T, r *Replica, entry uint64, lines ...string) []string {
 	var all [][]byte
 	for _, line := range lines {
 		all = append(all, []byte(line))
@@ -108,16 +107,28 @@ func TestTokens(t *testing.T) {
 	if strings.Join(got, "\n") != strings.Join(want, "\n") {
 		t.Errorf("in one entry: got %q", got)
 	}
+	got = apply(t, r, 3, strings.Replace(tokened(5, 0), "prune", "delete", 1), tokened(5, 0))
+	if got[1] != committed(6) {
+		t.Errorf("after a refused batch in one entry: got %q", got)
+	}
 }
 
 func TestTokensAreRetainedByNumber(t *testing.T) {
-	tokens := replica.NewTokens(2)
-	for _, name := range []string{"a", "b", "c"} {
-		tokens.Commit(tokens.Begin(name, ""), []byte(name))
+	most := mostTokens
+	t.Cleanup(func() { mostTokens = most })
+	mostTokens = 2
+	r, _ := start(t)
+	apply(t, r, 1, tokened(1, 0), tokened(2, 0), strings.Replace(tokened(4, 0), "prune", "delete", 1), tokened(3, 0))
+	if kept := r.Tokens(); len(kept) != 2 || len(r.tokens) != 2 {
+		t.Errorf("got %v", kept)
 	}
-	tokens.Drop(tokens.Begin("d", ""))
-	if tokens.Find("a") != nil || tokens.Find("d") != nil || tokens.Find("b") == nil || string(tokens.Find("c").Reply) != "c" || len(tokens.Retained()) != 2 {
-		t.Errorf("got %v", tokens.Retained())
+	for _, c := range []struct{ number, place int }{{2, 2}, {3, 3}} {
+		if got := apply(t, r, 2, tokened(c.number, 0))[0]; got != repeated(c.place) {
+			t.Errorf("token %d: got %s", c.number, got)
+		}
+	}
+	if got := apply(t, r, 3, tokened(1, 0))[0]; got != committed(4) {
+		t.Errorf("a forgotten token: got %s", got)
 	}
 }
 
@@ -125,10 +136,9 @@ func TestRestore(t *testing.T) {
 	r, _ := start(t)
 	apply(t, r, 1, tokened(1, 0), prune, tokened(2, 0))
 	other, _ := start(t)
-	if place, err := other.Fill([]string{prune, prune, prune}); place != 3 || err != nil {
-		t.Fatal(place, err)
+	if err := other.Restore(r.State(), []string{prune, prune, prune}, r.Tokens()); err != nil {
+		t.Fatal(err)
 	}
-	other.Restore(r.State(), r.Tokens())
 	for _, line := range []string{tokened(1, 0), tokened(2, 0), tokened(2, 9), prune} {
 		if first, second := apply(t, r, 2, line)[0], apply(t, other, 2, line)[0]; first != second {
 			t.Errorf("%s: got %s, want %s", line, second, first)
@@ -137,7 +147,8 @@ func TestRestore(t *testing.T) {
 	if r.State() != other.State() {
 		t.Errorf("got %v, want %v", other.State(), r.State())
 	}
-	if _, err := other.Fill([]string{prune, `{"ops":[]}`}); err == nil {
+	third, _ := start(t)
+	if err := third.Restore(State{Place: 2}, []string{prune, `{"ops":[]}`}, nil); err == nil {
 		t.Error("a line of a snapshot that is not committed is no error")
 	}
 }
@@ -150,7 +161,7 @@ func TestLeaves(t *testing.T) {
 		t.Errorf("got %q, %v", got, states())
 	}
 	select {
-	case <-r.Done():
+	case <-r.Context().Done():
 	case <-time.After(5 * time.Second):
 		t.Error("the replica goes on")
 	}
@@ -167,16 +178,17 @@ func TestEnd(t *testing.T) {
 	if reply := <-got; reply != nil {
 		t.Errorf("got %s", reply)
 	}
-	<-r.Done()
+	<-r.Context().Done()
 	r.Query(0, []byte(`{}`), func(reply []byte) { got <- reply })
-	if reply := <-got; reply != nil || r.Apply(1, [][]byte{[]byte(prune)}, func(int, []byte) { t.Error("answered") }) {
+	r.Apply(1, [][]byte{[]byte(prune)}, func(int, []byte) { t.Error("answered") })
+	if reply := <-got; reply != nil {
 		t.Errorf("got %s", reply)
 	}
 }
 
 func TestStartFails(t *testing.T) {
 	for _, program := range []string{"/nonexistent", "/bin/true"} {
-		if r, err := replica.Start(context.Background(), replica.Options{Program: program, Domain: "ex.org", Workers: 2}, nil); err == nil {
+		if r, err := Start(context.Background(), Options{Program: program, Domain: "ex.org", Workers: 2}, nil); err == nil {
 			r.Close()
 			t.Errorf("%s started", program)
 		}

@@ -4,110 +4,89 @@ import (
 	"context"
 	"errors"
 	"fmt"
-	"sync/atomic"
 	"time"
 
 	"regd/gateway/internal/etcd"
 	"regd/gateway/internal/logline"
 	"regd/gateway/internal/replica"
 	"regd/gateway/internal/snapshot"
-	"regd/gateway/internal/sums"
 )
 
-// pauses before another replica is started; the longer one for a replica that ended before it was ready
-const shortPause, longPause = 200 * time.Millisecond, 5 * time.Second
-
-// silentTime is how long a watch may bring nothing although there are new entries.
-const silentTime = 3 * time.Second
+const (
+	againTime  = 200 * time.Millisecond // before another replica is started, and before the log is read again
+	silentTime = 3 * time.Second        // how long a watch may bring nothing although there are new entries
+)
 
 // follow keeps a replica at the end of the log, and starts another one when it ends, until the context ends.
 func (g *Gateway) follow(ctx context.Context) error {
-	for pause := shortPause; ; {
-		began := time.Now()
-		isReady, err := g.runReplica(ctx, began)
+	for {
+		err := g.runReplica(ctx)
 		if ctx.Err() != nil {
 			return ctx.Err()
 		}
-		logline.Error("replica ended", "ready", isReady, "error", err)
-		etcd.Pause(ctx, pause)
-		if pause *= 2; isReady {
-			pause = shortPause
-		} else if pause > longPause {
-			pause = longPause
-		}
+		logline.Error("replica ended", "error", err)
+		etcd.Pause(ctx, againTime)
 	}
 }
 
-// runReplica makes a replica from the newest snapshot and the log, and keeps it at the end of the log until it ends. It returns whether the
-// replica was ready to answer queries.
-func (g *Gateway) runReplica(ctx context.Context, began time.Time) (isReady bool, err error) {
-	var isOver atomic.Bool
-	defer isOver.Store(true)
-	r, err := replica.Start(ctx, g.options.Replica, func(state replica.State) {
-		if isOver.Load() {
-			return // a late reply, when there may be another replica
-		}
-		g.board.update(func() { g.board.state = state })
-		if state.Entry%sums.Interval == 0 {
-			g.booth.Add(sums.Mark{Entry: state.Entry, Sum: fmt.Sprintf("%x", state.Sum)})
-		}
-	})
+// runReplica makes a replica from the newest snapshot and the log, and keeps it at the end of the log until it ends.
+func (g *Gateway) runReplica(ctx context.Context) error {
+	began, isReady := time.Now(), false
+	r, err := replica.Start(ctx, g.options.Replica, g.executed)
 	if err != nil {
-		return false, err
+		return err
 	}
 	defer r.Close()
-	defer g.board.update(func() { g.board.replica = nil })
-	next, err := snapshot.Load(ctx, g.log, r, snapshot.NewNames())
+	ctx = r.Context()
+	next, err := snapshot.Load(ctx, g.log, r)
 	if err != nil {
-		return false, err
+		return err
 	}
-	g.board.update(func() { g.board.state = r.State() })
+	defer g.board.update(func() { g.board.replica = nil })
 	caughtUp := func(last uint64) {
-		if !r.Settle() || isReady || r.State().Entry < last {
-			return
+		if r.Settle(); !isReady && r.State().Entry >= last { // less if regd has ended
+			isReady = true
+			g.board.update(func() { g.board.replica, g.board.state = r, r.State() })
+			logline.Info("replica ready", "entry", last, "place", r.State().Place, "seconds", fmt.Sprintf("%.2f", time.Since(began).Seconds()))
 		}
-		isReady = true
-		g.board.update(func() { g.board.replica = r })
-		logline.Info("replica ready", "entry", last, "place", r.State().Place, "seconds", fmt.Sprintf("%.2f", time.Since(began).Seconds()))
 	}
-	take := func(number uint64, value []byte) bool {
+	take := func(number uint64, value []byte) {
 		name, lines := etcd.SplitEntry(value)
-		return r.Apply(number, lines, g.answering(name))
+		r.Apply(number, lines, func(line int, reply []byte) { g.answer(name, line, reply) })
 	}
 	for {
-		part, stop := context.WithCancel(ctx)
-		go g.guard(part, stop, r)
-		next, err = g.log.Follow(part, next, caughtUp, take)
-		stop()
-		select {
-		case <-r.Done():
-			return isReady, errors.New("regd ended")
-		case <-ctx.Done():
-			return isReady, ctx.Err()
-		case <-time.After(50 * time.Millisecond):
-		}
-		if errors.Is(err, etcd.ErrCut) {
-			return isReady, err
+		reading, cut := context.WithCancel(ctx)
+		go g.guard(reading, cut, r)
+		next, err = g.log.Follow(reading, next, caughtUp, take)
+		cut()
+		switch {
+		case ctx.Err() != nil:
+			return errors.New("regd ended")
+		case errors.Is(err, etcd.ErrCut):
+			return err
 		}
 		logline.Error("reading the log again", "next", next, "error", err)
+		etcd.Pause(ctx, againTime)
 	}
 }
 
-// guard asks every second where the log ends. It stops the reading of the log when regd has ended, and when the reading brings nothing although
-// the log has grown.
-func (g *Gateway) guard(ctx context.Context, stop func(), r *replica.Replica) {
-	defer stop()
-	ticks := time.NewTicker(time.Second)
-	defer ticks.Stop()
+// executed takes note that the replica has executed an entry.
+func (g *Gateway) executed(state replica.State) {
+	g.board.update(func() { g.board.state = state })
+	if state.Entry%voteInterval == 0 {
+		select {
+		case g.marks <- state:
+		default: // while etcd doesn't answer, those that there is no room for don't count
+		}
+	}
+}
+
+// guard asks every second where the log ends. It cuts the reading of the log when that brings nothing although the log has grown.
+func (g *Gateway) guard(ctx context.Context, cut func(), r *replica.Replica) {
+	defer cut()
 	entry, moved := r.State().Entry, time.Now()
 	for time.Since(moved) < silentTime {
-		select {
-		case <-ctx.Done():
-			return
-		case <-r.Done():
-			return
-		case <-ticks.C:
-		}
+		etcd.Pause(ctx, time.Second)
 		head, err := g.log.Head(ctx)
 		if err != nil {
 			return

@@ -2,45 +2,32 @@ package server
 
 import (
 	"context"
-	"time"
+	"sync"
+	"sync/atomic"
 )
 
-// freshHead returns the number of the last entry of the log, so that every change that was answered before the call is counted. It
-// returns false if etcd doesn't answer.
-func (g *Gateway) freshHead(ctx context.Context) (uint64, bool) {
-	reply := make(chan uint64, 1)
-	g.fresh <- reply
-	late := time.NewTimer(waitTime)
-	defer late.Stop()
-	select {
-	case head := <-reply:
-		return head, true
-	case <-late.C:
-	case <-ctx.Done():
-	}
-	return 0, false
+// fresh is what fresh queries know of the end of the log. Those that wait for etcd together share one request.
+type fresh struct {
+	begun atomic.Uint64 // how many requests have begun
+
+	mu       sync.Mutex // held by the one who asks etcd
+	answered uint64     // the number of the last request that was answered
+	head     uint64     // its answer
 }
 
-// answerFresh asks etcd where the log ends, once for all that wait, until the context ends.
-func (g *Gateway) answerFresh(ctx context.Context) error {
-	for {
-		var all []chan uint64
-		select {
-		case one := <-g.fresh:
-			all = append(all, one)
-		case <-ctx.Done():
-			return ctx.Err()
-		}
-		for len(g.fresh) > 0 { // no other goroutine receives
-			all = append(all, <-g.fresh)
-		}
-		head, err := g.log.Head(ctx)
-		if err != nil {
-			return err
-		}
-		g.heard(head)
-		for _, one := range all {
-			one <- head
-		}
+// freshHead returns the number of the last entry of the log, so that every change that was answered before the call is counted. Its only error
+// is that of the context.
+func (g *Gateway) freshHead(ctx context.Context) (uint64, error) {
+	begun := g.fresh.begun.Load()
+	g.fresh.mu.Lock()
+	defer g.fresh.mu.Unlock()
+	if g.fresh.answered > begun { // that request has begun after this call
+		return g.fresh.head, nil
 	}
+	number := g.fresh.begun.Add(1)
+	head, err := g.log.Head(ctx)
+	if err == nil {
+		g.fresh.head, g.fresh.answered = head, number
+	}
+	return head, err
 }

@@ -7,7 +7,6 @@ import (
 	"context"
 	"crypto/tls"
 	"encoding/json"
-	"errors"
 	"fmt"
 	"net"
 	"net/http"
@@ -17,9 +16,7 @@ import (
 
 	"regd/gateway/internal/etcd"
 	"regd/gateway/internal/logline"
-	"regd/gateway/internal/policy"
 	"regd/gateway/internal/replica"
-	"regd/gateway/internal/sums"
 	"regd/gateway/internal/wire"
 )
 
@@ -37,27 +34,27 @@ type Options struct {
 
 // A Gateway serves callers.
 type Gateway struct {
-	log     etcd.Log
+	log     *etcd.Log
 	options Options
 	run     string // no other gateway, and no other run of this one, has it
-	board   *board
-	booth   *sums.Booth
+	board   board
 	flights sync.Map // from the names of this gateway's entries that are not yet answered to their changes
-	changes chan *change
-	fresh   chan chan uint64
+	changes chan *request
+	fresh   fresh
+	marks   chan replica.State // checksums to vote for
 
-	sessions atomic.Int64 // open ones
-	accepted atomic.Int64
-	head     atomic.Uint64 // where the log ended when etcd was last asked
-	headTime atomic.Int64  // when that was, in seconds
+	isDisputed atomic.Bool
+	sessions   atomic.Int64 // open ones
+	accepted   atomic.Int64
+	head       atomic.Uint64 // where the log ended when etcd was last asked
+	headTime   atomic.Int64  // when that was, in seconds
 }
 
 // New returns a gateway of a log.
-func New(log etcd.Log, options Options) *Gateway {
+func New(log *etcd.Log, options Options) *Gateway {
 	g := &Gateway{
-		log: log, options: options, run: wire.NewID(), board: newBoard(),
-		booth:   sums.NewBooth(log, options.Program, options.Name),
-		changes: make(chan *change, 4096), fresh: make(chan chan uint64, 4096),
+		log: log, options: options, run: wire.NewID(), board: board{changed: make(chan struct{})},
+		changes: make(chan *request, 4096), marks: make(chan replica.State, votesLeft),
 	}
 	g.heard(0)
 	return g
@@ -68,23 +65,17 @@ func (g *Gateway) heard(head uint64) {
 	g.headTime.Store(time.Now().Unix())
 }
 
-// Open prepares a log for a trust domain. It returns an error if the log is that of another one.
-func Open(ctx context.Context, log etcd.Log, domain string) error {
-	had, err := log.PutNew(ctx, "domain", []byte(domain))
-	if err == nil && string(had) != domain {
-		err = fmt.Errorf("this log is that of the trust domain %s", had)
-	}
-	if err == nil {
-		_, err = log.PutNew(ctx, "head", []byte("0"))
-	}
-	return err
-}
-
-// Run follows the log until the context ends or the gateway has to stop. Its error says why.
-func (g *Gateway) Run(ctx context.Context) error {
+// Run follows the log until the context ends or the gateway has to stop, and calls serve once queries can be answered. It returns the first
+// error, also of serve.
+func (g *Gateway) Run(ctx context.Context, serve func(context.Context) error) error {
 	ctx, stop := context.WithCancel(ctx)
 	defer stop()
-	parts := []func(context.Context) error{g.follow, g.appendChanges, g.answerFresh, g.booth.Run}
+	parts := []func(context.Context) error{g.follow, g.appendChanges, g.compare, func(ctx context.Context) error {
+		if !g.board.wait(ctx, 0, 0) {
+			return ctx.Err()
+		}
+		return serve(ctx)
+	}}
 	ended := make(chan error, len(parts))
 	for _, part := range parts {
 		go func(part func(context.Context) error) { ended <- part(ctx) }(part)
@@ -95,13 +86,6 @@ func (g *Gateway) Run(ctx context.Context) error {
 		<-ended
 	}
 	return err
-}
-
-// Ready waits until queries can be answered.
-func (g *Gateway) Ready(ctx context.Context) error {
-	for ctx.Err() == nil && !g.board.wait(ctx, waitTime, 0, 0) {
-	}
-	return ctx.Err()
 }
 
 // Serve accepts callers until the context ends. Queries of fresh ones see every change that was answered to anybody before.
@@ -115,8 +99,8 @@ func (g *Gateway) Serve(ctx context.Context, on net.Listener, isFresh bool) erro
 		switch {
 		case err == nil:
 			go g.receive(ctx, conn, isFresh)
-		case ctx.Err() != nil || errors.Is(err, net.ErrClosed):
-			return err
+		case ctx.Err() != nil:
+			return ctx.Err()
 		default: // such as: no free descriptor
 			logline.Error("accept failed", "error", err)
 			etcd.Pause(ctx, 10*time.Millisecond)
@@ -128,30 +112,28 @@ func (g *Gateway) Serve(ctx context.Context, on net.Listener, isFresh bool) erro
 func (g *Gateway) receive(ctx context.Context, conn net.Conn, isFresh bool) {
 	g.sessions.Add(1)
 	defer g.sessions.Add(-1)
-	caller := policy.Caller{IsOperator: true}
+	defer func() { conn.Close() }()
+	id, isOperator := "", true
 	if g.options.TLS != nil {
 		secure := tls.Server(conn, g.options.TLS)
 		conn.SetDeadline(time.Now().Add(handshakeTime))
-		err := secure.HandshakeContext(ctx)
-		if err == nil {
-			caller, err = policy.CallerOf(secure.ConnectionState(), g.options.Operators)
-		}
-		if err != nil {
-			conn.Close()
+		if secure.HandshakeContext(ctx) != nil {
 			return
 		}
 		conn.SetDeadline(time.Time{})
 		conn = secure
+		id, isOperator = callerOf(secure.ConnectionState().PeerCertificates[0], g.options.Operators) // the handshake requires one
 	}
-	in := bufio.NewReaderSize(conn, readBuffer)
-	(&session{Gateway: g, conn: conn, in: in, caller: caller, isFresh: isFresh, number: int(g.accepted.Add(1))}).serve(ctx)
+	s := &session{Gateway: g, conn: conn, in: bufio.NewReaderSize(conn, readBuffer), agent: id, isOperator: isOperator, isFresh: isFresh,
+		number: int(g.accepted.Add(1))}
+	s.serve(ctx)
 }
 
 // ServeHTTP answers with the status of the gateway as JSON: with 200 if it answers queries, otherwise with 503.
 func (g *Gateway) ServeHTTP(w http.ResponseWriter, _ *http.Request) {
 	r, state := g.board.read()
 	status := map[string]any{
-		"name": g.options.Name, "program": g.options.Program, "ready": r != nil, "disputed": g.booth.IsDisputed(),
+		"name": g.options.Name, "program": g.options.Program, "ready": r != nil, "disputed": g.isDisputed.Load(),
 		"entry": state.Entry, "place": state.Place, "sum": fmt.Sprintf("%x", state.Sum),
 		"head": g.head.Load(), "silent": time.Now().Unix() - g.headTime.Load(), "sessions": g.sessions.Load(),
 	}

@@ -35,11 +35,10 @@ const (
 
 // a site is an etcd in memory and gateways, each with a regd in miniature.
 type site struct {
-	t      *testing.T
-	ctx    context.Context
-	store  *etcdtest.Server
-	log    etcd.Log
-	closed context.CancelFunc
+	t     *testing.T
+	ctx   context.Context
+	store *etcdtest.Server
+	log   *etcd.Log
 }
 
 func newSite(t *testing.T) *site {
@@ -47,8 +46,8 @@ func newSite(t *testing.T) *site {
 	t.Cleanup(store.CloseClientConnections)
 	ctx, cancel := context.WithTimeout(context.Background(), 50*time.Second)
 	t.Cleanup(cancel)
-	s := &site{t, ctx, store, etcd.Log{Client: etcd.NewClient([]string{store.URL}, "r/", nil)}, cancel}
-	if err := Open(ctx, s.log, "ex.org"); err != nil {
+	s := &site{t, ctx, store, etcd.New([]string{store.URL}, "r/", nil)}
+	if err := s.log.Open(ctx, "ex.org"); err != nil {
 		t.Fatal(err)
 	}
 	return s
@@ -58,21 +57,29 @@ func newSite(t *testing.T) *site {
 func (s *site) gateway(name string) (*Gateway, string, string) {
 	g := New(s.log, Options{Name: name, Program: "p", Replica: replica.Options{Program: os.Args[0], Domain: "ex.org", Workers: 3}})
 	ctx, stop := context.WithCancel(s.ctx)
-	ended := make(chan struct{})
-	go func() { g.Run(ctx); close(ended) }()
-	s.t.Cleanup(func() { stop(); <-ended })
-	if err := g.Ready(ctx); err != nil {
+	var addresses []string
+	ready, ended := make(chan struct{}), make(chan error, 1)
+	go func() {
+		ended <- g.Run(ctx, func(ctx context.Context) error {
+			for _, isFresh := range []bool{false, true} {
+				on, err := net.Listen("tcp", "127.0.0.1:0")
+				if err != nil {
+					return err
+				}
+				go g.Serve(ctx, small{on}, isFresh)
+				addresses = append(addresses, on.Addr().String())
+			}
+			close(ready)
+			<-ctx.Done()
+			return ctx.Err()
+		})
+	}()
+	select {
+	case <-ready:
+	case err := <-ended:
 		s.t.Fatal(err)
 	}
-	var addresses []string
-	for _, isFresh := range []bool{false, true} {
-		on, err := net.Listen("tcp", "127.0.0.1:0")
-		if err != nil {
-			s.t.Fatal(err)
-		}
-		go g.Serve(ctx, small{on}, isFresh)
-		addresses = append(addresses, on.Addr().String())
-	}
+	s.t.Cleanup(func() { stop(); <-ended })
 	return g, addresses[0], addresses[1]
 }
 
@@ -199,9 +206,6 @@ func TestGateways(t *testing.T) {
 	}
 	_, third, _ := s.gateway("c")
 	s.expect("a gateway that comes later", s.call(third, show), answered(1, 40))
-	if err := Open(s.ctx, s.log, "other.org"); err == nil {
-		t.Error("the log of another trust domain was opened")
-	}
 }
 
 // TestSilentWatch holds the watch of one gateway. Its usual port doesn't see a change of another one. A fresh query does: the gateway notices that
@@ -231,30 +235,36 @@ func TestLostAppend(t *testing.T) {
 	}
 }
 
-// TestOpenAppend cuts off an entry whose append is open: it can't be known any more whether it was made, so the connection ends.
-func TestOpenAppend(t *testing.T) {
+// TestUnknownAppend appends where an entry was cut off, and loses the answer: it can't be known whether that was this change, so it gets no answer.
+func TestUnknownAppend(t *testing.T) {
 	s := newSite(t)
-	g, address, _ := s.gateway("a")
+	s.log.Append(s.ctx, 1, []byte("a"))
+	s.log.Cut(s.ctx, 1)
+	g := New(s.log, Options{})
+	go g.appendChanges(s.ctx)
+	first := &request{line: []byte(prune), reply: make(chan []byte, 1), left: &atomic.Bool{}}
 	s.store.LoseAnswers(1)
-	conn, in := s.dial(address)
-	cut := make(chan struct{})
-	go func() {
-		for {
-			if head, _ := s.log.Head(s.ctx); head == 1 {
-				s.log.Cut(s.ctx, 1)
-				close(cut)
-				return
-			}
+	g.changes <- first
+	select {
+	case reply := <-first.reply:
+		if reply != nil {
+			t.Errorf("got %s", reply)
 		}
-	}()
-	g.board.update(func() {})
-	conn.Write([]byte(prune + "\n"))
-	<-cut
-	answer, err := in.ReadString('\n')
-	if err == nil && answer != committed(1, 1)+"\n" || err != nil && answer != "" {
-		t.Errorf("got %s, %v", answer, err)
+	case <-s.ctx.Done():
+		t.Fatal("no answer")
 	}
-	s.expect("the next change", s.call(address, prune), committed(1, 2))
+	g.changes <- &request{line: []byte(show), reply: make(chan []byte, 1), left: &atomic.Bool{}}
+	for {
+		value, err := s.log.Get(s.ctx, etcd.EntryKey(2))
+		if err != nil {
+			t.Fatal(err)
+		}
+		if value != nil {
+			_, lines := etcd.SplitEntry(value)
+			s.expect("the next change", []string{string(lines[0])}, show)
+			return
+		}
+	}
 }
 
 // TestReplicaEnds kills regd, and lets it run out of memory: queries and changes go on with another one.
@@ -273,7 +283,7 @@ func TestReplicaEnds(t *testing.T) {
 		process, _ := os.FindProcess(r.Pid())
 		process.Kill()
 		if place == 2 {
-			<-r.Done()
+			<-r.Context().Done()
 		}
 	}
 }
@@ -285,7 +295,7 @@ func TestCallerLeft(t *testing.T) {
 	gone, here := &atomic.Bool{}, &atomic.Bool{}
 	gone.Store(true)
 	for _, left := range []*atomic.Bool{gone, here, gone} {
-		g.changes <- &change{line: []byte(prune), reply: make(chan []byte, 1), left: left}
+		g.changes <- &request{line: []byte(prune), reply: make(chan []byte, 1), left: left}
 	}
 	for i := 0; i < 100; i++ {
 		if head, _ := s.log.Head(s.ctx); head > 0 {

@@ -4,13 +4,11 @@ import (
 	"bufio"
 	"bytes"
 	"context"
-	"io"
 	"net"
 	"sync/atomic"
 	"time"
 
 	"regd/gateway/internal/etcd"
-	"regd/gateway/internal/policy"
 	"regd/gateway/internal/wire"
 )
 
@@ -29,56 +27,65 @@ const (
 // book that has what the lines before it made, and nothing of those after it.
 type session struct {
 	*Gateway
-	conn    net.Conn
-	in      *bufio.Reader
-	out     []byte
-	caller  policy.Caller
-	isFresh bool
-	number  int // of the connection, which chooses a worker of regd
+	conn       net.Conn
+	in         *bufio.Reader
+	out        []byte
+	agent      string // the SPIFFE ID of the caller, or ""
+	isOperator bool
+	isFresh    bool
+	number     int // of the connection, which chooses a worker of regd
 
-	row          []waiting // lines whose answer is not yet written
-	isChanging   bool      // the lines of the row are changes
-	lines, calls int
-	place        uint64 // the newest commit number that the caller has seen
+	row          []*request // those whose answer is not yet written
+	isChanging   bool       // they are changes
+	lines, calls int        // how many were answered
+	place        uint64     // the newest commit number that the caller has seen
 	left         atomic.Bool
 }
 
-// waiting is a line without its answer.
-type waiting struct {
-	number int
-	query  []byte // nil for a change or a refusal
-	reply  chan []byte
+// A request is a line of a caller.
+type request struct {
+	line  []byte
+	reply chan []byte  // with room for one reply; nil stands for an answer that can't be known
+	left  *atomic.Bool // the caller's connection has ended
+}
+
+// answer stores the reply. Only the first one counts.
+func (q *request) answer(reply []byte) {
+	select {
+	case q.reply <- reply:
+	default:
+	}
 }
 
 // serve serves a connection to its end.
 func (s *session) serve(ctx context.Context) {
-	defer s.conn.Close()
 	defer s.left.Store(true)
 	for {
-		if len(s.row) >= mostRow && !s.answer(ctx, mostRow/2) || !s.hasLine() && !s.answer(ctx, 0) {
+		if len(s.row) >= mostRow && !s.writeAnswers(ctx, mostRow/2) || !s.hasLine() && !s.writeAnswers(ctx, 0) {
 			return
 		}
 		line, code, err := wire.ReadLine(s.in)
 		if err != nil {
-			if err == io.EOF {
-				s.answer(ctx, 0)
-			}
 			return
 		}
-		s.lines++
-		if code == "" {
-			line, code = policy.Admit(s.caller, line)
+		isChange := false
+		switch {
+		case code != "":
+		case !s.isOperator:
+			line, code = wire.ForAgent(s.agent, line)
+		case wire.MayChange(line):
+			isChange = true
+			line, code = wire.ForLog(line)
 		}
 		if code != "" {
-			s.add(nil) <- wire.Refusal(code)
+			s.add(nil).answer(wire.Refusal(code))
 			continue
 		}
-		isChange := wire.MayChange(line)
-		if (isChange != s.isChanging || s.isFresh) && !s.answer(ctx, 0) {
+		if (isChange != s.isChanging || s.isFresh) && !s.writeAnswers(ctx, 0) {
 			return
 		}
 		if s.isChanging = isChange; isChange {
-			s.change(line)
+			s.changes <- s.add(line)
 		} else if !s.query(ctx, line) {
 			return
 		}
@@ -92,61 +99,57 @@ func (s *session) hasLine() bool {
 	return bytes.IndexByte(arrived, '\n') >= 0
 }
 
-// change sends a line to the log.
-func (s *session) change(line []byte) {
-	if b, ok := wire.ReadBatch(line); ok {
-		line = b.WithIDs(wire.NewID)
-	}
-	s.changes <- &change{line: line, reply: s.add(nil), left: &s.left}
-}
-
-// add adds the line that was read last to the row, and returns where its answer goes.
-func (s *session) add(query []byte) chan []byte {
-	reply := make(chan []byte, 1)
-	s.row = append(s.row, waiting{s.lines, query, reply})
-	return reply
+// add adds the line that was read last to the row.
+func (s *session) add(line []byte) *request {
+	q := &request{line: line, reply: make(chan []byte, 1), left: &s.left}
+	s.row = append(s.row, q)
+	return q
 }
 
 // query sends a line to the replica. It returns false if the session ends.
 func (s *session) query(ctx context.Context, line []byte) bool {
 	if s.isFresh {
-		if head, ok := s.freshHead(ctx); !ok || !s.board.wait(ctx, waitTime, head, 0) {
+		late, cancel := context.WithTimeout(ctx, waitTime)
+		defer cancel()
+		if head, err := s.freshHead(late); err != nil || !s.board.wait(late, head, 0) {
 			return false
 		}
 	}
-	if after := wire.After(line); after > s.board.place() {
-		if !s.answer(ctx, 0) {
+	_, state := s.board.read()
+	if after := wire.After(line); after > state.Place {
+		if !s.writeAnswers(ctx, 0) {
 			return false
 		}
-		s.board.wait(ctx, afterTime, 0, after) // if it is still too early, regd says W1
+		late, cancel := context.WithTimeout(ctx, afterTime)
+		defer cancel()
+		s.board.wait(late, 0, after) // if it is still too early, regd says W1
 	}
-	s.add(line)
-	s.ask(s.row[len(s.row)-1])
+	s.ask(s.add(line))
 	return true
 }
 
 // ask sends a query to the replica, for a book that is no older than what the caller has seen, and on the fresh port than what the replica
 // has executed. The reply is nil if there is no replica.
-func (s *session) ask(w waiting) {
+func (s *session) ask(q *request) {
 	r, state := s.board.read()
 	if r == nil {
-		w.reply <- nil
+		q.answer(nil)
 		return
 	}
 	place := s.place
 	if s.isFresh && state.Place > place {
 		place = state.Place
 	}
-	r.Query(s.number, wire.WithAfter(w.query, place), func(reply []byte) { w.reply <- reply })
+	r.Query(s.number, wire.WithAfter(q.line, place), q.answer)
 }
 
-// answer writes answers, in order, until at most the given number of lines waits, and flushes them. It returns false if the connection is of
+// writeAnswers writes answers, in order, until at most the given number of lines waits, and flushes them. It returns false if the connection is of
 // no more use. Where an answer doesn't come, whether the change was made is open: a line with a token may be sent again.
-func (s *session) answer(ctx context.Context, most int) bool {
+func (s *session) writeAnswers(ctx context.Context, most int) bool {
 	for len(s.row) > most {
-		w := s.row[0]
+		q := s.row[0]
 		s.row = s.row[1:]
-		reply := s.await(ctx, w)
+		reply := s.await(ctx, q)
 		if reply == nil {
 			s.flush()
 			return false
@@ -154,10 +157,10 @@ func (s *session) answer(ctx context.Context, most int) bool {
 		if place := wire.Place(reply); place > s.place {
 			s.place = place
 		}
-		if !wire.IsRefusal(reply) {
+		if s.lines++; !wire.IsRefusal(reply) {
 			s.calls++
 		}
-		if s.out = wire.AppendReply(s.out, reply, s.calls, w.number); len(s.out) > flushSize && !s.flush() {
+		if s.out = wire.AppendReply(s.out, reply, s.calls, s.lines); len(s.out) > flushSize && !s.flush() {
 			return false
 		}
 	}
@@ -165,20 +168,20 @@ func (s *session) answer(ctx context.Context, most int) bool {
 }
 
 // await returns the answer to a line, or nil. It asks a query again if regd ended, and if the reply is older than what the caller has seen.
-func (s *session) await(ctx context.Context, w waiting) []byte {
-	if len(w.reply) == 0 && !s.flush() {
+func (s *session) await(ctx context.Context, q *request) []byte {
+	if len(q.reply) == 0 && !s.flush() {
 		return nil
 	}
-	late := time.NewTimer(waitTime)
+	late := time.NewTimer(waitTime) // a context for each line would make all connections wait for one lock
 	defer late.Stop()
 	for {
 		select {
-		case reply := <-w.reply:
-			if w.query == nil || reply != nil && !s.isOld(reply) {
+		case reply := <-q.reply:
+			if s.isChanging || reply != nil && !s.isOld(reply) {
 				return reply
 			}
 			etcd.Pause(ctx, retryTime)
-			s.ask(w)
+			s.ask(q)
 		case <-late.C:
 			return nil
 		case <-ctx.Done():
@@ -189,10 +192,9 @@ func (s *session) await(ctx context.Context, w waiting) []byte {
 
 // isOld returns true if the worker that answered a query has not yet seen a commit that the caller has seen, or that the gateway has seen.
 func (s *session) isOld(reply []byte) bool {
-	if wire.HasCode(reply, "W1") {
-		return wire.Place(reply) < s.board.place()
-	}
-	return !wire.IsRefusal(reply) && wire.Place(reply) < s.place
+	_, state := s.board.read()
+	place := wire.Place(reply)
+	return !wire.IsRefusal(reply) && (place < s.place || wire.Code(reply) == "W1" && place < state.Place)
 }
 
 func (s *session) flush() bool {

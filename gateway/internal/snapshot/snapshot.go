@@ -6,11 +6,11 @@
 package snapshot
 
 import (
+	"bytes"
 	"context"
-	"encoding/hex"
 	"encoding/json"
 	"fmt"
-	"strings"
+	"reflect"
 
 	"regd/gateway/internal/etcd"
 	"regd/gateway/internal/logline"
@@ -31,8 +31,7 @@ type head struct {
 
 // content is what the chunks hold together, as JSON.
 type content struct {
-	Place  uint64
-	Sum    string
+	replica.State
 	Tokens []*replica.Kept
 	Lines  []string
 }
@@ -41,91 +40,72 @@ func chunkKey(entry uint64, number int) string {
 	return fmt.Sprintf("snapshot/%016x/%08x", entry, number)
 }
 
-// Load makes the newest snapshot in an empty replica, notes the names in it, and returns the number of the first entry after it: 1 if there is
-// no snapshot.
-func Load(ctx context.Context, log etcd.Log, r *replica.Replica, names Names) (uint64, error) {
+// read returns the newest snapshot. It is empty if there is none.
+func read(ctx context.Context, log *etcd.Log) (c content, err error) {
 	text, err := log.Get(ctx, "snapshot")
 	if err != nil || text == nil {
-		return 1, err
+		return c, err
 	}
 	var h head
-	if err := json.Unmarshal(text, &h); err != nil {
-		return 0, err
-	}
+	err = json.Unmarshal(text, &h)
 	text = nil
-	for i := 0; i < h.Chunks; i++ {
-		part, err := log.Get(ctx, chunkKey(h.Entry, i))
-		if err != nil {
-			return 0, err
-		}
-		text = append(text, part...)
+	for i := 0; i < h.Chunks && err == nil; i++ {
+		var chunk []byte
+		chunk, err = log.Get(ctx, chunkKey(h.Entry, i))
+		text = append(text, chunk...)
 	}
-	var c content
-	if err := json.Unmarshal(text, &c); err != nil { // such as: a newer snapshot has taken its place meanwhile
-		return 0, fmt.Errorf("snapshot of entry %d: %w", h.Entry, err)
+	if err == nil {
+		err = json.Unmarshal(text, &c) // which fails if a newer snapshot has taken its place meanwhile
 	}
-	for _, line := range c.Lines {
-		names.Note([]byte(line))
+	return c, err
+}
+
+// Load makes the newest snapshot in an empty replica, and returns the number of the first entry after it: 1 if there is no snapshot.
+func Load(ctx context.Context, log *etcd.Log, r *replica.Replica) (uint64, error) {
+	c, err := read(ctx, log)
+	if err == nil {
+		err = c.fill(r)
 	}
-	return h.Entry + 1, c.fill(r, h.Entry)
+	return c.Entry + 1, err
 }
 
 // fill makes the book of a snapshot in an empty replica.
-func (c content) fill(r *replica.Replica, entry uint64) error {
-	state := replica.State{Entry: entry, Place: c.Place}
-	if n, err := hex.Decode(state.Sum[:], []byte(c.Sum)); err != nil || n != len(state.Sum) {
-		return fmt.Errorf("snapshot of entry %d: bad checksum", entry)
-	}
-	var empty []string // first, since they are quickest while the book is empty
+func (c content) fill(r *replica.Replica) error {
+	var lines []string
 	for i := uint64(len(c.Lines)); i < c.Place; i++ {
-		empty = append(empty, emptyLine)
+		lines = append(lines, emptyLine) // first, since they are quickest while the book is empty
 	}
-	place, err := r.Fill(append(empty, c.Lines...))
-	if err == nil && place != c.Place {
-		err = fmt.Errorf("snapshot of entry %d: it ends at commit %d and not at %d", entry, place, c.Place)
-	}
-	r.Restore(state, c.Tokens)
-	return err
+	return r.Restore(c.State, append(lines, c.Lines...), c.Tokens)
 }
 
 // Make makes a snapshot of the book that was left by the entry `keep` before the last one, and deletes the log up to it. It makes none if that
 // would not shorten the log.
-func Make(ctx context.Context, log etcd.Log, options replica.Options, keep uint64) error {
-	r, err := replica.Start(ctx, options, func(replica.State) {})
-	if err != nil {
-		return err
-	}
-	defer r.Close()
-	names := NewNames()
-	first, err := Load(ctx, log, r, names)
+func Make(ctx context.Context, log *etcd.Log, options replica.Options, keep uint64) error {
+	old, err := read(ctx, log)
 	if err != nil {
 		return err
 	}
 	last, err := log.Head(ctx)
-	if err != nil || last < first+keep {
+	if err != nil || last <= old.Entry+keep {
 		return err
 	}
 	last -= keep
-	if err := replay(ctx, log, r, names, first, last); err != nil {
-		return err
-	}
-	lines, err := bookLines(r, names)
+	names := names{}
+	c, err := build(ctx, options, names, func(r *replica.Replica) error { return replay(log, old, r, names, last) })
 	if err != nil {
 		return err
 	}
-	state := r.State()
-	c := content{state.Place, hex.EncodeToString(state.Sum[:]), r.Tokens(), lines}
-	if uint64(len(lines)) > c.Place {
-		logline.Info("no snapshot, because it would be longer than the log", "lines", len(lines), "commits", c.Place)
+	if uint64(len(c.Lines)) > c.Place {
+		logline.Info("no snapshot, because it would be longer than the log", "lines", len(c.Lines), "commits", c.Place)
 		return nil
 	}
-	if err := c.verify(ctx, options, names, last); err != nil {
+	if err := c.verify(ctx, options, names); err != nil {
 		return err
 	}
-	if err := c.publish(ctx, log, last); err != nil {
+	if err := c.publish(ctx, log); err != nil {
 		return err
 	}
-	logline.Info("snapshot made", "entry", last, "place", c.Place, "lines", len(lines), "tokens", len(c.Tokens))
+	logline.Info("snapshot made", "entry", last, "place", c.Place, "lines", len(c.Lines), "tokens", len(c.Tokens))
 	// a replica that starts now starts from the snapshot
 	if err := log.Cut(ctx, last); err != nil {
 		return err
@@ -133,57 +113,66 @@ func Make(ctx context.Context, log etcd.Log, options replica.Options, keep uint6
 	return log.Delete(ctx, "snapshot/", chunkKey(last, 0))
 }
 
-// replay executes the entries from first to last.
-func replay(ctx context.Context, log etcd.Log, r *replica.Replica, names Names, first, last uint64) error {
-	_, err := log.Follow(ctx, first, func(uint64) {}, func(number uint64, value []byte) bool {
-		_, lines := etcd.SplitEntry(value)
-		for _, line := range lines {
-			names.Note(line)
-		}
-		return r.Apply(number, lines, func(int, []byte) {}) && number < last
-	})
-	if err == nil && (!r.Settle() || r.State().Entry != last) {
-		err = fmt.Errorf("the replay ended at entry %d and not at %d", r.State().Entry, last)
-	}
-	return err
-}
-
-// verify executes a snapshot in another regd, and returns an error unless that makes the same book.
-func (c content) verify(ctx context.Context, options replica.Options, names Names, entry uint64) error {
+// build starts a regd, whose book fill makes, and returns the snapshot of it.
+func build(ctx context.Context, options replica.Options, names names, fill func(*replica.Replica) error) (c content, err error) {
 	r, err := replica.Start(ctx, options, func(replica.State) {})
 	if err != nil {
-		return err
+		return c, err
 	}
 	defer r.Close()
-	if err := c.fill(r, entry); err != nil {
+	if err = fill(r); err == nil {
+		c.Lines, err = bookLines(r, names)
+	}
+	c.State, c.Tokens = r.State(), r.Tokens()
+	return c, err
+}
+
+// replay makes a snapshot in an empty replica, and executes the entries after it up to the last one. It notes all names.
+func replay(log *etcd.Log, old content, r *replica.Replica, names names, last uint64) error {
+	for _, line := range old.Lines {
+		names.note([]byte(line))
+	}
+	if err := old.fill(r); err != nil {
 		return err
 	}
-	lines, err := bookLines(r, names)
-	if err == nil && strings.Join(lines, "\n") != strings.Join(c.Lines, "\n") {
-		err = fmt.Errorf("snapshot of entry %d: it makes another book", entry)
+	reading, stop := context.WithCancel(r.Context())
+	defer stop()
+	_, err := log.Follow(reading, old.Entry+1, func(uint64) {}, func(number uint64, value []byte) {
+		if number > last {
+			return
+		}
+		_, lines := etcd.SplitEntry(value)
+		for _, line := range lines {
+			names.note(line)
+		}
+		if r.Apply(number, lines, func(int, []byte) {}); number == last {
+			stop()
+		}
+	})
+	if r.Settle(); r.State().Entry != last {
+		return fmt.Errorf("the replay ended at entry %d: %w", r.State().Entry, err)
+	}
+	return nil
+}
+
+// verify makes a snapshot in another regd, and returns an error unless that makes the same book.
+func (c content) verify(ctx context.Context, options replica.Options, names names) error {
+	again, err := build(ctx, options, names, c.fill)
+	if err == nil && !reflect.DeepEqual(again, c) {
+		err = fmt.Errorf("the snapshot of entry %d makes another book", c.Entry)
 	}
 	return err
 }
 
 // publish writes the chunks, and then the head that makes them count.
-func (c content) publish(ctx context.Context, log etcd.Log, entry uint64) error {
-	text, err := json.Marshal(c)
-	if err != nil {
-		return err
-	}
-	h := head{Entry: entry}
-	for ; len(text) > 0; h.Chunks++ {
-		size := chunkSize
-		if size > len(text) {
-			size = len(text)
-		}
-		if err := log.Put(ctx, chunkKey(entry, h.Chunks), text[:size]); err != nil {
+func (c content) publish(ctx context.Context, log *etcd.Log) error {
+	text, _ := json.Marshal(c) // no error: it holds strings, bytes and numbers
+	h := head{Entry: c.Entry}
+	for rest := bytes.NewBuffer(text); rest.Len() > 0; h.Chunks++ {
+		if err := log.Put(ctx, chunkKey(c.Entry, h.Chunks), rest.Next(chunkSize)); err != nil {
 			return err
 		}
-		text = text[size:]
 	}
-	if text, err = json.Marshal(h); err != nil {
-		return err
-	}
+	text, _ = json.Marshal(h)
 	return log.Put(ctx, "snapshot", text)
 }

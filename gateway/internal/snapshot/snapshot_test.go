@@ -42,19 +42,21 @@ func randomLine(random *rand.Rand, number int) string {
 }
 
 // site returns a log of 400 entries and a replica that has executed all of it.
-func site(t *testing.T, ctx context.Context) (*etcdtest.Server, etcd.Log, *replica.Replica, Names) {
+func site(t *testing.T, ctx context.Context) (*etcdtest.Server, *etcd.Log, *replica.Replica, names) {
 	store := etcdtest.New()
 	t.Cleanup(store.CloseClientConnections)
-	log := etcd.Log{Client: etcd.NewClient([]string{store.URL}, "r/", nil)}
-	log.PutNew(ctx, "head", []byte("0"))
+	log := etcd.New([]string{store.URL}, "r/", nil)
+	if err := log.Open(ctx, "ex.org"); err != nil {
+		t.Fatal(err)
+	}
 	random := rand.New(rand.NewSource(1))
 	for entry := uint64(1); entry <= 400; entry++ {
 		if _, err := log.Append(ctx, entry, etcd.JoinEntry(fmt.Sprint(entry), [][]byte{[]byte(randomLine(random, int(entry))), []byte(emptyLine)})); err != nil {
 			t.Fatal(err)
 		}
 	}
-	r, names := started(t, ctx), NewNames()
-	if err := replay(ctx, log, r, names, 1, 400); err != nil {
+	r, names := started(t, ctx), names{}
+	if err := replay(log, content{}, r, names, 400); err != nil {
 		t.Fatal(err)
 	}
 	return store, log, r, names
@@ -73,29 +75,32 @@ func started(t *testing.T, ctx context.Context) *replica.Replica {
 func TestMake(t *testing.T) {
 	ctx, cancel := context.WithTimeout(context.Background(), time.Minute)
 	defer cancel()
-	store, log, whole, names := site(t, ctx)
+	store, log, whole, noted := site(t, ctx)
 	for _, keep := range []uint64{300, 100, 7} {
 		if err := Make(ctx, log, options(t), keep); err != nil {
 			t.Fatal(err)
 		}
-		last, noted := 400-keep, NewNames()
-		r := started(t, ctx)
-		first, err := Load(ctx, log, r, noted)
-		if err != nil || first != last+1 {
-			t.Fatalf("the log begins at %d, %v", first, err)
+		loaded, err := Load(ctx, log, started(t, ctx))
+		if last := 400 - keep; err != nil || loaded != last+1 {
+			t.Fatalf("the log begins at %d, %v", loaded, err)
 		}
-		if err := replay(ctx, log, r, noted, first, 400); err != nil {
+		r, again := started(t, ctx), names{}
+		c, err := read(ctx, log)
+		if err == nil {
+			err = replay(log, c, r, again, 400)
+		}
+		if err != nil {
 			t.Fatal(err)
 		}
 		if r.State() != whole.State() || !reflect.DeepEqual(r.Tokens(), whole.Tokens()) {
 			t.Errorf("keep %d: got %v, want %v", keep, r.State(), whole.State())
 		}
-		got, _ := bookLines(r, names)
-		want, _ := bookLines(whole, names)
+		got, _ := bookLines(r, again)
+		want, _ := bookLines(whole, noted)
 		if len(want) == 0 || strings.Join(got, "\n") != strings.Join(want, "\n") {
 			t.Errorf("keep %d: another book", keep)
 		}
-		if keys := store.Keys(); len(keys) > int(keep)+3 {
+		if keys := store.Keys(); len(keys) > int(keep)+4 {
 			t.Errorf("keep %d: %d keys stay", keep, len(keys))
 		}
 	}
@@ -114,7 +119,8 @@ func TestVerify(t *testing.T) {
 	if err != nil {
 		t.Fatal(err)
 	}
-	sum := strings.Repeat("00", 32)
+	state, smaller := r.State(), r.State()
+	smaller.Place = uint64(len(lines)) - 1
 	changed := append([]string{}, lines...)
 	changed[len(changed)-1] = strings.Replace(changed[len(changed)-1], `"hint":"`, `"hint":"x`, 1)
 	for _, c := range []struct {
@@ -122,12 +128,12 @@ func TestVerify(t *testing.T) {
 		content content
 		isRight bool
 	}{
-		{"as it is", content{Place: r.State().Place, Sum: sum, Lines: lines}, true},
-		{"a line changed", content{Place: r.State().Place, Sum: sum, Lines: changed}, false},
-		{"a smaller commit number", content{Place: uint64(len(lines)) - 1, Sum: sum, Lines: lines}, false},
-		{"no checksum", content{Place: r.State().Place, Lines: lines}, false},
+		{"as it is", content{state, r.Tokens(), lines}, true},
+		{"a line changed", content{state, r.Tokens(), changed}, false},
+		{"a smaller commit number", content{smaller, r.Tokens(), lines}, false},
+		{"a line less", content{state, r.Tokens(), lines[1:]}, false},
 	} {
-		if err := c.content.verify(ctx, options(t), names, 1); (err == nil) != c.isRight {
+		if err := c.content.verify(ctx, options(t), names); (err == nil) != c.isRight {
 			t.Errorf("%s: got %v", c.name, err)
 		}
 	}

@@ -1,95 +1,101 @@
 package wire
 
 import (
+	"regexp"
 	"strings"
 	"testing"
 )
 
-func counter() func() string {
-	n := 0
-	return func() string { n++; return string(rune('A' + n - 1)) }
-}
+// the UUIDs of version 4, which the lines of the tests don't have
+var generated = regexp.MustCompile(`[0-9a-f]{8}-[0-9a-f]{4}-4[0-9a-f]{3}-[89ab][0-9a-f]{3}-[0-9a-f]{12}`)
 
-func TestWithIDs(t *testing.T) {
+func TestForLog(t *testing.T) {
 	for _, c := range []struct{ name, line, want string }{
 		{"no create", `{"ops":[{"op":"show","id":"x"}]}`, `{"ops":[{"op":"show","id":"x"}]}`},
-		{"one", `{"ops":[{"op":"create","parent":"p"}]}`, `{"ops":[{"op":"create","parent":"p","id":"A"}]}`},
-		{"null", `{"ops":[{"op":"create","id":null}]}`, `{"ops":[{"op":"create","id":null,"id":"A"}]}`},
+		{"one", `{"ops":[{"op":"create","parent":"p"}]}`, `{"ops":[{"op":"create","parent":"p","id":"ID"}]}`},
+		{"null", `{"ops":[{"op":"create","id":null}]}`, `{"ops":[{"op":"create","id":null,"id":"ID"}]}`},
 		{"given", `{"ops":[{"op":"create","id":"x"}]}`, `{"ops":[{"op":"create","id":"x"}]}`},
-		{"given, then null", `{"ops":[{"id":"x","op":"create","id":null}]}`, `{"ops":[{"id":"x","op":"create","id":null,"id":"A"}]}`},
+		{"given, then null", `{"ops":[{"id":"x","op":"create","id":null}]}`, `{"ops":[{"id":"x","op":"create","id":null,"id":"ID"}]}`},
 		{"two of three", `{"ops":[{"op":"create"},{"op":"prune","before":1},{ "op" : "create" } ]}`,
-			`{"ops":[{"op":"create","id":"A"},{"op":"prune","before":1},{ "op" : "create" ,"id":"B"} ]}`},
+			`{"ops":[{"op":"create","id":"ID"},{"op":"prune","before":1},{ "op" : "create" ,"id":"ID"} ]}`},
 		{"a token", `{"ops":[{"op":"create"}],"token":"t"}`, `{"ops":[{"op":"create"}],"token":"t"}`},
-		{"no token", `{"ops":[{"op":"create"}],"token":"t","token":null}`, `{"ops":[{"op":"create","id":"A"}],"token":"t","token":null}`},
-		{"the last ops", `{"ops":[{"op":"create"}],"ops":[{"op":"create"}]}`, `{"ops":[{"op":"create"}],"ops":[{"op":"create","id":"A"}]}`},
+		{"no token", `{"ops":[{"op":"create"}],"token":"t","token":null}`, `{"ops":[{"op":"create","id":"ID"}],"token":"t","token":null}`},
+		{"the last ops", `{"ops":[{"op":"create"}],"ops":[{"op":"create"}]}`, `{"ops":[{"op":"create"}],"ops":[{"op":"create","id":"ID"}]}`},
+		{"the last ops are not a list", `{"ops":[{"op":"create"}],"ops":{}}`, `{"ops":[{"op":"create"}],"ops":{}}`},
+		{"the first ops are not a list", `{"ops":{"x":[]},"ops":[{"op":"create"}]}`, `{"ops":{"x":[]},"ops":[{"op":"create","id":"ID"}]}`},
 		{"the last op", `{"ops":[{"op":"create","op":"show"}]}`, `{"ops":[{"op":"create","op":"show"}]}`},
 		{"not a name at last", `{"ops":[{"op":"create","op":7}]}`, `{"ops":[{"op":"create","op":7}]}`},
-		{"escapes", `{"\u006fps":[{"o\u0070":"cr\u0065ate","h":"}\"]"}]}`, `{"\u006fps":[{"o\u0070":"cr\u0065ate","h":"}\"]","id":"A"}]}`},
-		{"nested", `{"ops":[{"x":[{"a":[1,2.5e3]},[]],"op":"create"}],"z":{"ops":1}}`, `{"ops":[{"x":[{"a":[1,2.5e3]},[]],"op":"create","id":"A"}],"z":{"ops":1}}`},
+		{"escapes", `{"\u006fps":[{"o\u0070":"cr\u0065ate","h":"}\"]"}]}`, `{"\u006fps":[{"o\u0070":"cr\u0065ate","h":"}\"]","id":"ID"}]}`},
+		{"nested", `{"ops":[{"x":[{"a":[1,2.5e3]},[]],"op":"create"}],"z":{"ops":1}}`,
+			`{"ops":[{"x":[{"a":[1,2.5e3]},[]],"op":"create","id":"ID"}],"z":{"ops":1}}`},
+		{"a malformed change", `{"ops":[{"op":"create"`, `{"ops":[{"op":"create"`},
+		{"nothing", "", ""},
 	} {
-		b, ok := ReadBatch([]byte(c.line))
-		if !ok {
-			t.Errorf("%s: not read", c.name)
-		} else if got := string(b.WithIDs(counter())); got != c.want {
-			t.Errorf("%s:\n got %s\nwant %s", c.name, got, c.want)
+		made, code := ForLog([]byte(c.line))
+		if got := generated.ReplaceAllString(string(made), "ID"); got != c.want || code != "" {
+			t.Errorf("%s:\n got %s %s\nwant %s", c.name, got, code, c.want)
 		}
+	}
+	made, _ := ForLog([]byte(`{"ops":[{"op":"create"},{"op":"create"}]}`))
+	if ids := generated.FindAllString(string(made), -1); len(ids) != 2 || ids[0] == ids[1] {
+		t.Errorf("the same ids in %s", made)
 	}
 }
 
 func TestReadBatchRefuses(t *testing.T) {
-	many := `{"ops":[` + strings.Repeat(`{"op":"create"},`, 64) + `{"op":"create"}]}`
-	for _, line := range []string{``, `7`, `[]`, `{}`, `{"ops":7}`, `{"ops":[]}`, `{"ops":[7]}`, `{"ops":[{"op":"create"}]`, `{"ops":[{"op":"create"}]}}`, many} {
-		if _, ok := ReadBatch([]byte(line)); ok {
+	many := `{"ops":[` + strings.Repeat(`{"op":"create"},`, maxOps) + `{"op":"create"}]}`
+	for _, line := range []string{``, `7`, `[]`, `{}`, `{"ops":7}`, `{"ops":[]}`, `{"ops":[7]}`, `{"ops":[null]}`, `{"ops":[{"op":"create"}]`,
+		`{"ops":[{"op":"create"}]}}`, many} {
+		if _, ok := readBatch([]byte(line)); ok {
 			t.Errorf("%.40s: read", line)
 		}
 	}
 }
 
-func TestIsMixed(t *testing.T) {
+func TestTooMixed(t *testing.T) {
+	batch := func(queries, changes int, query string) []byte {
+		ops := strings.Repeat(`{"op":"`+query+`"},`, queries) + strings.Repeat(`{"op":"prune"},`, changes)
+		return []byte(`{"ops":[` + strings.TrimSuffix(ops, ",") + `]}`)
+	}
 	for _, c := range []struct {
 		queries, changes int
 		want             bool
-	}{{4, 1, false}, {5, 1, true}, {5, 0, false}, {64, 0, false}, {63, 1, true}, {0, 64, false}} {
-		ops := strings.Repeat(`{"op":"children"},`, c.queries) + strings.Repeat(`{"op":"prune"},`, c.changes)
-		b, ok := ReadBatch([]byte(`{"ops":[` + strings.TrimSuffix(ops, ",") + `]}`))
-		if !ok || b.IsMixed() != c.want {
-			t.Errorf("%d queries, %d changes: got %v", c.queries, c.changes, !c.want)
+	}{{MaxQueries, 1, false}, {MaxQueries + 1, 1, true}, {MaxQueries + 1, 0, false}, {64, 0, false}, {63, 1, true}, {0, 64, false}} {
+		if _, code := ForLog(batch(c.queries, c.changes, "children")); (code == TooMixed) != c.want {
+			t.Errorf("%d queries, %d changes: got %s", c.queries, c.changes, code)
 		}
 	}
-	for name := range isQuery {
-		line := `{"ops":[{"op":"prune"}` + strings.Repeat(`,{"op":"`+name+`"}`, MaxQueries+1) + `]}`
-		if b, _ := ReadBatch([]byte(line)); !b.IsMixed() {
-			t.Errorf("%s isn't counted", name)
+	for name, isChange := range changes {
+		if _, code := ForLog(batch(MaxQueries+1, 1, name)); (code == TooMixed) == isChange {
+			t.Errorf("%s: got %s", name, code)
 		}
 	}
 }
 
-func TestHasRoom(t *testing.T) {
-	pad := func(line string, size int) string { return line + strings.Repeat(" ", size-len(line)) }
+func TestNoRoom(t *testing.T) {
 	for _, c := range []struct {
 		name, line string
 		size       int
-		want       bool
+		code       string
 	}{
-		{"nothing to add", `{"ops":[{"op":"prune"}]}`, MaxLine, true},
-		{"an id fits", `{"ops":[{"op":"create"}]}`, MaxLine - idRoom, true},
-		{"an id doesn't", `{"ops":[{"op":"create"}]}`, MaxLine - idRoom + 1, false},
-		{"two ids don't", `{"ops":[{"op":"create"},{"op":"create"}]}`, MaxLine - 2*idRoom + 1, false},
-		{"a token fits", `{"ops":[{"op":"prune"}],"token":"x"}`, MaxLine - tokenRoom, true},
-		{"a token doesn't", `{"ops":[{"op":"prune"}],"token":"x"}`, MaxLine - tokenRoom + 1, false},
+		{"nothing to add", `{"ops":[{"op":"prune"}]}`, MaxLine, ""},
+		{"an id fits", `{"ops":[{"op":"create"}]}`, MaxLine - idRoom, ""},
+		{"an id doesn't", `{"ops":[{"op":"create"}]}`, MaxLine - idRoom + 1, NoRoom},
+		{"two ids don't", `{"ops":[{"op":"create"},{"op":"create"}]}`, MaxLine - 2*idRoom + 1, NoRoom},
+		{"a token fits", `{"ops":[{"op":"prune"}],"token":"x"}`, MaxLine - tokenRoom, ""},
+		{"a token doesn't", `{"ops":[{"op":"prune"}],"token":"x"}`, MaxLine - tokenRoom + 1, NoRoom},
 	} {
-		b, ok := ReadBatch([]byte(pad(c.line, c.size)))
-		if !ok || b.HasRoom() != c.want {
-			t.Errorf("%s: got %v", c.name, !c.want)
+		if _, code := ForLog([]byte(c.line + strings.Repeat(" ", c.size-len(c.line)))); code != c.code {
+			t.Errorf("%s: got %s", c.name, code)
 		}
 	}
-	b, _ := ReadBatch([]byte(`{"ops":[{"op":"create"}]}`))
-	if made := b.WithIDs(NewID); len(made) != len(b.line)+idRoom {
-		t.Errorf("an id adds %d bytes", len(made)-len(b.line))
+	line := []byte(`{"ops":[{"op":"create"}]}`)
+	if made, _ := ForLog(line); len(made) != len(line)+idRoom {
+		t.Errorf("an id adds %d bytes", len(made)-len(line))
 	}
-	tokened, _ := ReadTokened([]byte(`{"ops":[{"op":"prune"}],"token":"00000000-0000-0000-0000-000000000009"}`))
-	if grown := len(tokened.Probe) - len(`{"ops":[{"op":"prune"}],"token":"00000000-0000-0000-0000-000000000009"}`); grown > tokenRoom {
-		t.Errorf("a token adds %d bytes", grown)
+	line = []byte(`{"ops":[{"op":"prune"}],"token":"00000000-0000-0000-0000-000000000009"}`)
+	if tokened, ok := ReadTokened(line); !ok || len(tokened.Probe)-len(line) > tokenRoom {
+		t.Errorf("a token adds %d bytes", len(tokened.Probe)-len(line))
 	}
 }
 
@@ -139,11 +145,11 @@ func TestReadTokened(t *testing.T) {
 
 func TestSame(t *testing.T) {
 	read := func(ops string) string {
-		b, ok := ReadBatch([]byte(`{"ops":[` + ops + `]}`))
+		b, ok := readBatch([]byte(`{"ops":[` + ops + `]}`))
 		if !ok {
 			t.Fatal(ops)
 		}
-		return b.same()
+		return same(b.ops)
 	}
 	const id = "76b8e0ad-a0f1-4d90-805d-6ae55386bd28"
 	for _, c := range []struct {
@@ -160,6 +166,7 @@ func TestSame(t *testing.T) {
 		{"null", `{"op":"delete","id":"` + id + `"}`, `{"op":"delete","id":"` + id + `","revision":null}`, true},
 		{"null at last", `{"op":"delete","id":"` + id + `","revision":4,"revision":null}`, `{"op":"delete","id":"` + id + `"}`, true},
 		{"the default mode", `{"op":"drop_bundle","domain":"b"}`, `{"op":"drop_bundle","domain":"b","mode":"restrict"}`, true},
+		{"null for the default mode", `{"op":"drop_bundle","domain":"b"}`, `{"op":"drop_bundle","domain":"b","mode":null}`, true},
 		{"another mode", `{"op":"drop_bundle","domain":"b"}`, `{"op":"drop_bundle","domain":"b","mode":"delete"}`, false},
 		{"defaults", `{"op":"update","id":"` + id + `"}`, `{"op":"update","id":"` + id + `","hint":"","expiry":0,"x509_svid_ttl":0,"jwt_svid_ttl":0,"domains":[]}`, true},
 		{"a hint that looks like an id", `{"op":"update","hint":"` + id + `"}`, `{"op":"update","hint":"` + strings.ToUpper(id) + `"}`, false},

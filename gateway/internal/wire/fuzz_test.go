@@ -36,13 +36,17 @@ func FuzzAdditions(f *testing.F) {
 				t.Fatalf("%q became %q and %q", line, tokened.Line, tokened.Probe)
 			}
 		}
-		b, ok := ReadBatch(line)
-		if !ok {
+		b, ok := readBatch(line)
+		made, code := ForLog(line)
+		if !ok || code != "" {
+			if code == "" && !bytes.Equal(made, line) {
+				t.Fatalf("%q became %q", line, made)
+			}
 			return
 		}
-		made := b.WithIDs(NewID)
-		again, ok := ReadBatch(made)
-		if !ok || !again.hasToken() && len(again.withoutID()) != 0 || len(again.ops) != len(b.ops) || !b.hasToken() && len(made) != len(line)+idRoom*len(b.withoutID()) {
+		again, ok := readBatch(made)
+		drawn := len(b.missing) - len(again.missing)
+		if !ok || len(again.ops) != len(b.ops) || len(made) != len(line)+idRoom*drawn || b.token == nil && len(again.missing) > 0 {
 			t.Fatalf("%q became %q", line, made)
 		}
 		at := 0
@@ -54,10 +58,8 @@ func FuzzAdditions(f *testing.F) {
 		if at != len(line) {
 			t.Fatalf("%q lost bytes: %q", line, made)
 		}
-		for _, op := range b.ops {
-			if isChange[op.name] && !MayChange(line) {
-				t.Fatalf("%q has a change, and isn't one", line)
-			}
+		if b.changes > 0 && !MayChange(line) {
+			t.Fatalf("%q has a change, and isn't one", line)
 		}
 	})
 }

@@ -30,14 +30,14 @@ func TestReplyParts(t *testing.T) {
 		t.Error("committed")
 	}
 	early := []byte(`{"call":9,"code":"W1","place":31,"result":"refused"}`)
-	if !HasCode(early, "W1") || HasCode(early, "O1") || IsCommitted(early) || HasCode(committed, "W1") {
+	if Code(early) != "W1" || IsCommitted(early) || Code(committed) != "" {
 		t.Error("early")
 	}
 	full := []byte(`{"code":"L6","line":9}`)
-	if !HasCode(full, "L6") || !IsRefusal(full) || Place(full) != 0 || HasCode(full, "L") {
+	if Code(full) != "L6" || !IsRefusal(full) || Place(full) != 0 {
 		t.Error("full")
 	}
-	if After([]byte(`{"ops":[],"after": 7}`)) != 7 || After([]byte(`{"ops":[]}`)) != 0 || After([]byte(`{"after":99999999999999999999`)) != 1<<64-1 {
+	if After([]byte(`{"ops":[],"after": 7}`)) != 7 || After([]byte(`{"ops":[]}`)) != 0 || After([]byte(`{"after":18446744073709551615`)) != 1<<64-1 {
 		t.Error("after")
 	}
 }

@@ -11,6 +11,9 @@ SOURCES = TOP / "gateway"
 # the commands that are needed, by their Debian packages
 COMMANDS = {"go": "golang-go", "etcd": "etcd-server", "haproxy": "haproxy", "openssl": "openssl", "jq": "jq", "nc": "netcat-openbsd"}
 
+# how many lines of Go the gateway may have, without tests, comments and blank lines
+LINES = 2000
+
 Programs = collections.namedtuple("Programs", "gateway regd load")
 
 
@@ -34,6 +37,14 @@ def go(*words, env=None, cwd=SOURCES, **more):
     """Runs the command go on the sources, without a network."""
     environment = {**os.environ, "GOFLAGS": "-mod=mod", "GOPROXY": "off", "GOTOOLCHAIN": "local", **(env or {})}
     return subprocess.run(["go", *words], cwd=cwd, env=environment, **more)
+
+
+def code_lines():
+    """Returns how many lines of Go the gateway has, without tests and what only tests use, without comments and blank lines."""
+    files = [SOURCES / "main.go", *(SOURCES / "internal").rglob("*.go")]
+    counted = [file for file in files if not file.stem.endswith("_test") and not file.parent.name.endswith("test")]
+    lines = [line.strip() for file in counted for line in file.read_text().splitlines()]
+    return sum(line != "" and not line.startswith("//") for line in lines)
 
 
 def build(folder, regd, *words):

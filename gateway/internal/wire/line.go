@@ -1,17 +1,44 @@
 // Package wire looks at request lines and replies of regd as bytes.
 //
-// It decides which lines have to go through the log, and what the gateway adds to a line. It reads as little of a line as it can, and never
-// judges it: a malformed line reaches regd as the caller sent it, and regd names its fault. Keys are added to a line and never rewritten,
-// because of equal keys in one object regd takes the last value.
+// It decides which lines have to go through the log, which ones the gateway refuses, and what it adds to a line. It reads as little of a line
+// as it can, and never judges it: a malformed line reaches regd as the caller sent it, and regd names its fault. Keys are added to a line and
+// never rewritten, because of equal keys in one object regd takes the last value.
 package wire
 
 import (
+	"bufio"
 	"bytes"
+	"io"
 	"strconv"
 )
 
 // MaxLine is the largest number of bytes in a line, without its line feed.
 const MaxLine = 1 << 20
+
+// ReadLine reads a line without its line feed. It returns the code with which a line is refused: L1 if it is too long, L3 if the input ends
+// in it. An error means that there is no line; io.EOF that the input ended.
+func ReadLine(in *bufio.Reader) (line []byte, code string, err error) {
+	size := 0
+	for err = bufio.ErrBufferFull; err == bufio.ErrBufferFull; {
+		var part []byte
+		part, err = in.ReadSlice('\n')
+		if size += len(part); size <= MaxLine+1 {
+			line = append(line, part...)
+		}
+	}
+	if err == nil {
+		size-- // the line feed
+	}
+	switch {
+	case err != nil && (err != io.EOF || size == 0):
+		return nil, "", err
+	case size > MaxLine:
+		return nil, "L1", nil
+	case err == io.EOF:
+		return nil, "L3", nil
+	}
+	return line[:size], "", nil
+}
 
 // names of the operations that change the book, as they appear in a line without escapes
 var changeNames = [][]byte{
@@ -41,8 +68,11 @@ func WithAfter(line []byte, place uint64) []byte {
 	if place == 0 || len(line)+40 > MaxLine || len(inside) == 0 || inside[0] != '{' || !bytes.HasPrefix(bytes.TrimLeft(inside[1:], " \t\r"), []byte(`"`)) {
 		return line
 	}
-	open := len(line) - len(inside) + 1
-	made := append(make([]byte, 0, len(line)+40), line[:open]...)
-	made = append(strconv.AppendUint(append(made, `"after":`...), place, 10), ',')
-	return append(made, line[open:]...)
+	return insert(line, len(line)-len(inside)+1, `"after":`+strconv.FormatUint(place, 10)+`,`)
+}
+
+// insert returns a copy of the line with a text at a position.
+func insert(line []byte, at int, text string) []byte {
+	made := make([]byte, 0, len(line)+len(text))
+	return append(append(append(made, line[:at]...), text...), line[at:]...)
 }

@@ -1,4 +1,4 @@
-package policy
+package server
 
 import (
 	"crypto/ecdsa"
@@ -15,6 +15,11 @@ import (
 	"path/filepath"
 	"testing"
 	"time"
+)
+
+const (
+	n1 = "spiffe://ex.org/spire/agent/n1"
+	n2 = "spiffe://ex.org/spire/agent/n2"
 )
 
 // an authority signs certificates, and writes them into a folder.
@@ -83,28 +88,28 @@ func TestCallerOf(t *testing.T) {
 	for _, c := range []struct {
 		name string
 		cert *x509.Certificate
-		want Caller
+		id   string
 	}{
-		{"an operator", a.leaf("o", "spiffe://ex.org/operator"), Caller{"spiffe://ex.org/operator", true}},
-		{"an agent", a.leaf("n", n1), Caller{n1, false}},
-		{"a longer name", a.leaf("l", "spiffe://ex.org/operator2"), Caller{"spiffe://ex.org/operator2", false}},
-		{"no URI", a.leaf("e"), Caller{}},
-		{"two URIs", a.leaf("d", "spiffe://ex.org/operator", n1), Caller{}},
-		{"another scheme", a.leaf("h", "https://ex.org/operator"), Caller{}},
-		{"an authority", a.cert, Caller{}},
+		{"an operator", a.leaf("o", "spiffe://ex.org/operator"), "spiffe://ex.org/operator"},
+		{"an agent", a.leaf("n", n1), n1},
+		{"a longer name", a.leaf("l", "spiffe://ex.org/operator2"), "spiffe://ex.org/operator2"},
+		{"no URI", a.leaf("e"), ""},
+		{"two URIs", a.leaf("d", "spiffe://ex.org/operator", n1), ""},
+		{"another scheme", a.leaf("h", "https://ex.org/operator"), ""},
+		{"an authority", a.cert, ""},
 	} {
-		got, err := CallerOf(tls.ConnectionState{PeerCertificates: []*x509.Certificate{c.cert}}, operators)
-		if err != nil || got != c.want {
-			t.Errorf("%s: got %v, %v", c.name, got, err)
+		id, isOperator := callerOf(c.cert, operators)
+		if id != c.id || isOperator != (c.name == "an operator") {
+			t.Errorf("%s: got %s, %v", c.name, id, isOperator)
 		}
 	}
-	if _, err := CallerOf(tls.ConnectionState{}, operators); err == nil {
-		t.Error("a connection without a certificate has a caller")
+	if id, isOperator := callerOf(a.leaf("e"), []string{""}); id != "" || isOperator {
+		t.Error("a caller without a name is an operator")
 	}
 }
 
-// handshake returns the server's error, and the caller it saw.
-func handshake(t *testing.T, server *tls.Config, client *tls.Config) (Caller, error) {
+// handshake returns the SPIFFE ID that the server saw, or its error.
+func handshake(t *testing.T, server *tls.Config, client *tls.Config) (string, error) {
 	on, err := net.Listen("tcp", "127.0.0.1:0")
 	if err != nil {
 		t.Fatal(err)
@@ -128,9 +133,10 @@ func handshake(t *testing.T, server *tls.Config, client *tls.Config) (Caller, er
 	conn := tls.Server(inner, server)
 	conn.SetDeadline(time.Now().Add(5 * time.Second))
 	if err := conn.Handshake(); err != nil {
-		return Caller{}, err
+		return "", err
 	}
-	return CallerOf(conn.ConnectionState(), nil)
+	id, _ := callerOf(conn.ConnectionState().PeerCertificates[0], nil)
+	return id, nil
 }
 
 func TestHandshakes(t *testing.T) {
@@ -138,12 +144,12 @@ func TestHandshakes(t *testing.T) {
 	a.leaf("server")
 	a.leaf("agent", n1)
 	other.leaf("forged", n1)
-	server, err := a.files("server").Server()
+	server, err := a.files("server").Config()
 	if err != nil {
 		t.Fatal(err)
 	}
 	config := func(files Files) *tls.Config {
-		made, err := files.Client()
+		made, err := files.Config()
 		if err != nil {
 			t.Fatal(err)
 		}
@@ -151,8 +157,9 @@ func TestHandshakes(t *testing.T) {
 		made.InsecureSkipVerify = true
 		return made
 	}
-	if caller, err := handshake(t, server, config(a.files("agent"))); err != nil || caller.ID != n1 {
-		t.Errorf("an agent: got %v, %v", caller, err)
+	agent := config(a.files("agent"))
+	if id, err := handshake(t, server, agent); err != nil || id != n1 {
+		t.Errorf("an agent: got %v, %v", id, err)
 	}
 	if _, err := handshake(t, server, config(other.files("forged"))); err == nil {
 		t.Error("a certificate of another authority was accepted")
@@ -166,10 +173,20 @@ func TestHandshakes(t *testing.T) {
 		t.Error("TLS 1.2 was accepted")
 	}
 	a.leaf("agent", n2) // a renewed certificate counts at the next handshake
-	if caller, err := handshake(t, server, config(a.files("agent"))); err != nil || caller.ID != n2 {
-		t.Errorf("a renewed certificate: got %v, %v", caller, err)
+	if id, err := handshake(t, server, agent); err != nil || id != n2 {
+		t.Errorf("a renewed certificate: got %v, %v", id, err)
 	}
-	if _, err := (Files{"no", "no", "no"}).Server(); err == nil {
+	os.Remove(a.files("server").Certificate) // so does one that is no longer there
+	if _, err := handshake(t, server, agent); err == nil {
+		t.Error("the server did not read its files again")
+	}
+	if _, err := (Files{"no", "no", "no"}).Config(); err == nil {
 		t.Error("missing files were accepted")
+	}
+	if config, err := FilesIn("").Config(); config != nil || err != nil {
+		t.Errorf("no files: got %v, %v", config, err)
+	}
+	if got, want := FilesIn("/x"), (Files{"/x/cert.pem", "/x/key.pem", "/x/ca.pem"}); got != want {
+		t.Errorf("a folder: got %v", got)
 	}
 }

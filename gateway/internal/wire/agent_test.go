@@ -1,10 +1,8 @@
-package policy
+package wire
 
 import (
 	"strings"
 	"testing"
-
-	"regd/gateway/internal/wire"
 )
 
 const (
@@ -13,7 +11,7 @@ const (
 	web = `{"ops":[{"op":"authorised","agent":"spiffe://ex.org/spire/agent/n1"}]}`
 )
 
-func TestAdmitAgent(t *testing.T) {
+func TestForAgent(t *testing.T) {
 	about := func(op, agent string) string { return `{"op":"` + op + `","agent":"` + agent + `"}` }
 	for _, c := range []struct{ name, line, want string }{ // want is the line, or a code
 		{"authorised", web, web},
@@ -40,70 +38,46 @@ func TestAdmitAgent(t *testing.T) {
 		{"not JSON", `{`, "G1"},
 		{"nothing", ``, "G1"},
 	} {
-		line, code := Admit(Caller{ID: n1}, []byte(c.line))
+		line, code := ForAgent(n1, []byte(c.line))
 		if got := string(line) + code; got != c.want {
 			t.Errorf("%s: got %s, want %s", c.name, got, c.want)
 		}
 	}
 }
 
-func TestAdmitNobody(t *testing.T) {
+func TestForNobody(t *testing.T) {
 	for _, line := range []string{web, `{"ops":[{"op":"authorised","agent":""}]}`, `{"ops":[{"op":"authorised"}]}`} {
-		if admitted, code := Admit(Caller{}, []byte(line)); admitted != nil || code != NotAllowed {
-			t.Errorf("%s: got %s", line, admitted)
+		if query, code := ForAgent("", []byte(line)); query != nil || code != NotAllowed {
+			t.Errorf("%s: got %s", line, query)
 		}
 	}
 }
 
-// TestAdmitStrangeAgent checks that a line is refused if the agent's name makes it one for the log.
-func TestAdmitStrangeAgent(t *testing.T) {
+// TestForStrangeAgent checks that a line is refused if the agent's name makes it one for the log.
+func TestForStrangeAgent(t *testing.T) {
 	const strange = "spiffe://ex.org/spire/agent/a&b"
-	if line, code := Admit(Caller{ID: strange}, []byte(strings.ReplaceAll(web, n1, strange))); code != NotAllowed {
+	if line, code := ForAgent(strange, []byte(strings.ReplaceAll(web, n1, strange))); code != NotAllowed {
 		t.Errorf("got %s", line)
 	}
 }
 
-func TestAdmitOperator(t *testing.T) {
-	operator := Caller{ID: "spiffe://ex.org/operator", IsOperator: true}
-	query := `{"op":"children","parent":"` + n1 + `"}`
-	change := `{"op":"set_agent","agent":"` + n1 + `","selectors":[]}`
-	list := func(count int) string { return strings.Repeat(query+",", count) }
-	long := `{"ops":[{"op":"create"}]}` + strings.Repeat(" ", wire.MaxLine-30)
-	for _, c := range []struct{ name, line, code string }{
-		{"a query", web, ""},
-		{"64 queries", `{"ops":[` + list(63) + query + `]}`, ""},
-		{"a change", `{"ops":[` + change + `]}`, ""},
-		{"few queries and a change", `{"ops":[` + list(wire.MaxQueries) + change + `]}`, ""},
-		{"many queries and a change", `{"ops":[` + list(wire.MaxQueries+1) + change + `]}`, TooMixed},
-		{"63 queries and a change", `{"ops":[` + list(63) + change + `]}`, TooMixed},
-		{"a malformed change", `{"ops":[{"op":"create"`, ""},
-		{"no room", long, NoRoom},
-		{"nothing", "", ""},
-	} {
-		admitted, code := Admit(operator, []byte(c.line))
-		if code != c.code || code == "" && string(admitted) != c.line {
-			t.Errorf("%s: got %.60s, %s", c.name, admitted, code)
-		}
-	}
-}
-
-// FuzzAdmitAgent checks that no line makes the gateway send anything for an agent but queries about itself.
-func FuzzAdmitAgent(f *testing.F) {
+// FuzzForAgent checks that no line makes the gateway send anything for an agent but queries about itself.
+func FuzzForAgent(f *testing.F) {
 	for _, seed := range []string{web, `{"ops":[{"op":"authorised","agent":"` + n1 + `","Op":"trust"}],"after":3}`, `{"ops":[],"ops":[{"op":"drop_agent"}]}`} {
 		f.Add([]byte(seed))
 	}
 	f.Fuzz(func(t *testing.T, line []byte) {
-		admitted, code := Admit(Caller{ID: n1}, line)
-		if code == NotAllowed && admitted == nil {
+		query, code := ForAgent(n1, line)
+		if code == NotAllowed && query == nil {
 			return
 		}
-		text := string(admitted)
+		text := string(query)
 		for _, op := range []string{"authorised", "trust"} {
 			text = strings.ReplaceAll(text, `{"op":"`+op+`","agent":"`+n1+`"}`, "")
 		}
 		text = strings.TrimLeft(strings.TrimPrefix(text, `{"after":`), "0123456789")
 		if text = strings.ReplaceAll(strings.TrimLeft(strings.TrimPrefix(text, `{`), ","), ",", ""); text != `"ops":[]}` {
-			t.Fatalf("%q became %q", line, admitted)
+			t.Fatalf("%q became %q", line, query)
 		}
 	})
 }

@@ -1,0 +1,88 @@
+package server
+
+import (
+	"context"
+	"errors"
+	"fmt"
+	"time"
+
+	"regd/gateway/internal/logline"
+	"regd/gateway/internal/replica"
+)
+
+const (
+	voteInterval = 1000 // how many entries are between two votes
+	// entries of which a gateway looks at the votes, and of which it leaves its own
+	votesWatched, votesLeft = 4, 64
+	voteTime                = 5 * time.Second // between two looks
+)
+
+// ErrOutvoted is returned when a majority of the gateways has another checksum.
+var ErrOutvoted = errors.New("a majority of the gateways has another checksum")
+
+// judge returns what votes, which are checksums by the names of gateways, say about one of them: whether any is different, and whether a
+// majority agrees on another checksum.
+func judge(own string, votes map[string]string) (isDisputed, isOutvoted bool) {
+	counts := map[string]int{}
+	for _, sum := range votes {
+		counts[sum]++
+		isDisputed = isDisputed || sum != own
+		isOutvoted = isOutvoted || sum != own && 2*counts[sum] > len(votes)
+	}
+	return isDisputed, isOutvoted
+}
+
+// compare votes, and looks at the votes of the other gateways, until this one is outvoted or the context ends.
+//
+// A vote is the checksum of all replies up to an entry, stored under the names of the program, the entry and the gateway. Votes of different
+// programs are not compared, so that an upgrade, which may change replies, stops no gateway. Two votes that differ don't decide anything: both
+// gateways go on until a third one votes.
+func (g *Gateway) compare(ctx context.Context) error {
+	for last := []replica.State{}; ; {
+		select {
+		case <-ctx.Done():
+			return ctx.Err()
+		case <-time.After(voteTime):
+		case mark := <-g.marks:
+			if last = append(last, mark); len(last) > votesWatched {
+				last = last[1:]
+			}
+			if err := g.vote(ctx, mark); err != nil {
+				return err
+			}
+		}
+		isDisputed := false
+		for _, mark := range last {
+			votes, err := g.log.List(ctx, g.votesOn(mark.Entry))
+			if err != nil {
+				return err
+			}
+			own := fmt.Sprintf("%x", mark.Sum)
+			votes[g.options.Name] = own
+			isDifferent, isOutvoted := judge(own, votes)
+			if isDifferent {
+				logline.Error("checksums differ", "entry", mark.Entry, "sum", own, "votes", votes)
+			}
+			if isOutvoted {
+				return ErrOutvoted
+			}
+			isDisputed = isDisputed || isDifferent
+		}
+		g.isDisputed.Store(isDisputed)
+	}
+}
+
+// votesOn returns the folder of the votes on an entry.
+func (g *Gateway) votesOn(entry uint64) string {
+	return fmt.Sprintf("sum/%s/%016x/", g.options.Program, entry)
+}
+
+// vote stores a vote, and deletes an old one.
+func (g *Gateway) vote(ctx context.Context, mark replica.State) error {
+	err := g.log.Put(ctx, g.votesOn(mark.Entry)+g.options.Name, []byte(fmt.Sprintf("%x", mark.Sum)))
+	if err == nil && mark.Entry > votesLeft*voteInterval {
+		old := g.votesOn(mark.Entry-votesLeft*voteInterval) + g.options.Name
+		err = g.log.Delete(ctx, old, old+"\x00")
+	}
+	return err
+}

@@ -1,0 +1,89 @@
+package server
+
+import (
+	"fmt"
+	"strings"
+	"testing"
+	"time"
+
+	"regd/gateway/internal/replica"
+)
+
+func TestJudge(t *testing.T) {
+	for _, c := range []struct {
+		own, others string
+		want        string
+	}{
+		{"a", "", "agreed"}, {"a", "a", "agreed"}, {"a", "a a", "agreed"},
+		{"a", "b", "disputed"}, {"a", "b c", "disputed"}, {"a", "a b b", "disputed"},
+		{"a", "b b", "outvoted"}, {"a", "b b a b", "outvoted"},
+		{"a", "a b", "disputed"}, {"a", "a a b b", "disputed"},
+	} {
+		votes := map[string]string{"own": c.own}
+		for i, sum := range strings.Fields(c.others) {
+			votes[fmt.Sprint(i)] = sum
+		}
+		got := "agreed"
+		if isDisputed, isOutvoted := judge(c.own, votes); isOutvoted {
+			got = "outvoted"
+		} else if isDisputed {
+			got = "disputed"
+		}
+		if got != c.want {
+			t.Errorf("%s against %s: got %s, want %s", c.own, c.others, got, c.want)
+		}
+	}
+}
+
+// TestVotes lets the gateway with the wrong checksum vote first. It stops as soon as two others agree, and they go on.
+func TestVotes(t *testing.T) {
+	s := newSite(t)
+	mark := func(g *Gateway, entry uint64, sum byte) {
+		g.marks <- replica.State{Entry: entry, Sum: [32]byte{sum}}
+	}
+	wait := func(what string, condition func() bool) {
+		t.Helper()
+		for i := 0; !condition(); i++ {
+			if i == 500 {
+				t.Fatal(what)
+			}
+			time.Sleep(10 * time.Millisecond)
+		}
+	}
+	ended := map[string]chan error{}
+	start := func(program, name string, sum byte) *Gateway {
+		g, end := New(s.log, Options{Program: program, Name: name}), make(chan error, 1)
+		ended[name] = end
+		go func() { end <- g.compare(s.ctx) }()
+		mark(g, voteInterval, sum)
+		wait(name+" doesn't vote", func() bool {
+			votes, _ := s.log.List(s.ctx, "sum/"+program+"/00000000000003e8/")
+			return votes[name] != ""
+		})
+		return g
+	}
+	wrong := start("p", "wrong", 2)
+	start("q", "upgraded", 3)
+	right := start("p", "right", 1)
+	start("p", "third", 1)
+	mark(wrong, 2*voteInterval, 2) // makes it look again
+	if err := <-ended["wrong"]; err != ErrOutvoted {
+		t.Errorf("the wrong one ended with %v", err)
+	}
+	mark(right, 2*voteInterval, 1)
+	wait("the right one doesn't report the other checksum", right.isDisputed.Load)
+	voted := func() bool {
+		votes, _ := s.log.List(s.ctx, "sum/p/00000000000007d0/")
+		return votes["right"] != ""
+	}
+	wait("the right one doesn't vote again", voted)
+	for _, name := range []string{"upgraded", "right", "third"} {
+		select {
+		case err := <-ended[name]:
+			t.Errorf("%s ended with %v", name, err)
+		default:
+		}
+	}
+	mark(right, (2+votesLeft)*voteInterval, 1)
+	wait("an old vote stays", func() bool { return !voted() })
+}
