@@ -4,7 +4,11 @@ import (
 	"bufio"
 	"net"
 	"sync"
+	"time"
 )
+
+// hangTime is how long regd may take to listen, and for the next reply that it owes. Then it is ended, and with it the replica.
+var hangTime = 10 * time.Second
 
 // A link is a connection to regd: lines out, replies in, in the same order.
 type link struct {
@@ -27,7 +31,9 @@ func (l *link) submit(line []byte, done func(reply []byte)) {
 		return
 	}
 	l.pending = append(append(l.pending, line...), '\n')
-	l.waiting = append(l.waiting, done)
+	if l.waiting = append(l.waiting, done); len(l.waiting) == 1 {
+		l.expect()
+	}
 	for !l.isWriting && len(l.pending) > 0 {
 		lines := l.pending
 		l.pending, l.isWriting = nil, true
@@ -37,6 +43,15 @@ func (l *link) submit(line []byte, done func(reply []byte)) {
 		l.isWriting = false
 	}
 	l.mu.Unlock()
+}
+
+// expect sets the time of the next reply, if regd owes one.
+func (l *link) expect() {
+	var late time.Time // never
+	if len(l.waiting) > 0 {
+		late = time.Now().Add(hangTime)
+	}
+	l.conn.SetReadDeadline(late)
 }
 
 // call sends a line and waits for its reply. It returns nil if the connection ended.
@@ -61,6 +76,7 @@ func (l *link) read() error {
 		}
 		done := l.waiting[0]
 		l.waiting = l.waiting[1:]
+		l.expect()
 		l.mu.Unlock()
 		done(reply[:len(reply)-1])
 	}

@@ -25,9 +25,6 @@ type Options struct {
 // firstLine makes regd's first reply on a connection, which shows that the connection is alone on its worker.
 const firstLine = `{"ops":[{"op":"show","id":"00000000-0000-0000-0000-000000000000"}]}`
 
-// startTime is how long regd may take to listen and to answer the first lines.
-const startTime = 30 * time.Second
-
 // Start starts a regd with an empty book. It calls onEntry after each entry, in their order; onEntry must not wait.
 //
 // regd accepts as many connections as it has workers, and the replica opens all of them. So connection 0 is the only writer, each connection
@@ -47,7 +44,7 @@ func Start(ctx context.Context, options Options, onEntry func(State)) (*Replica,
 		cancel()
 		return nil, err
 	}
-	late := time.AfterFunc(startTime, cancel)
+	late := time.AfterFunc(hangTime, cancel)
 	defer late.Stop()
 	r := &Replica{command: command, onEntry: onEntry, ctx: ctx, cancel: cancel, slots: make(chan struct{}, mostOpen),
 		tokens: map[string]*Kept{}}

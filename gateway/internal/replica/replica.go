@@ -2,7 +2,7 @@
 //
 // The book is a function of the log alone: the same lines go over the same connection in the same order, and nothing in them is drawn by
 // regd. Running out of memory is the one thing that does not depend on the lines, so a regd that reports it has left the other replicas. Such
-// a replica ends, and another one is made from the log.
+// a replica ends, and another one is made from the log. So does a replica whose regd owes a reply for too long.
 package replica
 
 import (

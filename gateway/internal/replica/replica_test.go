@@ -186,6 +186,33 @@ func TestEnd(t *testing.T) {
 	}
 }
 
+// TestHang checks that a replica ends if regd owes a reply for too long, and neither if regd is slow nor if nothing is asked.
+func TestHang(t *testing.T) {
+	long := hangTime
+	t.Cleanup(func() { hangTime = long })
+	hangTime = 800 * time.Millisecond
+	r, _ := start(t)
+	for place := 1; place <= 10; place++ {
+		r.Apply(1, [][]byte{[]byte(`{"ops":[{"op":"prune","hint":"SLOW"}]}`)}, func(int, []byte) {})
+	}
+	r.Settle()
+	time.Sleep(hangTime * 3 / 2)
+	if got := apply(t, r, 2, prune); got[0] != committed(11) {
+		t.Fatalf("got %q", got)
+	}
+	got := make(chan []byte, 1)
+	r.Query(0, []byte(`{"ops":[{"op":"show","hint":"HANG"}]}`), func(reply []byte) { got <- reply })
+	select {
+	case reply := <-got:
+		if reply != nil {
+			t.Errorf("got %s", reply)
+		}
+		<-r.Context().Done()
+	case <-time.After(10 * time.Second):
+		t.Error("the replica goes on")
+	}
+}
+
 func TestStartFails(t *testing.T) {
 	for _, program := range []string{"/nonexistent", "/bin/true"} {
 		if r, err := Start(context.Background(), Options{Program: program, Domain: "ex.org", Workers: 2}, nil); err == nil {

@@ -122,6 +122,14 @@ def stopped_regd(site):
     os.kill(regd, signal.SIGCONT)
 
 
+def hung_regd(site):
+    """A regd that answers nothing more, and doesn't end. Its gateway makes another replica."""
+    gateway = site.gateways[0]
+    regd = gateway.status()["regd"]
+    os.kill(regd, signal.SIGSTOP)
+    cluster.wait_for(lambda: gateway.status().get("regd", regd) != regd, 25, "another regd")
+
+
 def stopped_gateway(site):
     process = site.gateways[1].process
     os.kill(process.pid, signal.SIGSTOP)
@@ -173,7 +181,7 @@ def everything(site):
 
 
 FAULTS = {fault.__name__: fault for fault in (nothing, killed_regds, killed_gateways, killed_leader, killed_follower, lost_majority,
-                                              stopped_members, stopped_regd, stopped_gateway, killed_all, snapshots, everything)}
+                                              stopped_members, stopped_regd, hung_regd, stopped_gateway, killed_all, snapshots, everything)}
 
 
 # ---- what is checked
@@ -247,4 +255,4 @@ def run(programs, folder, name, callers=40, fresh=False):
         return len(acknowledged), seen, site.notes, found
 
 
-LENGTHS = {"nothing": 4, "everything": 26, "snapshots": 16, "stopped_members": 15, "killed_all": 14, "killed_leader": 12}
+LENGTHS = {"nothing": 4, "everything": 26, "snapshots": 16, "stopped_members": 15, "hung_regd": 18, "killed_all": 14, "killed_leader": 12}

@@ -1,7 +1,8 @@
 // Package regdtest has a regd in miniature for unit tests. A test binary calls Main first in TestMain, and names itself as the program.
 //
 // It knows prune, which commits and reports its number, show, after, and token, which it ignores. Some hints in a line make it misbehave: L6
-// reports that memory ran out, KILL ends the process, and SLOW makes it take a tenth of a second.
+// reports that memory ran out, KILL ends the process, HANG makes it answer nothing more, and SLOW makes it take a tenth of a second. With LATE
+// a change is seen by the other connections after two seconds.
 package regdtest
 
 import (
@@ -35,28 +36,30 @@ func Main() {
 			os.Exit(1)
 		}
 		group.Add(1)
-		go func() {
+		go func(isWriter bool) {
 			defer group.Done()
-			b.serve(conn)
-		}()
+			b.serve(conn, isWriter)
+		}(i == 0)
 	}
 	group.Wait()
 	os.Exit(0)
 }
 
 type book struct {
-	mu    sync.Mutex
-	place uint64
+	mu        sync.Mutex
+	place     uint64
+	seen      uint64 // the place for the other connections until that time
+	seenUntil time.Time
 }
 
-func (b *book) serve(conn net.Conn) {
+func (b *book) serve(conn net.Conn, isWriter bool) {
 	in := bufio.NewReader(conn)
 	for call, line := 0, 1; ; line++ {
 		text, err := in.ReadBytes('\n')
 		if err != nil {
 			return
 		}
-		reply, isCall := b.reply(text)
+		reply, isCall := b.reply(text, isWriter)
 		if isCall {
 			call++
 			fmt.Fprintf(conn, "{\"call\":%d,%s}\n", call, reply)
@@ -66,7 +69,7 @@ func (b *book) serve(conn net.Conn) {
 	}
 }
 
-func (b *book) reply(text []byte) (reply string, isCall bool) {
+func (b *book) reply(text []byte, isWriter bool) (reply string, isCall bool) {
 	var request struct {
 		Ops   []struct{ Op, Hint string }
 		After uint64
@@ -81,11 +84,19 @@ func (b *book) reply(text []byte) (reply string, isCall bool) {
 		return "L6", false
 	case bytes.Contains(text, []byte("KILL")):
 		os.Exit(7)
+	case bytes.Contains(text, []byte("HANG")):
+		select {}
 	case bytes.Contains(text, []byte("SLOW")):
 		time.Sleep(100 * time.Millisecond)
+	case bytes.Contains(text, []byte("LATE")):
+		b.seen, b.seenUntil = b.place, time.Now().Add(2*time.Second)
 	}
-	if request.After > b.place {
-		return fmt.Sprintf(`"code":"W1","place":%d,"result":"refused"`, b.place), true
+	place := b.place
+	if !isWriter && time.Now().Before(b.seenUntil) {
+		place = b.seen
+	}
+	if request.After > place {
+		return fmt.Sprintf(`"code":"W1","place":%d,"result":"refused"`, place), true
 	}
 	for _, op := range request.Ops {
 		if op.Op == "delete" {
@@ -96,5 +107,5 @@ func (b *book) reply(text []byte) (reply string, isCall bool) {
 			return fmt.Sprintf(`"place":%d,"replies":[{"pruned":["%d"]}],"result":"committed"`, b.place, b.place), true
 		}
 	}
-	return fmt.Sprintf(`"place":%d,"replies":[],"result":"answered"`, b.place), true
+	return fmt.Sprintf(`"place":%d,"replies":[],"result":"answered"`, place), true
 }
