@@ -208,6 +208,20 @@ func TestGateways(t *testing.T) {
 	s.expect("a gateway that comes later", s.call(third, show), answered(1, 40))
 }
 
+// TestLateWorkers lets the workers for queries see a change two seconds late. A query on the usual port may miss the change; a fresh one sees it.
+func TestLateWorkers(t *testing.T) {
+	s := newSite(t)
+	_, usual, fresh := s.gateway("a")
+	s.expect("a change", s.call(usual, `{"ops":[{"op":"prune","hint":"LATE"}]}`), committed(1, 1))
+	s.expect("the usual port", s.call(usual, show), answered(1, 0))
+	s.expect("the fresh port", s.call(fresh, show), answered(1, 1))
+	s.expect("another change", s.call(usual, `{"ops":[{"op":"prune","hint":"LATE"}]}`), committed(1, 2))
+	s.expect("the fresh port, with an older after", s.call(fresh, `{"ops":[{"op":"show"}],"after":1}`), answered(1, 2))
+	s.expect("the caller's own change", s.call(usual, `{"ops":[{"op":"prune","hint":"LATE"}]}`, show), committed(1, 3), answered(2, 3))
+	s.expect("one more change", s.call(usual, `{"ops":[{"op":"prune","hint":"LATE"}]}`), committed(1, 4))
+	s.expect("a query with after", s.call(usual, `{"ops":[{"op":"show"}],"after":4}`), answered(1, 4))
+}
+
 // TestSilentWatch holds the watch of one gateway. Its usual port doesn't see a change of another one. A fresh query does: the gateway notices that
 // the watch is silent, and reads the log again.
 func TestSilentWatch(t *testing.T) {

@@ -45,6 +45,7 @@ type session struct {
 // A request is a line of a caller.
 type request struct {
 	line  []byte
+	place uint64       // of the oldest book that may answer a query
 	reply chan []byte  // with room for one reply; nil stands for an answer that can't be known
 	left  *atomic.Bool // the caller's connection has ended
 }
@@ -128,19 +129,17 @@ func (s *session) query(ctx context.Context, line []byte) bool {
 	return true
 }
 
-// ask sends a query to the replica, for a book that is no older than what the caller has seen, and on the fresh port than what the replica
-// has executed. The reply is nil if there is no replica.
+// ask sends a query to the replica. The reply is nil if there is no replica.
 func (s *session) ask(q *request) {
 	r, state := s.board.read()
 	if r == nil {
 		q.answer(nil)
 		return
 	}
-	place := s.place
-	if s.isFresh && state.Place > place {
-		place = state.Place
+	if s.isFresh {
+		q.place = state.Place
 	}
-	r.Query(s.number, wire.WithAfter(q.line, place), q.answer)
+	r.Query(s.number, q.line, q.answer)
 }
 
 // writeAnswers writes answers, in order, until at most the given number of lines waits, and flushes them. It returns false if the connection is of
@@ -167,7 +166,7 @@ func (s *session) writeAnswers(ctx context.Context, most int) bool {
 	return s.flush()
 }
 
-// await returns the answer to a line, or nil. It asks a query again if regd ended, and if the reply is older than what the caller has seen.
+// await returns the answer to a line, or nil. It asks a query again if regd ended, and if the reply is too old.
 func (s *session) await(ctx context.Context, q *request) []byte {
 	if len(q.reply) == 0 && !s.flush() {
 		return nil
@@ -177,7 +176,7 @@ func (s *session) await(ctx context.Context, q *request) []byte {
 	for {
 		select {
 		case reply := <-q.reply:
-			if s.isChanging || reply != nil && !s.isOld(reply) {
+			if s.isChanging || reply != nil && !s.isOld(q, reply) {
 				return reply
 			}
 			etcd.Pause(ctx, retryTime)
@@ -190,11 +189,12 @@ func (s *session) await(ctx context.Context, q *request) []byte {
 	}
 }
 
-// isOld returns true if the worker that answered a query has not yet seen a commit that the caller has seen, or that the gateway has seen.
-func (s *session) isOld(reply []byte) bool {
+// isOld returns true if the worker that answered a query had not yet seen a commit that the caller had seen, or the replica had executed before a
+// fresh query was asked. With W1 it is any commit that the replica has executed.
+func (s *session) isOld(q *request, reply []byte) bool {
 	_, state := s.board.read()
 	place := wire.Place(reply)
-	return !wire.IsRefusal(reply) && (place < s.place || wire.Code(reply) == "W1" && place < state.Place)
+	return !wire.IsRefusal(reply) && (place < s.place || place < q.place || wire.Code(reply) == "W1" && place < state.Place)
 }
 
 func (s *session) flush() bool {

@@ -30,31 +30,3 @@ func TestMayChange(t *testing.T) {
 		}
 	}
 }
-
-func TestWithAfter(t *testing.T) {
-	long := make([]byte, MaxLine-30)
-	for i := range long {
-		long[i] = ' '
-	}
-	copy(long, `{"ops":[]}`)
-	for _, c := range []struct {
-		line  string
-		place uint64
-		want  string
-	}{
-		{`{"ops":[]}`, 7, `{"after":7,"ops":[]}`},
-		{` { "ops":[],"after":3}`, 7, ` {"after":7, "ops":[],"after":3}`},
-		{`{"ops":[]}`, 0, `{"ops":[]}`},
-		{`{}`, 7, `{}`},
-		{`{7:"x"}`, 7, `{7:"x"}`},
-		{`[{"ops":1}]`, 7, `[{"ops":1}]`},
-		{`{`, 7, `{`},
-		{``, 7, ``},
-		{`{"`, 7, `{"after":7,"`},
-		{string(long), 7, string(long)},
-	} {
-		if got := string(WithAfter([]byte(c.line), c.place)); got != c.want {
-			t.Errorf("%.80s: got %.80s, want %.80s", c.line, got, c.want)
-		}
-	}
-}

@@ -23,10 +23,6 @@ func FuzzAdditions(f *testing.F) {
 		f.Add([]byte(seed))
 	}
 	f.Fuzz(func(t *testing.T, line []byte) {
-		after := WithAfter(line, 77)
-		if json.Valid(after) != json.Valid(line) {
-			t.Fatalf("%q became %q", line, after)
-		}
 		if tokened, ok := ReadTokened(line); ok {
 			if !MayChange(line) {
 				t.Fatalf("%q has a token for a change, and isn't one", line)

@@ -9,7 +9,6 @@ import (
 	"bufio"
 	"bytes"
 	"io"
-	"strconv"
 )
 
 // MaxLine is the largest number of bytes in a line, without its line feed.
@@ -59,16 +58,6 @@ func MayChange(line []byte) bool {
 		}
 	}
 	return false
-}
-
-// WithAfter adds the commit number in front of the keys of a query, so that a value of the caller still counts. It returns the line itself
-// if that is not an object with a key, or has no room.
-func WithAfter(line []byte, place uint64) []byte {
-	inside := bytes.TrimLeft(line, " \t\r")
-	if place == 0 || len(line)+40 > MaxLine || len(inside) == 0 || inside[0] != '{' || !bytes.HasPrefix(bytes.TrimLeft(inside[1:], " \t\r"), []byte(`"`)) {
-		return line
-	}
-	return insert(line, len(line)-len(inside)+1, `"after":`+strconv.FormatUint(place, 10)+`,`)
 }
 
 // insert returns a copy of the line with a text at a position.
