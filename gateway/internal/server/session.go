@@ -46,7 +46,7 @@ type session struct {
 type request struct {
 	line  []byte
 	place uint64       // of the oldest book that may answer a query
-	reply chan []byte  // with room for one reply; nil stands for an answer that can't be known
+	reply chan []byte  // with room for one reply; nil if the answer can't be known
 	left  *atomic.Bool // the caller's connection has ended
 }
 
