@@ -98,6 +98,7 @@ func TestFollow(t *testing.T) {
 	next, err := log.Follow(reading, 1, func(last uint64) {
 		caught = last
 		go func() {
+			log.Cut(ctx, 3) // of which the watch says nothing
 			for number := uint64(before + 1); number <= before+5; number++ {
 				log.Append(ctx, number, []byte(fmt.Sprint(number)))
 			}

@@ -236,6 +236,20 @@ func TestSilentWatch(t *testing.T) {
 	s.expect("the fresh port", s.call(fresh, show), answered(1, 2))
 }
 
+// TestCutLog cuts the log behind a snapshot while the watch of a gateway is held: it makes another replica from the snapshot.
+func TestCutLog(t *testing.T) {
+	s := newSite(t)
+	_, first, _ := s.gateway("a")
+	_, _, fresh := s.gateway("b")
+	s.store.HoldWatch()
+	s.expect("a change", s.call(first, prune), committed(1, 1))
+	s.expect("another change", s.call(first, prune), committed(1, 2))
+	s.log.Put(s.ctx, "snapshot/0000000000000002/00000000", []byte(`{"Entry":2,"Place":2}`))
+	s.log.Put(s.ctx, "snapshot", []byte(`{"Entry":2,"Chunks":1}`))
+	s.log.Cut(s.ctx, 2)
+	s.expect("a fresh query", s.call(fresh, show), answered(1, 2))
+}
+
 // TestLostAppend loses answers of etcd: an entry is made once.
 func TestLostAppend(t *testing.T) {
 	s := newSite(t)
@@ -279,6 +293,25 @@ func TestUnknownAppend(t *testing.T) {
 			return
 		}
 	}
+}
+
+// TestNoAnswer lets etcd refuse everything. After some time the connection of a change ends, and that of a fresh query; other queries are answered.
+func TestNoAnswer(t *testing.T) {
+	long := waitTime
+	t.Cleanup(func() { waitTime = long })
+	waitTime = 300 * time.Millisecond
+	s := newSite(t)
+	_, usual, fresh := s.gateway("a")
+	s.store.Refuse(1 << 30)
+	begin := time.Now()
+	s.expect("a change", s.call(usual, prune, show))
+	s.expect("a fresh query", s.call(fresh, show))
+	s.expect("a query", s.call(usual, show), answered(1, 0))
+	if took := time.Since(begin); took > 15*time.Second {
+		t.Errorf("the connections ended after %v", took)
+	}
+	s.store.Refuse(0)
+	s.expect("after the change that was taken", s.call(usual, prune), committed(1, 2))
 }
 
 // TestReplicaEnds kills regd, and lets it run out of memory: queries and changes go on with another one.

@@ -12,10 +12,12 @@ import (
 	"regd/gateway/internal/wire"
 )
 
+// waitTime is how long a caller waits for an answer. Then the connection ends.
+var waitTime = 20 * time.Second
+
 const (
-	mostRow    = 256              // lines of a connection that are under way
-	waitTime   = 20 * time.Second // for an answer; then the connection ends
-	afterTime  = 2 * time.Second  // that a query waits for the commit number of its caller
+	mostRow    = 256             // lines of a connection that are under way
+	afterTime  = 2 * time.Second // that a query waits for the commit number of its caller
 	retryTime  = 2 * time.Millisecond
 	flushSize  = 1 << 15
 	readBuffer = 1 << 13

@@ -110,6 +110,49 @@ func TestMake(t *testing.T) {
 	}
 }
 
+// TestSizes makes a snapshot with several chunks and with more bytes than a line has, and none if that would be longer than the log. It needs REGD.
+func TestSizes(t *testing.T) {
+	ctx, cancel := context.WithTimeout(context.Background(), time.Minute)
+	defer cancel()
+	store := etcdtest.New()
+	t.Cleanup(store.CloseClientConnections)
+	log := etcd.New([]string{store.URL}, "r/", nil)
+	log.Open(ctx, "ex.org")
+	text := strings.Repeat("x", 60000)
+	bundle := func(number int) string {
+		return fmt.Sprintf(`{"op":"set_bundle","domain":"b%d.org","text":"%s"}`, number, text)
+	}
+	add := func(entry uint64, ops ...string) {
+		line := []byte(`{"ops":[` + strings.Join(ops, ",") + `]}`)
+		if _, err := log.Append(ctx, entry, etcd.JoinEntry(fmt.Sprint(entry), [][]byte{line})); err != nil {
+			t.Fatal(err)
+		}
+	}
+	add(1, bundle(1), bundle(2), bundle(3), bundle(4), bundle(5))
+	if err := Make(ctx, log, options(t), 0); err != nil {
+		t.Fatal(err)
+	}
+	if value, _ := log.Get(ctx, etcd.EntryKey(1)); value == nil {
+		t.Error("the log was cut behind a longer snapshot")
+	}
+	var agents []string
+	for number := 6; number < 26; number++ {
+		agents = append(agents, fmt.Sprintf(`{"op":"set_agent","agent":"spiffe://ex.org/spire/agent/n%d","selectors":[]}`, number))
+		add(uint64(number-4), bundle(number))
+	}
+	for entry := uint64(22); entry < 26; entry++ {
+		add(entry, strings.Split(strings.ReplaceAll(strings.Join(agents, "\n"), "agent/n", fmt.Sprintf("agent/n%d-", entry)), "\n")...)
+	}
+	if err := Make(ctx, log, options(t), 0); err != nil {
+		t.Fatal(err)
+	}
+	r := started(t, ctx)
+	next, err := Load(ctx, log, r)
+	if keys := strings.Join(store.Keys(), " "); err != nil || next != 26 || r.State().Place != 25 || strings.Count(keys, "r/snapshot/") < 3 {
+		t.Errorf("got %d, %d, %v, %s", next, r.State().Place, err, keys)
+	}
+}
+
 // TestVerify checks that a snapshot that makes another book is refused. It needs REGD.
 func TestVerify(t *testing.T) {
 	ctx, cancel := context.WithTimeout(context.Background(), time.Minute)

@@ -16,8 +16,8 @@ type Server struct {
 	mu       sync.Mutex
 	values   map[string][]byte
 	revision int64
-	events   []event       // of all puts
-	changed  chan struct{} // closed and replaced at each put
+	events   []event       // of all puts and deletes
+	changed  chan struct{} // closed and replaced at each of them
 
 	loseAnswers, refuse int
 	watches, held       int // the number of watches so far, and of the one that is held
@@ -26,6 +26,7 @@ type Server struct {
 type event struct {
 	revision   int64
 	key, value []byte
+	isDelete   bool
 }
 
 type object = map[string]any
@@ -78,6 +79,7 @@ type request struct {
 		Key           []byte
 		RangeEnd      []byte `json:"range_end"`
 		StartRevision int64  `json:"start_revision,string"`
+		Filters       []string
 	} `json:"create_request"`
 }
 
@@ -95,6 +97,10 @@ func (s *Server) handler(handle func(*request) object) http.HandlerFunc {
 		}
 		s.mu.Lock()
 		defer s.mu.Unlock()
+		if r.Header.Get("Grpc-Metadata-hasleader") != "true" {
+			http.Error(w, "this member might answer without a majority", http.StatusBadRequest)
+			return
+		}
 		if s.refuse > 0 {
 			s.refuse--
 			http.Error(w, "refused", http.StatusServiceUnavailable)
@@ -132,10 +138,14 @@ func (s *Server) find(in *request) object {
 func (s *Server) put(in *request) object {
 	s.revision++
 	s.values[string(in.Key)] = in.Value
-	s.events = append(s.events, event{s.revision, in.Key, in.Value})
+	s.tell(event{s.revision, in.Key, in.Value, false})
+	return object{}
+}
+
+func (s *Server) tell(news event) {
+	s.events = append(s.events, news)
 	close(s.changed)
 	s.changed = make(chan struct{})
-	return object{}
 }
 
 func (s *Server) delete(in *request) object {
@@ -143,6 +153,7 @@ func (s *Server) delete(in *request) object {
 	for key := range s.values {
 		if string(in.Key) <= key && key < string(in.RangeEnd) {
 			delete(s.values, key)
+			s.tell(event{s.revision, []byte(key), nil, true})
 		}
 	}
 	return object{}
@@ -191,6 +202,9 @@ func (s *Server) watch(w http.ResponseWriter, r *http.Request) {
 		}
 		s.mu.Unlock()
 		for _, one := range news {
+			if one.isDelete && len(from.Filters) > 0 { // which is NODELETE
+				continue
+			}
 			if one.revision >= from.StartRevision && string(from.Key) <= string(one.key) && string(one.key) < string(from.RangeEnd) {
 				out.Encode(object{"result": object{"events": []object{{"kv": object{"key": one.key, "value": one.value}}}}})
 			}
