@@ -67,10 +67,10 @@ def proofs_of_program():
     return found
 
 
-def folder_of_copies():
-    """Returns the folder for this checkout's copies, which no other user may read."""
+def folder_in_cache(use):
+    """Returns this checkout's folder for such a use in the user's cache, which no other user may read."""
     cache = pathlib.Path(os.environ.get("XDG_CACHE_HOME") or pathlib.Path.home() / ".cache")
-    folder = cache / "regd-prove" / hashlib.sha256(str(ROOT).encode()).hexdigest()[:16]
+    folder = cache / use / hashlib.sha256(str(ROOT).encode()).hexdigest()[:16]
     folder.mkdir(mode=0o700, parents=True, exist_ok=True)
     return folder
 
@@ -214,7 +214,7 @@ def locked(folder):
 def prove(processors, writes):
     """Proves the crates and puts the program into the checkout. `processors` is the number to use; `writes` is whether to write the times."""
     os.sched_setaffinity(0, sorted(os.sched_getaffinity(0))[: max(1, processors)])
-    folder = folder_of_copies()
+    folder = folder_in_cache("regd-prove")
     with locked(folder):
         begin = time.time_ns()
         report = Report(proofs_of_program(), len(os.sched_getaffinity(0)))

@@ -1,0 +1,87 @@
+"""Checks one crate over proved libraries: `rt ci` proves the crates below it in a copy, or takes them from the toolchain's store, and then
+`rattle check` checks the crate alone."""
+
+import contextlib
+import fcntl
+import hashlib
+import pathlib
+import shutil
+import subprocess
+
+from regdtools import crates, proving
+from regdtools.program import CRATES, ROOT, sources_of
+
+
+class Failed(Exception):
+    """The crates below are not proved: the end of what the toolchain printed."""
+
+
+def toolchain():
+    """Returns the folder of the toolchain whose `rt` is on PATH."""
+    return pathlib.Path(shutil.which("rt")).resolve().parent.parent
+
+
+def command(name, libraries, jobs=1):
+    """Returns the command that checks a crate in whose folder it runs, with its tests if it is a crate of tests. In the repository at
+    `libraries` the crates below it are proved."""
+    kit = toolchain()
+    is_kit = lambda library: (kit / f"rlibs/{library}.rlib").exists()
+    rlib = lambda library: libraries / "crates" / library / "out/rlib"
+    words = ["--crate-name", name, "src/main.rt" if name == proving.PROGRAM else "src/lib.rt"]
+    for library in ["std", *crates.listed()[name]]:
+        words += ["--extern", f"{library}={kit / 'rlibs' if is_kit(library) else rlib(library)}/{library}.rlib"]
+    for folder in [kit / "rlibs", *map(rlib, crates.below([name]))]:
+        words += ["-L", f"dependency={folder}"]
+    words += ["--antt-project", kit / "rattle/logic/antt-project.json", "--logic-built", kit / "logic_built"]
+    words += ["--links", f"{name}=", "--jobs", jobs, *["--test"] * name.endswith("_tests")]
+    return [str(word) for word in [kit / "bin/rattle", "check", *words]]
+
+
+def checksum(names):
+    """Returns a checksum of the sources of these crates, of what crates.txt and HANDLES say, and of the toolchain."""
+    files = [toolchain() / "KIT-ID", ROOT / "HANDLES", *(path for name in names for path in sources_of(CRATES / name))]
+    digest = hashlib.sha256(repr([(name, crates.listed()[name]) for name in names]).encode())
+    for path in files:
+        text = path.read_bytes()
+        digest.update(f"{path} {len(text)}\n".encode() + text)
+    return digest.hexdigest()
+
+
+def prove_below(name, libraries):
+    """Copies the crates below this one to `libraries` and has `rt ci` prove them there, unless that was done with the same sources before."""
+    names, stamp = crates.below([name]), libraries / "proved"
+    now = checksum(names)
+    if stamp.exists() and stamp.read_text() == now:
+        return
+    proving.copy_crates(names, libraries)
+    if names:
+        settings = {"stdin": subprocess.DEVNULL, "stdout": subprocess.PIPE, "stderr": subprocess.STDOUT, "text": True, "errors": "replace"}
+        ran = subprocess.run(["rt", "ci"], cwd=libraries, **settings)
+        if ran.returncode:
+            raise Failed("".join(["the crates below are not proved:\n", *ran.stdout.splitlines(keepends=True)[-60:]]))
+    stamp.write_text(now)
+
+
+class Checker:
+    """Checks a crate over the libraries of the crates below it. The results for single functions are stored in the folder `kept`."""
+
+    def __init__(self, name, folder):
+        self.name, self.libraries, self.kept = name, folder / "libraries", folder / "functions"
+
+    def check(self, home, arguments=(), jobs=1, kept=None, **settings):
+        """Checks the crate as it is in the folder `home`. Returns the finished process."""
+        words = [*command(self.name, self.libraries, jobs), "--incremental", str(kept or self.kept), *arguments]
+        return subprocess.run(words, cwd=home, stdin=subprocess.DEVNULL, **settings)
+
+
+@contextlib.contextmanager
+def checker(name):
+    """Gives the checker of a crate of this checkout to one call at a time. Its folder is in the user's cache and stays there."""
+    folder = proving.folder_in_cache("regd-check") / name
+    folder.mkdir(exist_ok=True)
+    with open(folder / "lock", "w") as lock:
+        fcntl.flock(lock, fcntl.LOCK_EX)
+        found = Checker(name, folder)
+        prove_below(name, found.libraries)
+        found.kept.mkdir(exist_ok=True)
+        yield found
