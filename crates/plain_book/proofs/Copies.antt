@@ -4,9 +4,8 @@ use Rattle.std.specs.Prelude.{filter}
 use Rattle.entry_book.specs.Order.{is_before, with_row}
 
 -- the rows before, then the row, then the rows behind
-pub joined : {X : Type 0} (key : X → List ℕ) (row last : X) (rows first with_new all : List X) → last ≡ row → first ≡ filter (λ x. is_before (key x) (key row)) rows → with_new ≡ first ++ row ∷ [] → all ≡ with_new ++ filter (λ x. is_before (key last) (key x)) rows → all ≡ with_row key (key row) (Some row) rows
+pub joined : {X : Type 0} (key : X → List ℕ) (row : X) (rows first with_new all : List X) → first ≡ filter (λ x. is_before (key x) (key row)) rows → with_new ≡ first ++ row ∷ [] → all ≡ with_new ++ filter (λ x. is_before (key row) (key x)) rows → all ≡ with_row key (key row) (Some row) rows
 unfolding with_row
-joined key row last rows first with_new all e f w a =
-    a ∙ (ap (λ r. with_new ++ filter (λ x. is_before (key r) (key x)) rows) e
-    ∙ (ap (λ l. l ++ filter (λ x. is_before (key row) (key x)) rows) (w ∙ ap (λ l. l ++ row ∷ []) f)
-    ∙ append_assoc (filter (λ x. is_before (key x) (key row)) rows) (row ∷ []) (filter (λ x. is_before (key row) (key x)) rows)))
+joined key row rows first with_new all f w a =
+    a ∙ (ap (λ l. l ++ filter (λ x. is_before (key row) (key x)) rows) (w ∙ ap (λ l. l ++ row ∷ []) f)
+    ∙ append_assoc (filter (λ x. is_before (key x) (key row)) rows) (row ∷ []) (filter (λ x. is_before (key row) (key x)) rows))

@@ -1,7 +1,9 @@
 pub mod Answered
 pub mod Copies
+pub mod Cuts
 pub mod Flags
 pub mod Kept
 pub mod KeptBooks
+pub mod Places
 pub mod Reached
 pub mod Running

@@ -1,3 +1,5 @@
+pub mod Blocks
 pub mod Keeps
 pub mod Laws
 pub mod Performed
+pub mod Places

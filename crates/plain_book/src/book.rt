@@ -4,10 +4,10 @@ ghost use Rattle.std.specs.Prelude.{◌≡◌};
 
 mod counts;
 
-use crate::expired::{expired_ids, unexpired};
-use crate::find::{agent_of, bundle_of, children_of, entry_of, kept_of, similar_to};
-use crate::row::{with_row, without_row};
-use crate::users::{freed, named_bundles, non_users, user_ids, user_of};
+use crate::expired::expired_among;
+use crate::find::{children_of, first_similar};
+use crate::rows::Rows;
+use crate::users::{first_user, named_bundles, users_among};
 use crate::worklist::authorised_of;
 use entry_book::{
     Agent, Bundle, DomainSet, Entry, KeptBatch, NewEntry, PageQuery, Sequence, Shared, beside,
@@ -21,10 +21,10 @@ use uuid::Uuid;
 /// lists that they have in common, and the rows. A contract sees it as the record of the four lists.
 #[derive(Drop)]
 pub(crate) struct Book {
-    entries: Shared<Sequence<Entry>>,
-    agents: Shared<Sequence<Agent>>,
-    bundles: Shared<Sequence<Bundle>>,
-    tokens: Shared<Sequence<Shared<KeptBatch>>>,
+    entries: Rows<Entry>,
+    agents: Rows<Agent>,
+    bundles: Rows<Bundle>,
+    tokens: Rows<Shared<KeptBatch>>,
 }
 
 impl Model for Book {
@@ -49,10 +49,10 @@ impl Model for Book {
 
 /// The rows that operations ask for.
 impl Book {
-    ghost use Rattle.std.specs.Prelude.{◌≡◌, IfOk, map};
+    ghost use Rattle.std.specs.Prelude.{◌≡◌, IfOk};
     ghost use Rattle.std.specs.Option.{option_copied};
     ghost use Rattle.spiffe_name.specs.Id.{server_text};
-    ghost use Rattle.entry_book.specs.Rows.{at_revision, entry_key};
+    ghost use Rattle.entry_book.specs.Rows.{at_revision};
     ghost use Rattle.entry_book.specs.Order.{first};
     ghost use Rattle.entry_book.specs.Book.{agent_at, bundle_at, children_of, entry_at, expired_before, token_at, users_of};
     ghost use Rattle.entry_book.specs.Authorised.{authorised};
@@ -63,35 +63,38 @@ impl Book {
     pub(crate) fn entry(&self, id: &Uuid) -> Option<&Entry>
         ensures { option_copied result ≡ entry_at id.now self.now }
     {
-        entry_of(self.entries.get().as_slice(), id)
+        self.entries.row(id.as_bytes().as_slice())
     }
 
     /// The agent of an id.
     pub(crate) fn agent(&self, id: &SpiffeId) -> Option<&Agent>
         ensures { option_copied result ≡ agent_at id.now self.now }
     {
-        agent_of(self.agents.get().as_slice(), id)
+        self.agents.row(id.as_str().as_bytes())
     }
 
     /// The bundle of a domain.
     pub(crate) fn bundle(&self, domain: &TrustDomain) -> Option<&Bundle>
         ensures { option_copied result ≡ bundle_at domain.now self.now }
     {
-        bundle_of(self.bundles.get().as_slice(), domain)
+        self.bundles.row(domain.as_str().as_bytes())
     }
 
     /// The batch that is kept under a token.
     pub(crate) fn kept(&self, token: &Uuid) -> Option<&KeptBatch>
         ensures { option_copied result ≡ token_at token.now self.now }
     {
-        kept_of(self.tokens.get().as_slice(), token)
+        match self.tokens.row(token.as_bytes().as_slice()) {
+            Some(kept) => Some(kept.get()),
+            None => None,
+        }
     }
 
     /// Another entry with the same parent, identity and selectors.
     pub(crate) fn similar(&self, new: &NewEntry) -> Option<&Entry>
         ensures { option_copied result ≡ similar (at_revision 0 new.now) self.now }
     {
-        similar_to(self.entries.get().as_slice(), new)
+        first_similar(self.entries.blocks(), new)
     }
 
     /// The first of these domains that has no bundle.
@@ -110,27 +113,27 @@ impl Book {
     pub(crate) fn user(&self, domain: &TrustDomain) -> Option<&Entry>
         ensures { option_copied result ≡ first (users_of domain.now self.now) }
     {
-        user_of(self.entries.get().as_slice(), domain)
+        first_user(self.entries.blocks(), domain)
     }
 
-    /// The ids of the entries that name a domain, in order. The error, here and below, is want of memory.
+    /// The entries that name a domain, in the order of their ids. The error, here and below, is want of memory.
     pub(crate) fn users(
         &self,
         alloc: Global,
         domain: &TrustDomain,
-    ) -> Result<Sequence<Uuid>, AllocError>
-        ensures { IfOk result (λ ids. ids ≡ map entry_key (users_of domain.now self.now)) }
+    ) -> Result<Vec<Entry>, AllocError>
+        ensures { IfOk result (λ users. users.items ≡ users_of domain.now self.now) }
     {
-        let ids = user_ids(alloc, self.entries.get().as_slice(), domain)?;
-        Ok(Sequence::of(ids))
+        let all = self.entries.to_vec(alloc)?;
+        users_among(alloc, all.as_slice(), domain)
     }
 
-    /// The ids of the entries that expire before a moment, in order.
-    pub(crate) fn expired(&self, alloc: Global, moment: u64) -> Result<Sequence<Uuid>, AllocError>
-        ensures { IfOk result (λ ids. ids ≡ map entry_key (expired_before moment self.now)) }
+    /// The entries that expire before a moment, in the order of their ids.
+    pub(crate) fn expired(&self, alloc: Global, moment: u64) -> Result<Vec<Entry>, AllocError>
+        ensures { IfOk result (λ expired. expired.items ≡ expired_before moment self.now) }
     {
-        let ids = expired_ids(alloc, self.entries.get().as_slice(), moment)?;
-        Ok(Sequence::of(ids))
+        let all = self.entries.to_vec(alloc)?;
+        expired_among(alloc, all.as_slice(), moment)
     }
 
     /// The entries of a parent, in the order of their ids.
@@ -141,7 +144,8 @@ impl Book {
     ) -> Result<Sequence<Entry>, AllocError>
         ensures { IfOk result (λ found. found ≡ children_of parent.now self.now) }
     {
-        let found = children_of(alloc, self.entries.get().as_slice(), parent)?;
+        let all = self.entries.to_vec(alloc)?;
+        let found = children_of(alloc, all.as_slice(), parent)?;
         Ok(Sequence::of(found))
     }
 
@@ -154,7 +158,8 @@ impl Book {
     ) -> Result<(Sequence<Entry>, Option<Uuid>), AllocError>
         ensures { IfOk result (λ page. page ≡ (listed query.now self.now, next_of query.now self.now)) }
     {
-        let (found, next) = query.page_of(alloc, self.entries.get().as_slice())?;
+        let all = self.entries.to_vec(alloc)?;
+        let (found, next) = query.page_of(alloc, all.as_slice())?;
         Ok((Sequence::of(found), next))
     }
 
@@ -168,7 +173,8 @@ impl Book {
     ) -> Result<Sequence<Entry>, AllocError>
         ensures { IfOk result (λ found. found ≡ authorised (server_text own.now) agent.now self.now) }
     {
-        let found = authorised_of(alloc, own, agent, self.entries.get().as_slice())?;
+        let all = self.entries.to_vec(alloc)?;
+        let found = authorised_of(alloc, own, agent, all.as_slice())?;
         Ok(Sequence::of(found))
     }
 
@@ -180,38 +186,38 @@ impl Book {
     ) -> Result<Sequence<Bundle>, AllocError>
         ensures { IfOk result (λ named. named ≡ bundles_of entries.now self.now) }
     {
-        let named = named_bundles(alloc, self.bundles.get().as_slice(), entries)?;
+        let all = self.bundles.to_vec(alloc)?;
+        let named = named_bundles(alloc, all.as_slice(), entries)?;
         Ok(Sequence::of(named))
     }
 }
 
 /// The books that operations make. The error is want of memory.
 impl Book {
-    ghost use Rattle.std.specs.Prelude.{◌≡◌, IfOk, None, Some, filter, if◌then◌else◌, map, not};
-    ghost use Rattle.entry_book.specs.Rows.{agent_key, bundle_key, entry_key};
+    ghost use Rattle.std.specs.Prelude.{◌≡◌, ◌≤◌, ◌^◌, IfOk, None, Some, map};
+    ghost use Rattle.entry_book.specs.Rows.{Entry as EntryRow, agent_key, bundle_key, entry_key};
     ghost use Rattle.entry_book.specs.Tokens.{token_key};
-    ghost use Rattle.entry_book.specs.Order.{Ascending, with_row};
-    ghost use Rattle.entry_book.specs.Book.{AscendingBook, empty_book, expires_before, names};
-    ghost use Rattle.entry_book.specs.Lawful.{CanGrow};
-    ghost use Rattle.entry_book.specs.Ops.{dissociated};
+    ghost use Rattle.entry_book.specs.Order.{Ascending, Within, with_row};
+    ghost use Rattle.entry_book.specs.Book.{empty_book};
+    ghost use Rattle.entry_book.specs.Writes.{after};
+    ghost use Rattle.entry_book.specs.Ops.{freed, removed};
 
     /// The book with no rows.
     pub(crate) fn empty(alloc: Global) -> Result<Book, AllocError>
         ensures { IfOk result (λ book. book ≡ empty_book) }
     {
         Ok(Book {
-            entries: Shared::of(alloc, Sequence::empty(alloc))?,
-            agents: Shared::of(alloc, Sequence::empty(alloc))?,
-            bundles: Shared::of(alloc, Sequence::empty(alloc))?,
-            tokens: Shared::of(alloc, Sequence::empty(alloc))?,
+            entries: Rows::empty(alloc)?,
+            agents: Rows::empty(alloc)?,
+            bundles: Rows::empty(alloc)?,
+            tokens: Rows::empty(alloc)?,
         })
     }
 
-    fn with_entries(&self, alloc: Global, entries: Vec<Entry>) -> Result<Book, AllocError>
-        requires ascending { Ascending entry_key entries.items }
-        ensures { IfOk result (λ book. book ≡ record self.now { entries = entries.items }) }
+    fn with_entries(&self, entries: Rows<Entry>) -> Result<Book, AllocError>
+        requires ascending { Ascending entry_key entries }
+        ensures { IfOk result (λ book. book ≡ record self.now { entries = entries }) }
     {
-        let entries = Shared::of(alloc, Sequence::of(entries))?;
         let (entries, found) = beside(entries, self.clone())?;
         let Book {
             entries: before,
@@ -228,11 +234,10 @@ impl Book {
         })
     }
 
-    fn with_agents(&self, alloc: Global, agents: Vec<Agent>) -> Result<Book, AllocError>
-        requires ascending { Ascending agent_key agents.items }
-        ensures { IfOk result (λ book. book ≡ record self.now { agents = agents.items }) }
+    fn with_agents(&self, agents: Rows<Agent>) -> Result<Book, AllocError>
+        requires ascending { Ascending agent_key agents }
+        ensures { IfOk result (λ book. book ≡ record self.now { agents = agents }) }
     {
-        let agents = Shared::of(alloc, Sequence::of(agents))?;
         let (agents, found) = beside(agents, self.clone())?;
         let Book {
             entries,
@@ -249,11 +254,10 @@ impl Book {
         })
     }
 
-    fn with_bundles(&self, alloc: Global, bundles: Vec<Bundle>) -> Result<Book, AllocError>
-        requires ascending { Ascending bundle_key bundles.items }
-        ensures { IfOk result (λ book. book ≡ record self.now { bundles = bundles.items }) }
+    fn with_bundles(&self, bundles: Rows<Bundle>) -> Result<Book, AllocError>
+        requires ascending { Ascending bundle_key bundles }
+        ensures { IfOk result (λ book. book ≡ record self.now { bundles = bundles }) }
     {
-        let bundles = Shared::of(alloc, Sequence::of(bundles))?;
         let (bundles, found) = beside(bundles, self.clone())?;
         let Book {
             entries,
@@ -270,11 +274,10 @@ impl Book {
         })
     }
 
-    fn with_tokens(&self, alloc: Global, tokens: Vec<Shared<KeptBatch>>) -> Result<Book, AllocError>
-        requires ascending { Ascending token_key tokens.items }
-        ensures { IfOk result (λ book. book ≡ record self.now { tokens = tokens.items }) }
+    fn with_tokens(&self, tokens: Rows<Shared<KeptBatch>>) -> Result<Book, AllocError>
+        requires ascending { Ascending token_key tokens }
+        ensures { IfOk result (λ book. book ≡ record self.now { tokens = tokens }) }
     {
-        let tokens = Shared::of(alloc, Sequence::of(tokens))?;
         let (tokens, found) = beside(tokens, self.clone())?;
         let Book {
             entries,
@@ -297,8 +300,8 @@ impl Book {
           entries = with_row entry_key entry.id (Some entry) self.now.entries;
         }) }
     {
-        let entries = with_row(alloc, self.entries.get().as_slice(), entry)?;
-        self.with_entries(alloc, entries)
+        let entries = self.entries.with(alloc, entry)?;
+        self.with_entries(entries)
     }
 
     /// The book without the entry of this one's id.
@@ -307,50 +310,39 @@ impl Book {
           entries = with_row entry_key entry.now.id None self.now.entries;
         }) }
     {
-        let entries = without_row(alloc, self.entries.get().as_slice(), entry)?;
-        self.with_entries(alloc, entries)
+        let entries = self
+            .entries
+            .without(alloc, entry.id().as_bytes().as_slice())?;
+        self.with_entries(entries)
     }
 
-    /// The book without the entries that expire before a moment.
-    pub(crate) fn without_expired(&self, alloc: Global, moment: u64) -> Result<Book, AllocError>
-        ensures rows { IfOk result (λ book. book ≡ record self.now {
-          entries = filter (λ entry. not (expires_before moment entry)) self.now.entries;
-        }) }
-        ensures found { AscendingBook self.now }
+    /// The book without these entries, which are taken away one after another.
+    pub(crate) fn without_all(&self, alloc: Global, gone: &[Entry]) -> Result<Book, AllocError>
+        ensures { IfOk result (λ book. book ≡ after (map removed gone.now) self.now) }
     {
-        let entries = unexpired(alloc, self.entries.get().as_slice(), moment)?;
-        self.with_entries(alloc, entries)
+        let mut rest = self.clone()?;
+        for entry in gone {
+            rest = rest.without_entry(alloc, entry)?;
+        }
+        Ok(rest)
     }
 
-    /// The book without the entries that name a domain.
-    pub(crate) fn without_users(
+    /// The book with each of these entries dissociated from a domain, one after another.
+    pub(crate) fn with_freed(
         &self,
         alloc: Global,
+        users: &[Entry],
         domain: &TrustDomain,
     ) -> Result<Book, AllocError>
-        ensures rows { IfOk result (λ book. book ≡ record self.now {
-          entries = filter (λ entry. not (names domain.now entry)) self.now.entries;
-        }) }
-        ensures found { AscendingBook self.now }
+        requires room { (entry : EntryRow) → Within users.now entry → entry.revision ≤ 2 ^ 63 }
+        ensures { IfOk result (λ book. book ≡ after (map (freed domain.now) users.now) self.now) }
     {
-        let entries = non_users(alloc, self.entries.get().as_slice(), domain)?;
-        self.with_entries(alloc, entries)
-    }
-
-    /// The book with each entry that names a domain dissociated from it.
-    pub(crate) fn with_users_freed(
-        &self,
-        alloc: Global,
-        domain: &TrustDomain,
-    ) -> Result<Book, AllocError>
-        requires counts { CanGrow self.now }
-        ensures rows { IfOk result (λ book. book ≡ record self.now {
-          entries = map (λ entry. if names domain.now entry then dissociated domain.now entry else entry) self.now.entries;
-        }) }
-        ensures found { AscendingBook self.now }
-    {
-        let entries = freed(alloc, self.entries.get().as_slice(), domain)?;
-        self.with_entries(alloc, entries)
+        let mut changed = self.clone()?;
+        for entry in users {
+            let freed = entry.dissociated(alloc, domain)?;
+            changed = changed.with_entry(alloc, freed)?;
+        }
+        Ok(changed)
     }
 
     /// The book with this agent in the place of the one of its id.
@@ -359,8 +351,8 @@ impl Book {
           agents = with_row agent_key agent.id (Some agent) self.now.agents;
         }) }
     {
-        let agents = with_row(alloc, self.agents.get().as_slice(), agent)?;
-        self.with_agents(alloc, agents)
+        let agents = self.agents.with(alloc, agent)?;
+        self.with_agents(agents)
     }
 
     /// The book without the agent of this one's id.
@@ -369,8 +361,10 @@ impl Book {
           agents = with_row agent_key agent.now.id None self.now.agents;
         }) }
     {
-        let agents = without_row(alloc, self.agents.get().as_slice(), agent)?;
-        self.with_agents(alloc, agents)
+        let agents = self
+            .agents
+            .without(alloc, agent.id.get().as_str().as_bytes())?;
+        self.with_agents(agents)
     }
 
     /// The book with this bundle in the place of the one of its domain.
@@ -379,8 +373,8 @@ impl Book {
           bundles = with_row bundle_key bundle.domain (Some bundle) self.now.bundles;
         }) }
     {
-        let bundles = with_row(alloc, self.bundles.get().as_slice(), bundle)?;
-        self.with_bundles(alloc, bundles)
+        let bundles = self.bundles.with(alloc, bundle)?;
+        self.with_bundles(bundles)
     }
 
     /// The book without the bundle of this one's domain.
@@ -389,8 +383,10 @@ impl Book {
           bundles = with_row bundle_key bundle.now.domain None self.now.bundles;
         }) }
     {
-        let bundles = without_row(alloc, self.bundles.get().as_slice(), bundle)?;
-        self.with_bundles(alloc, bundles)
+        let bundles = self
+            .bundles
+            .without(alloc, bundle.domain.get().as_str().as_bytes())?;
+        self.with_bundles(bundles)
     }
 
     /// The book with this kept batch in the place of the one of its token.
@@ -403,8 +399,8 @@ impl Book {
           tokens = with_row token_key kept.token (Some kept) self.now.tokens;
         }) }
     {
-        let tokens = with_row(alloc, self.tokens.get().as_slice(), kept)?;
-        self.with_tokens(alloc, tokens)
+        let tokens = self.tokens.with(alloc, kept)?;
+        self.with_tokens(tokens)
     }
 }
 

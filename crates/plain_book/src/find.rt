@@ -5,60 +5,12 @@ ghost use Rattle.std.specs.Option.{option_copied};
 ghost use Rattle.spiffe_name.specs.SelectorSet.{set_eq};
 ghost use Rattle.entry_book.specs.Order.{first};
 ghost use Rattle.entry_book.specs.Book.{in_group};
+ghost use Rattle.plain_book.specs.Blocks.{joined};
 
-use entry_book::{Agent, Bundle, Entry, KeptBatch, NewEntry, Shared};
-use spiffe_name::{SpiffeId, TrustDomain};
+use crate::blocks::Block;
+use entry_book::{Entry, NewEntry};
+use spiffe_name::SpiffeId;
 use std::alloc::{AllocError, Global};
-use uuid::Uuid;
-
-/// The entry of an id.
-pub(crate) fn entry_of<'a>(entries: &'a [Entry], id: &Uuid) -> Option<&'a Entry>
-    ensures { option_copied result ≡ first (filter (λ entry. bytes_eq entry.id id.now) entries.now) }
-{
-    for entry in entries {
-        if entry.id() == id {
-            return Some(entry);
-        }
-    }
-    None
-}
-
-/// The agent of an id.
-pub(crate) fn agent_of<'a>(agents: &'a [Agent], id: &SpiffeId) -> Option<&'a Agent>
-    ensures { option_copied result ≡ first (filter (λ agent. bytes_eq agent.id id.now) agents.now) }
-{
-    for agent in agents {
-        if agent.id.get() == id {
-            return Some(agent);
-        }
-    }
-    None
-}
-
-/// The bundle of a domain.
-pub(crate) fn bundle_of<'a>(bundles: &'a [Bundle], domain: &TrustDomain) -> Option<&'a Bundle>
-    ensures { option_copied result
-        ≡ first (filter (λ bundle. bytes_eq bundle.domain domain.now) bundles.now) }
-{
-    for bundle in bundles {
-        if bundle.domain.get() == domain {
-            return Some(bundle);
-        }
-    }
-    None
-}
-
-/// The batch that is kept under a token.
-pub(crate) fn kept_of<'a>(tokens: &'a [Shared<KeptBatch>], token: &Uuid) -> Option<&'a KeptBatch>
-    ensures { option_copied result ≡ first (filter (λ kept. bytes_eq kept.token token.now) tokens.now) }
-{
-    for kept in tokens {
-        if &kept.get().token == token {
-            return Some(kept.get());
-        }
-    }
-    None
-}
 
 fn is_in_group(entry: &Entry, new: &NewEntry) -> bool
     ensures { result ≡ in_group new.now.parent new.now.identity entry.now }
@@ -74,7 +26,7 @@ fn is_another_with_its_selectors(entry: &Entry, new: &NewEntry) -> bool
 }
 
 /// Another entry with the same parent, identity and selectors: the first one.
-pub(crate) fn similar_to<'a>(entries: &'a [Entry], new: &NewEntry) -> Option<&'a Entry>
+fn similar_to<'a>(entries: &'a [Entry], new: &NewEntry) -> Option<&'a Entry>
     ensures { option_copied result ≡ first (filter
         (λ entry. set_eq entry.selectors new.now.selectors && not (bytes_eq entry.id new.now.id))
         (filter (in_group new.now.parent new.now.identity) entries.now)) }
@@ -82,6 +34,21 @@ pub(crate) fn similar_to<'a>(entries: &'a [Entry], new: &NewEntry) -> Option<&'a
     for entry in entries {
         if is_in_group(entry, new) && is_another_with_its_selectors(entry, new) {
             return Some(entry);
+        }
+    }
+    None
+}
+
+/// Another entry with the same parent, identity and selectors: the first one of the blocks.
+pub(crate) fn first_similar<'a>(blocks: &'a [Block<Entry>], new: &NewEntry) -> Option<&'a Entry>
+    ensures { option_copied result ≡ first (filter
+        (λ entry. set_eq entry.selectors new.now.selectors && not (bytes_eq entry.id new.now.id))
+        (filter (in_group new.now.parent new.now.identity) (joined blocks.now))) }
+{
+    for block in blocks {
+        match similar_to(block.get().as_slice(), new) {
+            Some(other) => return Some(other),
+            None => {}
         }
     }
     None

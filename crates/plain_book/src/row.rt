@@ -1,32 +1,34 @@
-//! How is a row put into a set of rows, or taken out?
+//! What is a row of a book, and where does it stand among others in order?
 
-ghost use Rattle.std.specs.Prelude.{◌≡◌, ◌++◌, ◌∷◌, [], None, Some, OnOk, IfOk, List, ℕ, filter};
+ghost use Rattle.std.specs.Prelude.{◌≡◌, ◌++◌, ◌∷◌, [], None, Some, OnOk, IfOk, List, ℕ, bytes_eq, filter};
 ghost use Rattle.std.specs.Cmp.Lexicographic.{slice_cmp};
+ghost use Rattle.std.specs.Option.{option_copied};
 ghost use Rattle.std.specs.Ordering.{nat_cmp};
-ghost use Rattle.entry_book.specs.Order.{is_before, with_row};
+ghost use Rattle.entry_book.specs.Order.{Ascending, first, is_before, with_row};
+ghost use Rattle.plain_book.specs.Places.{IsPlace};
 
 use entry_book::{Agent, Bundle, Entry, KeptBatch, Shared};
 use std::alloc::{AllocError, Global};
+use std::cmp::Ordering;
 
 /// A row of a book: it has a key, by whose bytes rows are ordered.
 pub(crate) trait BookRow: Drop {
     ghost key: { Self → List ℕ };
 
-    /// Does this row's key stand before the other's?
-    fn is_before(&self, other: &Self) -> bool
-        ensures { result ≡ is_before (key self.now) (key other.now) };
+    /// The bytes of its key.
+    fn key(&self) -> &[u8]
+        ensures { result.now ≡ key self.now };
 
     /// One more owner of the same row. The error is want of memory.
     fn again(&self) -> Result<Self, AllocError>
         ensures { IfOk result (λ copy. copy ≡ self.now) };
 }
 
-#[tactic(auto, unfolding(entry_book::specs::Order::is_before))]
 impl BookRow for Entry {
     ghost key = { λ entry. entry.id };
 
-    fn is_before(&self, other: &Self) -> bool {
-        self.id().cmp(other.id()).is_lt()
+    fn key(&self) -> &[u8] {
+        self.id().as_bytes().as_slice()
     }
 
     fn again(&self) -> Result<Self, AllocError> {
@@ -34,12 +36,11 @@ impl BookRow for Entry {
     }
 }
 
-#[tactic(auto, unfolding(entry_book::specs::Order::is_before))]
 impl BookRow for Agent {
     ghost key = { λ agent. agent.id };
 
-    fn is_before(&self, other: &Self) -> bool {
-        self.id.get().cmp(other.id.get()).is_lt()
+    fn key(&self) -> &[u8] {
+        self.id.get().as_str().as_bytes()
     }
 
     fn again(&self) -> Result<Self, AllocError> {
@@ -47,12 +48,11 @@ impl BookRow for Agent {
     }
 }
 
-#[tactic(auto, unfolding(entry_book::specs::Order::is_before))]
 impl BookRow for Bundle {
     ghost key = { λ bundle. bundle.domain };
 
-    fn is_before(&self, other: &Self) -> bool {
-        self.domain.get().cmp(other.domain.get()).is_lt()
+    fn key(&self) -> &[u8] {
+        self.domain.get().as_str().as_bytes()
     }
 
     fn again(&self) -> Result<Self, AllocError> {
@@ -60,12 +60,11 @@ impl BookRow for Bundle {
     }
 }
 
-#[tactic(auto, unfolding(entry_book::specs::Order::is_before))]
 impl BookRow for Shared<KeptBatch> {
     ghost key = { λ kept. kept.token };
 
-    fn is_before(&self, other: &Self) -> bool {
-        self.get().token.cmp(&other.get().token).is_lt()
+    fn key(&self) -> &[u8] {
+        self.get().token.as_bytes().as_slice()
     }
 
     fn again(&self) -> Result<Self, AllocError> {
@@ -73,55 +72,80 @@ impl BookRow for Shared<KeptBatch> {
     }
 }
 
-/// Copies the rows that stand before this one.
-fn push_before<T: BookRow>(rows: &[T], row: &T, out: &mut Vec<T>) -> Result<(), AllocError>
-    ensures { OnOk result (out.new.items ≡ out.old.items
-        ++ filter (λ other. is_before (T.key other) (T.key row.now)) rows.now) }
+/// How the row's key compares with another.
+fn compared<T: BookRow>(row: &T, key: &[u8]) -> Ordering
+    ensures { result ≡ slice_cmp nat_cmp (T.key row.now) key.now }
 {
-    for other in rows {
-        if other.is_before(row) {
-            out.push(other.again()?)?;
-        }
-    }
-    Ok(())
+    row.key().cmp(key)
 }
 
-/// Copies the rows that stand behind this one.
-fn push_behind<T: BookRow>(rows: &[T], row: &T, out: &mut Vec<T>) -> Result<(), AllocError>
-    ensures { OnOk result (out.new.items ≡ out.old.items
-        ++ filter (λ other. is_before (T.key row.now) (T.key other)) rows.now) }
+/// Where the row of a key stands, or where it would stand, by binary search.
+fn place_of<T: BookRow>(rows: &[T], key: &[u8]) -> Result<usize, usize>
+    requires order { Ascending T.key rows.now }
+    ensures { IsPlace T.key rows.now key.now result }
 {
-    for other in rows {
-        if row.is_before(other) {
-            out.push(other.again()?)?;
-        }
+    rows.binary_search_by(|row| compared(row, key))
+}
+
+/// The row of a key.
+pub(crate) fn row_of<'a, T: BookRow>(rows: &'a [T], key: &[u8]) -> Option<&'a T>
+    requires order { Ascending T.key rows.now }
+    ensures { option_copied result ≡ first (filter (λ row. bytes_eq (T.key row) key.now) rows.now) }
+{
+    match place_of(rows, key) {
+        Ok(place) => Some(&rows[place]),
+        Err(_) => None,
+    }
+}
+
+/// The rows before a key, and those behind it.
+fn around<'a, T: BookRow>(rows: &'a [T], key: &[u8]) -> (&'a [T], &'a [T])
+    requires order { Ascending T.key rows.now }
+    ensures before { result.0.now ≡ filter (λ row. is_before (T.key row) key.now) rows.now }
+    ensures behind { result.1.now ≡ filter (λ row. is_before key.now (T.key row)) rows.now }
+{
+    match place_of(rows, key) {
+        Ok(place) => (&rows[..place], &rows[place + 1..]),
+        Err(place) => (&rows[..place], &rows[place..]),
+    }
+}
+
+/// Copies the rows to the end of others. The error is want of memory.
+pub(crate) fn push_all<T: BookRow>(rows: &[T], out: &mut Vec<T>) -> Result<(), AllocError>
+    ensures { OnOk result (out.new.items ≡ out.old.items ++ rows.now) }
+{
+    for row in rows {
+        out.push(row.again()?)?;
     }
     Ok(())
 }
 
 /// The rows with this one in the place of the one of its key. The error is want of memory.
 pub(crate) fn with_row<T: BookRow>(alloc: Global, rows: &[T], row: T) -> Result<Vec<T>, AllocError>
+    requires order { Ascending T.key rows.now }
     ensures { IfOk result (λ new. new.items ≡ with_row T.key (T.key row) (Some row) rows.now) }
 {
-    let mut out = Vec::new(alloc);
-    push_before(rows, &row, &mut out)?;
-    let last = row.again()?;
+    let (before, behind) = around(rows, row.key());
+    let mut out = Vec::with_capacity(alloc, rows.len().saturating_add(1))?;
+    push_all(before, &mut out)?;
     out.push(row)?;
-    push_behind(rows, &last, &mut out)?;
+    push_all(behind, &mut out)?;
     Ok(out)
 }
 
-/// The rows without the one of this row's key. The error is want of memory.
+/// The rows without the one of this key. The error is want of memory.
 #[tactic(auto, unfolding(entry_book::specs::Order::with_row))]
 pub(crate) fn without_row<T: BookRow>(
     alloc: Global,
     rows: &[T],
-    row: &T,
+    key: &[u8],
 ) -> Result<Vec<T>, AllocError>
-    ensures { IfOk result (λ new. new.items ≡ with_row T.key (T.key row.now) None rows.now) }
+    requires order { Ascending T.key rows.now }
+    ensures { IfOk result (λ new. new.items ≡ with_row T.key key.now None rows.now) }
 {
-    let mut out = Vec::new(alloc);
-    push_before(rows, row, &mut out)?;
-    push_behind(rows, row, &mut out)?;
+    let (before, behind) = around(rows, key);
+    let mut out = Vec::with_capacity(alloc, rows.len())?;
+    push_all(before, &mut out)?;
+    push_all(behind, &mut out)?;
     Ok(out)
 }

@@ -1,20 +1,22 @@
 //! Which entries name a trust domain, and which bundles do entries name?
 
-ghost use Rattle.std.specs.Prelude.{◌≡◌, ◌≤◌, ◌^◌, filter, if◌then◌else◌, map, not, IfOk};
+ghost use Rattle.std.specs.Prelude.{◌≡◌, filter, map, IfOk};
 ghost use Rattle.std.specs.List.{list_any};
 ghost use Rattle.std.specs.Option.{option_copied};
-ghost use Rattle.entry_book.specs.Rows.{Entry as EntryRow, entry_key};
-ghost use Rattle.entry_book.specs.Order.{Within, first};
+ghost use Rattle.entry_book.specs.Rows.{entry_key};
+ghost use Rattle.entry_book.specs.Order.{first};
 ghost use Rattle.entry_book.specs.Book.{names};
-ghost use Rattle.entry_book.specs.Ops.{dissociated, is_named};
+ghost use Rattle.entry_book.specs.Ops.{is_named};
+ghost use Rattle.plain_book.specs.Blocks.{joined};
 
+use crate::blocks::Block;
 use entry_book::{Bundle, Entry};
 use spiffe_name::TrustDomain;
 use std::alloc::{AllocError, Global};
 use uuid::Uuid;
 
 /// The first entry that names a domain.
-pub(crate) fn user_of<'a>(entries: &'a [Entry], domain: &TrustDomain) -> Option<&'a Entry>
+fn user_of<'a>(entries: &'a [Entry], domain: &TrustDomain) -> Option<&'a Entry>
     ensures { option_copied result ≡ first (filter (names domain.now) entries.now) }
 {
     for entry in entries {
@@ -25,70 +27,45 @@ pub(crate) fn user_of<'a>(entries: &'a [Entry], domain: &TrustDomain) -> Option<
     None
 }
 
-/// The ids of the entries that name a domain. The error, here and below, is want of memory.
-pub(crate) fn user_ids(
+/// The first entry of the blocks that names a domain.
+pub(crate) fn first_user<'a>(blocks: &'a [Block<Entry>], domain: &TrustDomain) -> Option<&'a Entry>
+    ensures { option_copied result ≡ first (filter (names domain.now) (joined blocks.now)) }
+{
+    for block in blocks {
+        match user_of(block.get().as_slice(), domain) {
+            Some(user) => return Some(user),
+            None => {}
+        }
+    }
+    None
+}
+
+/// The entries that name a domain. The error, here and below, is want of memory.
+pub(crate) fn users_among(
     alloc: Global,
     entries: &[Entry],
     domain: &TrustDomain,
-) -> Result<Vec<Uuid>, AllocError>
-    ensures { IfOk result
-        (λ ids. ids.items ≡ map entry_key (filter (names domain.now) entries.now)) }
+) -> Result<Vec<Entry>, AllocError>
+    ensures { IfOk result (λ users. users.items ≡ filter (names domain.now) entries.now) }
 {
-    let mut ids = Vec::new(alloc);
+    let mut users = Vec::new(alloc);
     for entry in entries {
         if entry.names(domain) {
-            ids.push(*entry.id())?;
+            users.push(entry.clone()?)?;
         }
+    }
+    Ok(users)
+}
+
+/// The ids of the entries.
+pub(crate) fn ids_of(alloc: Global, entries: &[Entry]) -> Result<Vec<Uuid>, AllocError>
+    ensures { IfOk result (λ ids. ids.items ≡ map entry_key entries.now) }
+{
+    let mut ids = Vec::with_capacity(alloc, entries.len())?;
+    for entry in entries {
+        ids.push(*entry.id())?;
     }
     Ok(ids)
-}
-
-/// The entries that don't name a domain.
-pub(crate) fn non_users(
-    alloc: Global,
-    entries: &[Entry],
-    domain: &TrustDomain,
-) -> Result<Vec<Entry>, AllocError>
-    ensures { IfOk result
-        (λ kept. kept.items ≡ filter (λ entry. not (names domain.now entry)) entries.now) }
-{
-    let mut kept = Vec::new(alloc);
-    for entry in entries {
-        if !entry.names(domain) {
-            kept.push(entry.clone()?)?;
-        }
-    }
-    Ok(kept)
-}
-
-/// The entry, dissociated from a domain that it names.
-fn freed_of(alloc: Global, entry: &Entry, domain: &TrustDomain) -> Result<Entry, AllocError>
-    requires room { entry.now.revision ≤ 2 ^ 63 }
-    ensures { IfOk result (λ freed. freed
-        ≡ (if names domain.now entry.now then dissociated domain.now entry.now else entry.now)) }
-{
-    if entry.names(domain) {
-        entry.dissociated(alloc, domain)
-    } else {
-        entry.clone()
-    }
-}
-
-/// The entries, each dissociated from a domain that it names.
-pub(crate) fn freed(
-    alloc: Global,
-    entries: &[Entry],
-    domain: &TrustDomain,
-) -> Result<Vec<Entry>, AllocError>
-    requires room { (entry : EntryRow) → Within entries.now entry → entry.revision ≤ 2 ^ 63 }
-    ensures { IfOk result (λ freed. freed.items ≡ map (λ entry.
-        if names domain.now entry then dissociated domain.now entry else entry) entries.now) }
-{
-    let mut freed = Vec::new(alloc);
-    for entry in entries {
-        freed.push(freed_of(alloc, entry, domain)?)?;
-    }
-    Ok(freed)
 }
 
 /// Does an entry name the domain?

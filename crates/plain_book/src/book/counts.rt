@@ -26,27 +26,27 @@ impl Book {
     fn entry_count(&self) -> usize
         ensures { result ≡ length self.now.entries }
     {
-        self.entries.get().as_slice().len()
+        self.entries.len()
     }
 
     /// How many agents there are.
     fn agent_count(&self) -> usize
         ensures { result ≡ length self.now.agents }
     {
-        self.agents.get().as_slice().len()
+        self.agents.len()
     }
 
     /// How many bundles there are.
     fn bundle_count(&self) -> usize
         ensures { result ≡ length self.now.bundles }
     {
-        self.bundles.get().as_slice().len()
+        self.bundles.len()
     }
 
     /// How many batches are kept under their tokens.
     fn token_count(&self) -> usize
         ensures { result ≡ length self.now.tokens }
     {
-        self.tokens.get().as_slice().len()
+        self.tokens.len()
     }
 }

@@ -7,6 +7,7 @@ ghost use Rattle.entry_book.specs.Ops.{drop_in, drop_over};
 ghost use Rattle.plain_book.specs.Performed.{performed};
 
 use crate::book::Book;
+use crate::users::ids_of;
 use entry_book::{Bundle, DropMode, OpRefusal, OpReply, Sequence, Shared};
 use spiffe_name::TrustDomain;
 use std::alloc::{AllocError, Global};
@@ -59,10 +60,12 @@ fn delete_users(
         (drop_in DropMode.Delete (users_of bundle.now.domain book.now) bundle.now) book.now) }
 {
     let domain = bundle.domain.get();
-    let deleted = book.users(alloc, domain)?;
-    let rest = book.without_users(alloc, domain)?;
+    let users = book.users(alloc, domain)?;
+    let rest = book.without_all(alloc, users.as_slice())?;
     let after = rest.without_bundle(alloc, bundle)?;
-    Ok(Ok((OpReply::Dropped(deleted, Sequence::empty(alloc)), after)))
+    let deleted = ids_of(alloc, users.as_slice())?;
+    let reply = OpReply::Dropped(Sequence::of(deleted), Sequence::empty(alloc));
+    Ok(Ok((reply, after)))
 }
 
 /// Dissociates the entries that name the bundle's domain.
@@ -76,9 +79,10 @@ fn free_users(
         (drop_in DropMode.Dissociate (users_of bundle.now.domain book.now) bundle.now) book.now) }
 {
     let domain = bundle.domain.get();
-    let dissociated = book.users(alloc, domain)?;
-    let freed = book.with_users_freed(alloc, domain)?;
+    let users = book.users(alloc, domain)?;
+    let freed = book.with_freed(alloc, users.as_slice(), domain)?;
     let after = freed.without_bundle(alloc, bundle)?;
-    let reply = OpReply::Dropped(Sequence::empty(alloc), dissociated);
+    let dissociated = ids_of(alloc, users.as_slice())?;
+    let reply = OpReply::Dropped(Sequence::empty(alloc), Sequence::of(dissociated));
     Ok(Ok((reply, after)))
 }

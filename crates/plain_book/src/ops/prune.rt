@@ -7,7 +7,8 @@ ghost use Rattle.entry_book.specs.Ops.{done, removed};
 ghost use Rattle.plain_book.specs.Performed.{performed};
 
 use crate::book::Book;
-use entry_book::{OpRefusal, OpReply};
+use crate::users::ids_of;
+use entry_book::{OpRefusal, OpReply, Sequence};
 use std::alloc::{AllocError, Global};
 
 /// Never refused.
@@ -20,7 +21,8 @@ pub(crate) fn prune(
         (done (OpReply.Pruned (map entry_key (expired_before moment book.now)))
         (map removed (expired_before moment book.now))) book.now) }
 {
-    let ids = book.expired(alloc, moment)?;
-    let after = book.without_expired(alloc, moment)?;
-    Ok(Ok((OpReply::Pruned(ids), after)))
+    let expired = book.expired(alloc, moment)?;
+    let after = book.without_all(alloc, expired.as_slice())?;
+    let ids = ids_of(alloc, expired.as_slice())?;
+    Ok(Ok((OpReply::Pruned(Sequence::of(ids)), after)))
 }

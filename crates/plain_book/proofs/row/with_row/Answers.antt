@@ -6,8 +6,12 @@ use Rattle.plain_book.proofs.row.with_row.Goals as goal
 
 pub returns : goal.returns
 returns g c =
-    joined g.T.BookRow.key c.args.row c.in_ok-last.last c.args.rows.now c.push_before.new.out.items c.push.new.self.items c.push_behind.new.out.items
-    c.in_ok-last.ensures
-    (c.in_ok-push_before.ensures ∙ ap (λ l. l ++ filter (λ x. is_before (g.T.BookRow.key x) (g.T.BookRow.key c.args.row)) c.args.rows.now) c.new-out.ensures.items)
+    let key = g.T.BookRow.key in
+    let rows = c.args.rows.now in
+    joined key c.args.row rows c.push_all.new.out.items c.push.new.self.items c.push_all-2.new.out.items
+    (c.in_ok-push_all.ensures
+    ∙ (ap (λ l. l ++ c.around.result.0.now) c.in_ok-out.ensures.items
+    ∙ (c.around.ensures.before ∙ ap (λ k. filter (λ x. is_before (key x) k) rows) c.key.ensures)))
     c.in_ok-push.ensures.items
-    c.in_ok-push_behind.ensures
+    (c.in_ok-push_all-2.ensures
+    ∙ ap (λ l. c.push.new.self.items ++ l) (c.around.ensures.behind ∙ ap (λ k. filter (λ x. is_before k (key x)) rows) c.key.ensures))
