@@ -1,6 +1,6 @@
-//! An ordinary, unverified Rust program that answers the same request lines as `regd plain`: the peer of `bench/plain`. It has the
-//! same lists as the reference implementation (entries and agents as sorted vectors of rows, linear scans, no index), reads any JSON
-//! text and writes the same bytes.
+//! An ordinary, unverified Rust program that answers the same request lines as `regd plain`: the peer of `bench/plain`. Its book is
+//! sorted vectors of rows, which it scans. It reads any JSON text and writes the same bytes. It knows the operations that the bench
+//! sends: agents are set, and entries are created, updated, deleted, shown, listed by pages, and queried for an agent.
 //!
 //!     rustc --edition 2021 -O bench/peers/baseline.rs && ./baseline plain --domain ex.org < requests > replies
 
@@ -14,7 +14,7 @@ use std::rc::Rc;
 enum Value {
     Null,
     Bool,
-    Number,
+    Number(f64),
     Text(String),
     List(Vec<Value>),
     Object(BTreeMap<String, Value>),
@@ -201,7 +201,7 @@ impl<'a> Reader<'a> {
             self.digits()?;
         }
         let number: f64 = self.text[start..self.at].parse().ok()?;
-        number.is_finite().then_some(Value::Number)
+        number.is_finite().then_some(Value::Number(number))
     }
 }
 
@@ -370,15 +370,30 @@ enum Op {
         agent: Id,
         selectors: Vec<Selector>,
     },
-    Create {
+    Create(Entry),
+    Update(Entry),
+    Delete {
         id: u128,
-        parent: Id,
-        identity: Id,
-        selectors: Vec<Selector>,
+    },
+    Show {
+        id: u128,
+    },
+    Page {
+        size: usize,
+        from: Option<u128>,
     },
     Authorised {
         agent: Id,
     },
+}
+
+struct Entry {
+    id: u128,
+    parent: Id,
+    identity: Id,
+    selectors: Vec<Selector>,
+    hint: String,
+    revision: u64,
 }
 
 struct Refusal {
@@ -424,6 +439,37 @@ fn selectors_of(members: &Members) -> Result<Vec<Selector>, Refusal> {
         .map_err(|code| field_refusal(code, "selectors"))
 }
 
+fn uuid_under(members: &Members, key: &str) -> Result<u128, Refusal> {
+    uuid_of(text_of(members, key)?).ok_or_else(|| field_refusal("U1", key))
+}
+
+fn size_of(members: &Members) -> Result<usize, Refusal> {
+    match members.get("size") {
+        Some(Value::Number(size)) if size.fract() == 0.0 && *size >= 0.0 => Ok(*size as usize),
+        _ => Err(field_refusal("L5", "size")),
+    }
+}
+
+fn entry_of(members: &Members) -> Result<Entry, Refusal> {
+    let id = uuid_under(members, "id")?;
+    let parent = id_of(members, "parent")?;
+    let identity = id_of(members, "identity")?;
+    let selectors = selectors_of(members)?;
+    let hint = match members.get("hint") {
+        Some(_) => text_of(members, "hint")?.to_owned(),
+        None => String::new(),
+    };
+    no_others(members, &["op", "id", "parent", "identity", "selectors", "hint"])?;
+    Ok(Entry {
+        id,
+        parent,
+        identity,
+        selectors,
+        hint,
+        revision: 0,
+    })
+}
+
 fn no_others(members: &Members, keys: &[&str]) -> Result<(), Refusal> {
     match members.keys().find(|key| !keys.contains(&key.as_str())) {
         Some(key) => Err(field_refusal("L5", key)),
@@ -442,18 +488,24 @@ fn op_of(value: &Value) -> Result<Op, Refusal> {
             no_others(members, &["op", "agent", "selectors"])?;
             Ok(Op::SetAgent { agent, selectors })
         }
-        "create" => {
-            let id = uuid_of(text_of(members, "id")?).ok_or_else(|| field_refusal("U1", "id"))?;
-            let parent = id_of(members, "parent")?;
-            let identity = id_of(members, "identity")?;
-            let selectors = selectors_of(members)?;
-            no_others(members, &["op", "id", "parent", "identity", "selectors"])?;
-            Ok(Op::Create {
-                id,
-                parent,
-                identity,
-                selectors,
+        "create" => Ok(Op::Create(entry_of(members)?)),
+        "update" => Ok(Op::Update(entry_of(members)?)),
+        "delete" | "show" => {
+            let id = uuid_under(members, "id")?;
+            no_others(members, &["op", "id"])?;
+            Ok(match text_of(members, "op")? {
+                "delete" => Op::Delete { id },
+                _ => Op::Show { id },
             })
+        }
+        "page" => {
+            let size = size_of(members)?;
+            let from = match members.get("from") {
+                Some(_) => Some(uuid_under(members, "from")?),
+                None => None,
+            };
+            no_others(members, &["op", "size", "from"])?;
+            Ok(Op::Page { size, from })
         }
         "authorised" => {
             let agent = id_of(members, "agent")?;
@@ -479,24 +531,21 @@ fn op_fault(domain: &str, op: &Op) -> Option<&'static str> {
     match op {
         Op::SetAgent { agent, selectors } => agent_fault(agent, selectors.len()),
         Op::Authorised { agent } => agent_fault(agent, 0),
-        Op::Create {
-            parent,
-            identity,
-            selectors,
-            ..
-        } => {
-            if parent.domain() != domain || identity.domain() != domain {
+        Op::Create(entry) | Op::Update(entry) => {
+            if entry.parent.domain() != domain || entry.identity.domain() != domain {
                 Some("B3")
-            } else if parent.path().is_empty() || identity.path().is_empty() {
+            } else if entry.parent.path().is_empty() || entry.identity.path().is_empty() {
                 Some("B4")
-            } else if identity.path() == "/spire/server" {
+            } else if entry.identity.path() == "/spire/server" {
                 Some("B5")
-            } else if selectors.is_empty() || selectors.len() > 16 {
+            } else if entry.selectors.is_empty() || entry.selectors.len() > 16 {
                 Some("B6")
             } else {
                 None
             }
         }
+        Op::Page { size, .. } if *size == 0 || *size > 500 => Some("B9"),
+        Op::Delete { .. } | Op::Show { .. } | Op::Page { .. } => None,
     }
 }
 
@@ -554,13 +603,6 @@ fn request_of(domain: &str, line: &[u8]) -> Result<Vec<Op>, Refusal> {
 
 // ---- the book
 
-struct Entry {
-    id: u128,
-    parent: Id,
-    identity: Id,
-    selectors: Vec<Selector>,
-}
-
 struct Agent {
     id: Id,
     selectors: Vec<Selector>,
@@ -574,9 +616,12 @@ struct Book {
 
 enum Reply {
     Agent(Rc<Agent>),
-    Entry(Rc<Entry>),
+    Entry(Option<Rc<Entry>>),
     Entries(Vec<Rc<Entry>>),
+    Page(Vec<Rc<Entry>>, Option<u128>),
 }
+
+type Refused = (&'static str, Option<u128>);
 
 enum Answer {
     Refused {
@@ -598,17 +643,26 @@ impl Book {
         Reply::Agent(agent)
     }
 
-    fn create(&mut self, entry: Entry) -> Result<Reply, (&'static str, Option<u128>)> {
-        if self.entries.iter().any(|other| other.id == entry.id) {
-            return Err(("O1", None));
-        }
-        let similar = self.entries.iter().find(|other| {
+    fn find(&self, id: u128) -> Option<usize> {
+        self.entries.iter().position(|other| other.id == id)
+    }
+
+    fn similar(&self, entry: &Entry) -> Option<Refused> {
+        let other = self.entries.iter().find(|other| {
             other.parent == entry.parent
                 && other.identity == entry.identity
                 && other.selectors == entry.selectors
-        });
-        if let Some(other) = similar {
-            return Err(("O2", Some(other.id)));
+                && other.id != entry.id
+        })?;
+        Some(("O2", Some(other.id)))
+    }
+
+    fn create(&mut self, entry: Entry) -> Result<Reply, Refused> {
+        if self.find(entry.id).is_some() {
+            return Err(("O1", None));
+        }
+        if let Some(refused) = self.similar(&entry) {
+            return Err(refused);
         }
         let at = self
             .entries
@@ -617,10 +671,38 @@ impl Book {
             .unwrap_or(self.entries.len());
         let entry = Rc::new(entry);
         self.entries.insert(at, entry.clone());
-        Ok(Reply::Entry(entry))
+        Ok(Reply::Entry(Some(entry)))
     }
 
-    fn authorised(&self, agent: &Id) -> Result<Reply, (&'static str, Option<u128>)> {
+    fn update(&mut self, entry: Entry) -> Result<Reply, Refused> {
+        let at = self.find(entry.id).ok_or(("O3", None))?;
+        if let Some(refused) = self.similar(&entry) {
+            return Err(refused);
+        }
+        let revision = self.entries[at].revision + 1;
+        let entry = Rc::new(Entry { revision, ..entry });
+        self.entries[at] = entry.clone();
+        Ok(Reply::Entry(Some(entry)))
+    }
+
+    fn delete(&mut self, id: u128) -> Result<Reply, Refused> {
+        let at = self.find(id).ok_or(("O3", None))?;
+        Ok(Reply::Entry(Some(self.entries.remove(at))))
+    }
+
+    fn show(&self, id: u128) -> Reply {
+        Reply::Entry(self.find(id).map(|at| self.entries[at].clone()))
+    }
+
+    fn page(&self, size: usize, from: Option<u128>) -> Reply {
+        let mut rest = self.entries.iter().filter(|entry| !from.is_some_and(|id| entry.id <= id));
+        let listed: Vec<Rc<Entry>> = rest.by_ref().take(size).cloned().collect();
+        let more = rest.next().is_some();
+        let next = listed.last().filter(|_| more).map(|entry| entry.id);
+        Reply::Page(listed, next)
+    }
+
+    fn authorised(&self, agent: &Id) -> Result<Reply, Refused> {
         if !self.agents.iter().any(|other| other.id == *agent) {
             return Err(("O7", None));
         }
@@ -641,17 +723,11 @@ impl Book {
                     id: agent,
                     selectors,
                 })),
-                Op::Create {
-                    id,
-                    parent,
-                    identity,
-                    selectors,
-                } => self.create(Entry {
-                    id,
-                    parent,
-                    identity,
-                    selectors,
-                }),
+                Op::Create(entry) => self.create(entry),
+                Op::Update(entry) => self.update(entry),
+                Op::Delete { id } => self.delete(id),
+                Op::Show { id } => Ok(self.show(id)),
+                Op::Page { size, from } => Ok(self.page(size, from)),
                 Op::Authorised { agent } => self.authorised(&agent),
             };
             match reply {
@@ -704,13 +780,15 @@ fn write_uuid(out: &mut impl Write, id: u128) -> io::Result<()> {
 }
 
 fn write_entry<W: Write>(out: &mut W, entry: &Entry) -> io::Result<()> {
-    out.write_all(b"{\"domains\":[],\"expiry\":0,\"hint\":\"\",\"id\":")?;
+    out.write_all(b"{\"domains\":[],\"expiry\":0,\"hint\":")?;
+    write_text(out, &entry.hint)?;
+    out.write_all(b",\"id\":")?;
     write_uuid(out, entry.id)?;
     out.write_all(b",\"identity\":")?;
     write_text(out, &entry.identity.text)?;
     out.write_all(b",\"parent\":")?;
     write_text(out, &entry.parent.text)?;
-    out.write_all(b",\"revision\":0,\"selectors\":")?;
+    write!(out, ",\"revision\":{},\"selectors\":", entry.revision)?;
     write_selectors(out, &entry.selectors)?;
     out.write_all(b"}")
 }
@@ -726,12 +804,25 @@ fn write_reply<W: Write>(out: &mut W, reply: &Reply) -> io::Result<()> {
         }
         Reply::Entry(entry) => {
             out.write_all(b"{\"entry\":")?;
-            write_entry(out, entry)?;
+            match entry {
+                Some(entry) => write_entry(out, entry)?,
+                None => out.write_all(b"null")?,
+            }
             out.write_all(b"}")
         }
         Reply::Entries(entries) => {
             out.write_all(b"{\"entries\":")?;
             write_list(out, entries, |out, entry| write_entry(out, entry))?;
+            out.write_all(b"}")
+        }
+        Reply::Page(entries, next) => {
+            out.write_all(b"{\"entries\":")?;
+            write_list(out, entries, |out, entry| write_entry(out, entry))?;
+            out.write_all(b",\"next\":")?;
+            match next {
+                Some(id) => write_uuid(out, *id)?,
+                None => out.write_all(b"null")?,
+            }
             out.write_all(b"}")
         }
     }
@@ -760,7 +851,9 @@ struct Program {
 impl Program {
     fn answer(&mut self, out: &mut impl Write, ops: Vec<Op>) -> io::Result<()> {
         self.calls += 1;
-        let is_query = ops.iter().all(|op| matches!(op, Op::Authorised { .. }));
+        let is_query = ops
+            .iter()
+            .all(|op| matches!(op, Op::Authorised { .. } | Op::Show { .. } | Op::Page { .. }));
         // a batch is all or nothing
         let (answer, changed) = if is_query {
             (self.book.run(ops), None)
