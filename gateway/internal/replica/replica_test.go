@@ -214,10 +214,10 @@ func TestHang(t *testing.T) {
 }
 
 func TestStartFails(t *testing.T) {
-	for _, program := range []string{"/nonexistent", "/bin/true"} {
-		if r, err := Start(context.Background(), Options{Program: program, Domain: "ex.org", Workers: 2}, nil); err == nil {
+	for _, options := range []Options{{"/nonexistent", "ex.org", 2}, {"/bin/true", "ex.org", 2}, {os.Args[0], "shared.org", 2}} {
+		if r, err := Start(context.Background(), options, nil); err == nil {
 			r.Close()
-			t.Errorf("%s started", program)
+			t.Errorf("%v started", options)
 		}
 	}
 }

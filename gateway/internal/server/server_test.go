@@ -241,13 +241,14 @@ func TestCutLog(t *testing.T) {
 	s := newSite(t)
 	_, first, _ := s.gateway("a")
 	_, _, fresh := s.gateway("b")
-	s.store.HoldWatch()
 	s.expect("a change", s.call(first, prune), committed(1, 1))
+	s.expect("a fresh query", s.call(fresh, show), answered(1, 1))
+	s.store.HoldWatch()
 	s.expect("another change", s.call(first, prune), committed(1, 2))
 	s.log.Put(s.ctx, "snapshot/0000000000000002/00000000", []byte(`{"Entry":2,"Place":2}`))
 	s.log.Put(s.ctx, "snapshot", []byte(`{"Entry":2,"Chunks":1}`))
 	s.log.Cut(s.ctx, 2)
-	s.expect("a fresh query", s.call(fresh, show), answered(1, 2))
+	s.expect("a fresh query after the cut", s.call(fresh, show), answered(1, 2))
 }
 
 // TestLostAppend loses answers of etcd: an entry is made once.

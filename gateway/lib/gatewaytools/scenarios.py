@@ -66,7 +66,7 @@ def memory(programs, folder):
 
 def full_etcd(programs, folder):
     """etcd has no space left: changes wait and queries are answered. With more space all waiting changes go on."""
-    with faults.Site(programs, folder, ["--quota-backend-bytes", str(16 << 20)]) as site:
+    with faults.Site(programs, folder, ["--quota-backend-bytes", str(8 << 20)]) as site:
         gateway = site.gateways[0]
         subprocess.run([programs.load, "-addresses", f"127.0.0.1:{gateway.port}", "-populate", "-seconds", "0"], check=True, stdout=subprocess.DEVNULL)
         load = site.load(45, "-changes", "100", "-hint", "1000", callers=200)

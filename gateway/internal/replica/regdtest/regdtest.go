@@ -2,7 +2,7 @@
 //
 // It knows prune, which commits and reports its number, show, after, and token, which it ignores. Some hints in a line make it misbehave: L6
 // reports that memory ran out, KILL ends the process, HANG makes it answer nothing more, and SLOW makes it take a tenth of a second. With LATE
-// a change is seen by the other connections after two seconds.
+// a change is seen by the other connections after two seconds. For the domain shared.org the connections number their calls together.
 package regdtest
 
 import (
@@ -47,6 +47,7 @@ func Main() {
 
 type book struct {
 	mu        sync.Mutex
+	calls     int // of all connections
 	place     uint64
 	seen      uint64 // the place for the other connections until that time
 	seenUntil time.Time
@@ -61,12 +62,21 @@ func (b *book) serve(conn net.Conn, isWriter bool) {
 		}
 		reply, isCall := b.reply(text, isWriter)
 		if isCall {
-			call++
+			if call++; os.Args[3] == "shared.org" {
+				call = b.nextCall()
+			}
 			fmt.Fprintf(conn, "{\"call\":%d,%s}\n", call, reply)
 		} else {
 			fmt.Fprintf(conn, "{\"code\":\"%s\",\"line\":%d}\n", reply, line)
 		}
 	}
+}
+
+func (b *book) nextCall() int {
+	b.mu.Lock()
+	defer b.mu.Unlock()
+	b.calls++
+	return b.calls
 }
 
 func (b *book) reply(text []byte, isWriter bool) (reply string, isCall bool) {
