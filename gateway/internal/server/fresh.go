@@ -10,7 +10,7 @@ import (
 type fresh struct {
 	begun atomic.Uint64 // how many requests have begun
 
-	mu       sync.Mutex // held by the one who asks etcd
+	mu       sync.Mutex // held by the goroutine that queries etcd
 	answered uint64     // the number of the last request that was answered
 	head     uint64     // its answer
 }

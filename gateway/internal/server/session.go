@@ -23,7 +23,7 @@ const (
 	readBuffer = 1 << 13
 )
 
-// A session is a connection of a caller. One goroutine reads lines, sends each on its way, and writes the answers in the order of the lines.
+// A session is a connection of a caller. One goroutine reads lines, forwards each, and writes the answers in the order of the lines.
 //
 // Queries that follow one another are under way together, and so are changes, but never a query with a change. So each line is answered by a
 // book that has what the lines before it made, and nothing of those after it.
