@@ -1,4 +1,4 @@
-"""Proves and builds the program: `rt ci` for each crate, over a copy of the crate and of those below it, several at a time."""
+"""Proves and builds the program by runs of `rt ci`, several at a time. Each proves some crates, over a copy of them and of those below."""
 
 import contextlib
 import dataclasses
@@ -6,6 +6,7 @@ import fcntl
 import hashlib
 import os
 import pathlib
+import re
 import shutil
 import signal
 import subprocess
@@ -24,6 +25,8 @@ LINES_A_SECOND = 20
 # the most memory that the proof of a crate takes, in bytes
 MEMORY_OF_A_PROOF = 5_000_000_000
 SECONDS_BETWEEN_REPORTS = 60
+# what `rt ci` prints of a crate when it is proved, or was proved before
+PROVED = re.compile(r"rt: (\w+) (?:proved|is kept: .*)\n")
 COLUMNS = ["crate", "seconds", "lines"]
 
 
@@ -43,7 +46,20 @@ class Proof:
     chain: float = 0.0
     ready: float = 0.0
     ended: float | None = None
-    process: subprocess.Popen | None = None
+    has_run: bool = False
+
+
+@dataclasses.dataclass
+class Run:
+    """A run of `rt ci` that proves these crates, lowest first, with its copy of the sources, its process, and the file that it prints into."""
+
+    proofs: list
+    copy: pathlib.Path
+    process: subprocess.Popen
+    log: pathlib.Path
+
+    def printed(self):
+        return self.log.read_text(errors="replace")
 
 
 def estimate(name, lines):
@@ -102,10 +118,13 @@ class Report:
     def seconds(self):
         return time.monotonic() - self.began
 
+    def being_proved(self):
+        return [it for it in self.proofs.values() if it.has_run and it.ended is None and all(self.proofs[name].ended is not None for name in it.uses)]
+
     def seconds_left(self):
         """Returns an estimate: the time of the longest chain, or of all proofs on all processors."""
         rest = [proof for proof in self.proofs.values() if proof.ended is None]
-        done = {proof.name: min(proof.estimate, self.seconds() - proof.ready) for proof in rest if proof.process}
+        done = {proof.name: min(proof.estimate, self.seconds() - proof.ready) for proof in self.being_proved()}
         chain = max((proof.chain - done.get(proof.name, 0.0) for proof in rest), default=0.0)
         return max(chain, sum(proof.estimate - done.get(proof.name, 0.0) for proof in rest) / self.processors)
 
@@ -118,80 +137,108 @@ class Report:
     def say_what_runs(self):
         """Prints what is being proved, unless something was printed in the last minute."""
         if self.seconds() - self.said >= SECONDS_BETWEEN_REPORTS:
-            self.say("proving " + " ".join(proof.name for proof in self.proofs.values() if proof.process))
+            self.say("proving " + " ".join(proof.name for proof in self.being_proved()))
 
 
 class Prover:
     """Proves crates, each as soon as those below it are proved, the longest chain of crates first."""
 
     def __init__(self, proofs, folder, report):
-        self.proofs, self.folder, self.report = proofs, folder, report
+        self.proofs, self.folder, self.report, self.runs = proofs, folder, report, []
         # all runs prove the sources as they are now, whatever becomes of the checkout meanwhile
         self.sources = folder / "sources"
         copy_crates(proofs, self.sources)
         memory = os.sysconf("SC_PAGE_SIZE") * os.sysconf("SC_PHYS_PAGES")
-        # how many proofs run at a time
-        self.most = max(1, min(report.processors, memory // MEMORY_OF_A_PROOF))
+        # how many runs at a time: the longest chain takes half of the processors, and each other run one
+        self.most = max(1, min(report.processors // 2 + 1, memory // MEMORY_OF_A_PROOF))
 
-    def running(self):
-        return [proof for proof in self.proofs.values() if proof.process]
+    def lacking(self, proof, group=()):
+        """Returns what has to be proved before a crate and is neither proved nor in this group."""
+        return [it for it in map(self.proofs.get, proof.below) if it.ended is None and it not in group]
 
     def ready(self):
         """Returns the proofs that may start, the one with the longest chain of crates above it first."""
-        found = [it for it in self.proofs.values() if it.ended is None and not it.process and all(self.proofs[name].ended is not None for name in it.uses)]
-        return sorted(found, key=lambda proof: -proof.chain)
+        return sorted((it for it in self.proofs.values() if not it.has_run and not self.lacking(it)), key=lambda proof: -proof.chain)
 
-    def start(self, proof, is_first):
-        """Starts `rt ci` in a copy. By itself it gives a proof half as many jobs as there are processors; with RT_JOBS every proof gets one.
-        All runs stay in one session, since Linux divides the processors evenly among sessions, whatever the priorities in them."""
-        copy = self.folder / proof.name
-        copy_crates([*proof.below, proof.name], copy, self.sources)
+    def group(self, first):
+        """Returns the crates for one run that begins with this one: the longest chain of crates above it, as far as what they lack besides
+        takes less time than they do. One run copies each crate out of the toolchain's store once."""
+        found, last = [first], first
+        while above := [it for it in self.proofs.values() if last.name in it.uses]:
+            last = max(above, key=lambda proof: proof.chain)
+            lacking = self.lacking(last, found)
+            if any(it.has_run for it in lacking) or sum(it.estimate for it in lacking) > last.estimate:
+                break
+            found += [*lacking, last]
+        return found
+
+    def start(self, proofs, is_first):
+        """Starts `rt ci` over a copy of these crates and of those below. By itself it divides the processors among the proofs that may start;
+        with RT_JOBS each gets one. All runs stay in one session, since Linux divides the processors evenly among sessions, whatever the
+        priorities in them."""
+        copy = self.folder / proofs[-1].name
+        needed = {name for proof in proofs for name in [*proof.below, proof.name]}
+        copy_crates([name for name in self.proofs if name in needed], copy, self.sources)
         variables = {} if is_first else {"RT_JOBS": str(self.report.processors)}
-        with open(self.folder / f"{proof.name}.log", "w") as printed:
-            proof.process = subprocess.Popen(
+        log = self.folder / f"{proofs[-1].name}.log"
+        with open(log, "w") as printed:
+            process = subprocess.Popen(
                 ["nice", "-n", "0" if is_first else "10", "rt", "ci"], cwd=copy, env={**os.environ, **variables}, stdin=subprocess.DEVNULL,
                 stdout=printed, stderr=subprocess.STDOUT, process_group=0,
             )  # fmt: skip
+        self.runs.append(Run(proofs, copy, process, log))
+        for proof in proofs:
+            proof.has_run = True
 
     def start_ready(self):
-        """Starts as many proofs as there are processors and memory for. The one that the others wait for gets several jobs, and the others
-        one job each and a lower priority, unless they are few."""
-        ready = self.ready()[: self.most - len(self.running())]
-        are_few = len(self.running()) + len(ready) <= self.report.processors // 2
-        longest = max((proof.chain for proof in [*self.running(), *ready]), default=0.0)
-        for proof in ready:
-            self.start(proof, are_few or proof.chain == longest)
+        """Starts as many runs as there are processors and memory for. The longest chain has a run of its own, with several jobs. The others
+        get one job each and a lower priority, unless they are few."""
+        while (ready := self.ready()) and len(self.runs) < self.most:
+            chains = [proof.chain for run in self.runs for proof in run.proofs if proof.ended is None]
+            if ready[0].chain >= max(chains, default=0.0):
+                self.start(self.group(ready[0]), True)
+            else:
+                self.start(ready[:1], len(self.runs) + len(ready) <= self.report.processors // 2)
 
-    def end(self, proof):
-        """Notes that a proof has ended. Raises `Failed` unless everything passed."""
-        copy, status = self.folder / proof.name, proof.process.wait()
-        proof.process = None
-        if status or proof.name == PROGRAM and not (copy / "crates" / PROGRAM / "out" / PROGRAM).exists():
-            printed = (self.folder / f"{proof.name}.log").read_text(errors="replace").splitlines(keepends=True)
-            raise Failed("".join(["not everything passed:\n", *printed[-60:]]))
-        proof.ended = self.report.seconds()
-        for other in self.ready():
-            if proof.name in other.uses:
-                other.ready = proof.ended
-        self.report.say(f"{proof.name} is proved ({proof.ended - proof.ready:.0f} s)")
-        if proof.name != PROGRAM:
-            shutil.rmtree(copy, ignore_errors=True)
+    def note_proved(self, run, is_over):
+        """Notes which crates of a run are proved. That of the program is over when the program is built and run, with the run."""
+        proved = set(PROVED.findall(run.printed()))
+        for proof in run.proofs:
+            if proof.ended is None and proof.name in proved and (is_over or proof.name != PROGRAM):
+                proof.ended = self.report.seconds()
+                for other in self.proofs.values():
+                    if proof.name in other.uses:
+                        other.ready = proof.ended
+                self.report.say(f"{proof.name} is proved ({proof.ended - proof.ready:.0f} s)")
+
+    def end(self, run):
+        """Removes a run that has ended. Raises `Failed` unless everything passed."""
+        status, has_program = run.process.wait(), run.proofs[-1].name == PROGRAM
+        self.runs.remove(run)
+        self.note_proved(run, not status)
+        built = run.copy / "crates" / PROGRAM / "out" / PROGRAM
+        if status or any(proof.ended is None for proof in run.proofs) or has_program and not built.exists():
+            raise Failed("".join(["not everything passed:\n", *run.printed().splitlines(keepends=True)[-60:]]))
+        if not has_program:
+            shutil.rmtree(run.copy, ignore_errors=True)
 
     def run(self):
         try:
             while any(proof.ended is None for proof in self.proofs.values()):
                 self.start_ready()
-                for proof in self.running():
-                    if proof.process.poll() is not None:
-                        self.end(proof)
+                for run in [*self.runs]:
+                    if run.process.poll() is None:
+                        self.note_proved(run, False)
+                    else:
+                        self.end(run)
                 self.report.say_what_runs()
-                time.sleep(0.1)
+                time.sleep(0.5)
         finally:
-            for proof in self.running():
+            for run in self.runs:
                 with contextlib.suppress(ProcessLookupError):
-                    os.killpg(proof.process.pid, signal.SIGTERM)
-            for proof in self.running():
-                proof.process.wait()
+                    os.killpg(run.process.pid, signal.SIGTERM)
+            for run in self.runs:
+                run.process.wait()
 
 
 @contextlib.contextmanager
