@@ -68,13 +68,18 @@ func (r *Replica) connect(out io.Reader, workers int) error {
 		}
 		r.links = append(r.links, &link{conn: conn})
 	}
+	r.reading.Add(len(r.links))
 	for i, l := range r.links {
 		go func(i int, l *link) {
-			if err := l.read(); r.ctx.Err() == nil {
+			err := l.read()
+			r.reading.Done()
+			if r.ctx.Err() == nil {
 				logline.Error("connection to regd ended", "number", i, "error", err)
 			}
 			r.Close()
 		}(i, l)
+	}
+	for i, l := range r.links {
 		if reply := l.call([]byte(firstLine)); !bytes.HasPrefix(reply, []byte(`{"call":1,`)) {
 			return fmt.Errorf("connection %d to regd isn't alone on its worker: %s", i, reply)
 		}
@@ -82,7 +87,8 @@ func (r *Replica) connect(out io.Reader, workers int) error {
 	return nil
 }
 
-// Close ends regd. It may be called again.
+// Close ends regd, and returns when the last reply is passed on. So what comes after an ended replica, such as the next one, is not mixed with late
+// replies of it. It may be called again, but not by a function that takes a reply.
 func (r *Replica) Close() {
 	r.end.Do(func() {
 		r.cancel() // which also kills regd
@@ -90,5 +96,6 @@ func (r *Replica) Close() {
 			l.close()
 		}
 		r.command.Wait()
+		r.reading.Wait()
 	})
 }

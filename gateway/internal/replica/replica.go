@@ -39,6 +39,7 @@ type Replica struct {
 	ctx     context.Context
 	cancel  func()
 	end     sync.Once
+	reading sync.WaitGroup // of the links
 	slots   chan struct{}  // one for each change that may be under way
 	open    sync.WaitGroup // of changes whose reply is not yet passed on
 

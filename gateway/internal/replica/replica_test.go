@@ -3,9 +3,11 @@ package replica
 import (
 	"context"
 	"fmt"
+	"net"
 	"os"
 	"strings"
 	"sync"
+	"syscall"
 	"testing"
 	"time"
 
@@ -153,17 +155,143 @@ func TestRestore(t *testing.T) {
 	}
 }
 
-// TestLeaves checks that no change is answered after one for which regd had no memory.
+// TestLeaves checks that no change is answered after one for which regd had no memory, nor after a repeated one.
 func TestLeaves(t *testing.T) {
-	r, states := start(t)
-	got := apply(t, r, 1, prune, `{"ops":[{"op":"prune","hint":"L6"}]}`, prune)
-	if got[0] != committed(1) || got[1] != "" || got[2] != "" || len(states()) != 0 {
-		t.Errorf("got %q, %v", got, states())
+	for _, code := range []string{"L6", "L7", "L8"} {
+		for _, line := range []string{`{"ops":[{"op":"prune","hint":"L6"}]}`, strings.Replace(tokened(1, 0), `"before"`, `"hint":"L6","before"`, 1)} {
+			line = strings.Replace(line, "L6", code, 1)
+			r, states := start(t)
+			got := apply(t, r, 1, tokened(1, 0), line, prune)
+			if got[0] != committed(1) || got[1] != "" || got[2] != "" || len(states()) != 0 {
+				t.Errorf("%s: got %q, %v", line, got, states())
+			}
+			ends(t, r)
+		}
 	}
+}
+
+// ends waits for the end of a replica.
+func ends(t *testing.T, r *Replica) {
+	t.Helper()
 	select {
 	case <-r.Context().Done():
-	case <-time.After(5 * time.Second):
-		t.Error("the replica goes on")
+	case <-time.After(10 * time.Second):
+		t.Fatal("the replica goes on")
+	}
+}
+
+// waits waits until a condition holds.
+func waits(t *testing.T, what string, condition func() bool) {
+	t.Helper()
+	for begin := time.Now(); !condition(); time.Sleep(time.Millisecond) {
+		if time.Since(begin) > 10*time.Second {
+			t.Fatal(what)
+		}
+	}
+}
+
+// TestClose checks that Close waits for a reply that is being passed on. So an ended replica reports nothing while there is another one.
+func TestClose(t *testing.T) {
+	begun, goOn := make(chan struct{}), make(chan struct{})
+	r, err := Start(context.Background(), Options{Program: os.Args[0], Domain: "ex.org", Workers: 2}, func(State) {
+		close(begun)
+		<-goOn
+	})
+	if err != nil {
+		t.Fatal(err)
+	}
+	r.Apply(1, [][]byte{[]byte(prune)}, func(int, []byte) {})
+	<-begun
+	closed := make(chan struct{})
+	go func() {
+		r.Close()
+		close(closed)
+	}()
+	waits(t, "regd stays", func() bool { return syscall.Kill(r.Pid(), 0) != nil }) // nor does a zombie stay
+	select {
+	case <-closed:
+		t.Error("Close did not wait")
+	case <-time.After(200 * time.Millisecond):
+	}
+	close(goOn)
+	<-closed
+}
+
+// TestContext checks that regd ends with the context.
+func TestContext(t *testing.T) {
+	ctx, stop := context.WithCancel(context.Background())
+	r, err := Start(ctx, Options{Program: os.Args[0], Domain: "ex.org", Workers: 2}, nil)
+	if err != nil {
+		t.Fatal(err)
+	}
+	stop()
+	waits(t, "regd stays", func() bool { return syscall.Kill(r.Pid(), 0) != nil })
+}
+
+// TestOpenChanges lets regd hang: no more than mostOpen changes are sent to it.
+func TestOpenChanges(t *testing.T) {
+	r, _ := start(t)
+	sent := func() int {
+		r.links[0].mu.Lock()
+		defer r.links[0].mu.Unlock()
+		return len(r.links[0].waiting)
+	}
+	lines := [][]byte{[]byte(`{"ops":[{"op":"prune","hint":"HANG"}]}`)}
+	for len(lines) < mostOpen+100 {
+		lines = append(lines, []byte(`{}`))
+	}
+	done := make(chan struct{})
+	go func() {
+		r.Apply(1, lines, func(int, []byte) {})
+		close(done)
+	}()
+	waits(t, "too few changes are open", func() bool { return sent() >= mostOpen })
+	time.Sleep(100 * time.Millisecond)
+	if count := sent(); count != mostOpen {
+		t.Errorf("%d changes are open", count)
+	}
+	r.Close()
+	<-done // the others are not answered either
+	r.Settle()
+}
+
+// TestQueries sends different queries over one connection at the same time: each gets its own reply. Other numbers get another worker.
+func TestQueries(t *testing.T) {
+	r, _ := start(t)
+	var all sync.WaitGroup
+	for line, want := range map[string]string{`{"ops":[]}`: `"place":0,"replies":[],"result":"answered"}`, `{`: `{"code":"L2"`} {
+		for i := 0; i < 4; i++ {
+			all.Add(1)
+			go func(line, want string) {
+				defer all.Done()
+				for i := 0; i < 500; i++ {
+					if got := string(wire.Tail(r.Ask([]byte(line)))); got != want {
+						t.Errorf("%s: got %s", line, got)
+						return
+					}
+				}
+			}(line, want)
+		}
+	}
+	all.Wait()
+	for number := 0; number < 2; number++ {
+		r.Query(number, []byte(`{"ops":[{"op":"show","hint":"HANG"}]}`), func([]byte) {})
+	}
+	for number, l := range r.links {
+		l.mu.Lock()
+		if want := (number + 1) / 2; len(l.waiting) != want { // none for the one for changes
+			t.Errorf("connection %d: %d queries wait", number, len(l.waiting))
+		}
+		l.mu.Unlock()
+	}
+}
+
+// TestReplyToNothing checks that a reply to no line ends a connection.
+func TestReplyToNothing(t *testing.T) {
+	inner, outer := net.Pipe()
+	go outer.Write([]byte("{}\n"))
+	if err := (&link{conn: inner}).read(); err != net.ErrClosed {
+		t.Errorf("got %v", err)
 	}
 }
 
@@ -207,9 +335,21 @@ func TestHang(t *testing.T) {
 		if reply != nil {
 			t.Errorf("got %s", reply)
 		}
-		<-r.Context().Done()
+		ends(t, r)
 	case <-time.After(10 * time.Second):
 		t.Error("the replica goes on")
+	}
+}
+
+// TestHungStart checks that a regd that never listens is ended.
+func TestHungStart(t *testing.T) {
+	long := hangTime
+	t.Cleanup(func() { hangTime = long })
+	hangTime = 300 * time.Millisecond
+	ctx, stop := context.WithTimeout(context.Background(), 10*time.Second)
+	defer stop()
+	if r, err := Start(ctx, Options{os.Args[0], "hung.org", 2}, nil); err == nil || ctx.Err() != nil {
+		t.Errorf("got %v, %v", r, err)
 	}
 }
 

@@ -12,12 +12,11 @@ import (
 	"regd/gateway/internal/wire"
 )
 
-// waitTime is how long a caller waits for an answer. Then the connection ends.
-var waitTime = 20 * time.Second
+// waitTime is how long a caller waits for an answer; then the connection ends. afterTime is how long a query waits for the commit number of its caller.
+var waitTime, afterTime = 20 * time.Second, 2 * time.Second
 
 const (
-	mostRow    = 256             // lines of a connection that are under way
-	afterTime  = 2 * time.Second // that a query waits for the commit number of its caller
+	mostRow    = 256 // lines of a connection that are under way
 	retryTime  = 2 * time.Millisecond
 	flushSize  = 1 << 15
 	readBuffer = 1 << 13

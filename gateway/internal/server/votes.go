@@ -14,8 +14,10 @@ const (
 	voteInterval = 1000 // how many entries are between two votes
 	// entries of which a gateway looks at the votes, and of which it leaves its own
 	votesWatched, votesLeft = 4, 64
-	voteTime                = 5 * time.Second // between two looks
 )
+
+// voteTime is the time between two looks at the votes.
+var voteTime = 5 * time.Second
 
 // ErrOutvoted is returned when a majority of the gateways has another checksum.
 var ErrOutvoted = errors.New("a majority of the gateways has another checksum")

@@ -3,6 +3,7 @@ package etcdtest
 
 import (
 	"encoding/json"
+	"fmt"
 	"net/http"
 	"net/http/httptest"
 	"sort"
@@ -20,7 +21,18 @@ type Server struct {
 	changed  chan struct{} // closed and replaced at each of them
 
 	loseAnswers, refuse int
-	watches, held       int // the number of watches so far, and of the one that is held
+	held                int      // the number of the watch that is held
+	told                []string // what all watches were told
+	counts              Counts
+}
+
+// Counts says what a server was asked for.
+type Counts struct {
+	Requests     int // but for watches
+	Appends      int // transactions that wrote something
+	Watches      int
+	Pairs, Bytes int // the most pairs, and bytes of their values, in one answer
+	Deleted      int // the most keys by one request
 }
 
 type event struct {
@@ -52,7 +64,21 @@ func (s *Server) LoseAnswers(count int) { s.mu.Lock(); s.loseAnswers = count; s.
 func (s *Server) Refuse(count int) { s.mu.Lock(); s.refuse = count; s.mu.Unlock() }
 
 // HoldWatch makes the watch that was opened last bring nothing more.
-func (s *Server) HoldWatch() { s.mu.Lock(); s.held = s.watches; s.mu.Unlock() }
+func (s *Server) HoldWatch() { s.mu.Lock(); s.held = s.counts.Watches; s.mu.Unlock() }
+
+// TellWatches sends a line to all watches that are open.
+func (s *Server) TellWatches(line string) {
+	s.mu.Lock()
+	defer s.mu.Unlock()
+	s.told = append(s.told, line)
+	s.wake()
+}
+
+// Counts returns what the server was asked for.
+func (s *Server) Counts() Counts { s.mu.Lock(); defer s.mu.Unlock(); return s.counts }
+
+// Recount sets all counts but that of watches to 0.
+func (s *Server) Recount() { s.mu.Lock(); s.counts = Counts{Watches: s.counts.Watches}; s.mu.Unlock() }
 
 // Keys returns all keys in order.
 func (s *Server) Keys() []string {
@@ -70,7 +96,8 @@ type request struct {
 	Key           []byte
 	RangeEnd      []byte `json:"range_end"`
 	Value         []byte
-	Limit         int `json:"limit,string"`
+	Limit         int  `json:"limit,string"`
+	KeysOnly      bool `json:"keys_only"`
 	Target        string
 	Compare       []request
 	Success       []step
@@ -97,6 +124,7 @@ func (s *Server) handler(handle func(*request) object) http.HandlerFunc {
 		}
 		s.mu.Lock()
 		defer s.mu.Unlock()
+		s.counts.Requests++
 		if r.Header.Get("Grpc-Metadata-hasleader") != "true" {
 			http.Error(w, "this member might answer without a majority", http.StatusBadRequest)
 			return
@@ -129,9 +157,16 @@ func (s *Server) find(in *request) object {
 	if in.Limit > 0 && len(keys) > in.Limit {
 		keys = keys[:in.Limit]
 	}
+	bytes := 0
 	for _, key := range keys {
-		pairs = append(pairs, object{"key": []byte(key), "value": s.values[key]})
+		value := s.values[key]
+		if in.KeysOnly {
+			value = nil
+		}
+		bytes += len(value)
+		pairs = append(pairs, object{"key": []byte(key), "value": value})
 	}
+	s.counts.Pairs, s.counts.Bytes = larger(s.counts.Pairs, len(pairs)), larger(s.counts.Bytes, bytes)
 	return object{"kvs": pairs}
 }
 
@@ -144,18 +179,32 @@ func (s *Server) put(in *request) object {
 
 func (s *Server) tell(news event) {
 	s.events = append(s.events, news)
+	s.wake()
+}
+
+func (s *Server) wake() {
 	close(s.changed)
 	s.changed = make(chan struct{})
 }
 
+func larger(a, b int) int {
+	if a > b {
+		return a
+	}
+	return b
+}
+
 func (s *Server) delete(in *request) object {
 	s.revision++
+	count := 0
 	for key := range s.values {
 		if string(in.Key) <= key && key < string(in.RangeEnd) {
 			delete(s.values, key)
 			s.tell(event{s.revision, []byte(key), nil, true})
+			count++
 		}
 	}
+	s.counts.Deleted = larger(s.counts.Deleted, count)
 	return object{}
 }
 
@@ -168,6 +217,8 @@ func (s *Server) transact(in *request) object {
 	steps := in.Success
 	if !holds {
 		steps = in.Failure
+	} else if len(in.Compare) > 0 {
+		s.counts.Appends++
 	}
 	responses := []object{}
 	for _, one := range steps {
@@ -187,8 +238,8 @@ func (s *Server) watch(w http.ResponseWriter, r *http.Request) {
 		return
 	}
 	s.mu.Lock()
-	s.watches++
-	number := s.watches
+	s.counts.Watches++
+	number, told := s.counts.Watches, len(s.told)
 	s.mu.Unlock()
 	from, out := in.CreateRequest, json.NewEncoder(w)
 	out.Encode(object{"result": object{"created": true}})
@@ -200,7 +251,12 @@ func (s *Server) watch(w http.ResponseWriter, r *http.Request) {
 		if s.held == number {
 			news = nil
 		}
+		lines := s.told[told:]
+		told = len(s.told)
 		s.mu.Unlock()
+		for _, line := range lines {
+			fmt.Fprintln(w, line)
+		}
 		for _, one := range news {
 			if one.isDelete && len(from.Filters) > 0 { // which is NODELETE
 				continue

@@ -1,8 +1,9 @@
 // Package regdtest has a regd in miniature for unit tests. A test binary calls Main first in TestMain, and names itself as the program.
 //
-// It knows prune, which commits and reports its number, show, after, and token, which it ignores. Some hints in a line make it misbehave: L6
-// reports that memory ran out, KILL ends the process, HANG makes it answer nothing more, and SLOW makes it take a tenth of a second. With LATE
-// a change is seen by the other connections after two seconds. For the domain shared.org the connections number their calls together.
+// It knows prune, which commits and reports its number, show, after, and token, which it ignores. Some hints in a line make it misbehave: L6, L7
+// and L8 are replied as codes, KILL ends the process, HANG makes it answer nothing more, and SLOW makes it take a tenth of a second. With LATE
+// a change is seen by the other connections after two seconds. For the domain shared.org the connections number their calls together, and for
+// hung.org it never listens.
 package regdtest
 
 import (
@@ -21,6 +22,9 @@ import (
 func Main() {
 	if len(os.Args) < 2 || os.Args[1] != "serve" {
 		return
+	}
+	if os.Args[3] == "hung.org" {
+		time.Sleep(time.Hour)
 	}
 	connections, _ := strconv.Atoi(os.Args[len(os.Args)-1])
 	on, err := net.Listen("tcp", "127.0.0.1:0")
@@ -89,9 +93,12 @@ func (b *book) reply(text []byte, isWriter bool) (reply string, isCall bool) {
 	}
 	b.mu.Lock()
 	defer b.mu.Unlock()
+	for _, code := range []string{"L6", "L7", "L8"} {
+		if bytes.Contains(text, []byte(code)) {
+			return code, false
+		}
+	}
 	switch {
-	case bytes.Contains(text, []byte("L6")):
-		return "L6", false
 	case bytes.Contains(text, []byte("KILL")):
 		os.Exit(7)
 	case bytes.Contains(text, []byte("HANG")):
