@@ -1,9 +1,36 @@
 package main
 
 import (
+	"bufio"
+	"context"
+	"crypto/sha256"
+	"encoding/json"
+	"fmt"
+	"io"
+	"net"
+	"net/http"
+	"os"
+	"os/exec"
 	"strings"
+	"syscall"
 	"testing"
+	"time"
+
+	"regd/gateway/internal/etcd"
+	"regd/gateway/internal/etcd/etcdtest"
+	"regd/gateway/internal/replica/regdtest"
 )
+
+// TestMain makes this program a regd in miniature, or the gateway, if the arguments say so.
+func TestMain(m *testing.M) {
+	regdtest.Main()
+	if len(os.Args) > 1 && os.Args[1] == "gateway" {
+		os.Args = append(os.Args[:1], os.Args[2:]...)
+		main()
+		os.Exit(0)
+	}
+	os.Exit(m.Run())
+}
 
 func TestParse(t *testing.T) {
 	const tls = " -certificate c -key k -authorities a"
@@ -35,5 +62,164 @@ func TestParse(t *testing.T) {
 	s, _ := parse([]string{"-domain", "ex.org", "-listen", "127.0.0.1:7"})
 	if !strings.HasSuffix(s.Name, "/127.0.0.1:7") || len(s.Name) < 14 {
 		t.Errorf("the name is %s", s.Name)
+	}
+}
+
+const (
+	prune = `{"ops":[{"op":"prune","before":0}]}`
+	show  = `{"ops":[{"op":"show"}]}`
+)
+
+// a site is an etcd in memory, and programs that use it.
+type site struct {
+	t     *testing.T
+	store *etcdtest.Server
+	log   *etcd.Log
+}
+
+func newSite(t *testing.T) site {
+	store := etcdtest.New()
+	t.Cleanup(store.CloseClientConnections)
+	return site{t, store, etcd.New([]string{store.URL}, "p/", nil)}
+}
+
+// command returns the gateway, over a regd in miniature.
+func (s site) command(words ...string) *exec.Cmd {
+	words = append([]string{"gateway", "-domain", "ex.org", "-regd", os.Args[0], "-etcd", "http://127.0.0.1:1," + s.store.URL, "-prefix", "p/"}, words...)
+	command := exec.Command(os.Args[0], words...)
+	command.Stderr = os.Stderr
+	return command
+}
+
+// start starts a gateway, and returns it with the address that it prints.
+func (s site) start(words ...string) (*exec.Cmd, string) {
+	command := s.command(words...)
+	out, err := command.StdoutPipe()
+	if err == nil {
+		err = command.Start()
+	}
+	var first struct{ Listening string }
+	if err == nil {
+		err = json.NewDecoder(out).Decode(&first)
+	}
+	if err != nil {
+		s.t.Fatal(err)
+	}
+	s.t.Cleanup(func() { command.Process.Kill() })
+	return command, first.Listening
+}
+
+// status waits for the end of a program, and returns its exit status. It starts a program that is not yet started.
+func (s site) status(command *exec.Cmd) int {
+	if command.Process == nil {
+		if err := command.Start(); err != nil {
+			s.t.Fatal(err)
+		}
+	}
+	late := time.AfterFunc(30*time.Second, func() { command.Process.Kill() })
+	defer late.Stop()
+	command.Wait()
+	return command.ProcessState.ExitCode()
+}
+
+// call sends a line, and returns the answer.
+func (s site) call(address, line string) string {
+	conn, err := net.Dial("tcp", address)
+	if err != nil {
+		s.t.Fatal(err)
+	}
+	defer conn.Close()
+	conn.SetDeadline(time.Now().Add(20 * time.Second))
+	fmt.Fprintln(conn, line)
+	answer, _ := bufio.NewReader(conn).ReadString('\n')
+	return answer
+}
+
+func (s site) expect(what, got, want string) {
+	s.t.Helper()
+	if got != want {
+		s.t.Errorf("%s: got %s, want %s", what, got, want)
+	}
+}
+
+// freeAddress returns an address at which nothing listens.
+func (s site) freeAddress() string {
+	on, err := net.Listen("tcp", "127.0.0.1:0")
+	if err != nil {
+		s.t.Fatal(err)
+	}
+	defer on.Close()
+	return on.Addr().String()
+}
+
+// TestProgram runs the program: its ports, its status, a signal, a snapshot, and the checksum of regd in the names of votes.
+func TestProgram(t *testing.T) {
+	s := newSite(t)
+	fresh, state := s.freeAddress(), s.freeAddress()
+	gateway, address := s.start("-fresh", fresh, "-status", state, "-name", "g", "-workers", "3")
+	for place := 1; place <= 3; place++ {
+		s.expect("a change", s.call(address, prune), fmt.Sprintf(`{"call":1,"place":%d,"replies":[{"pruned":["%d"]}],"result":"committed"}`+"\n", place, place))
+	}
+	s.expect("a fresh query", s.call(fresh, show), `{"call":1,"place":3,"replies":[],"result":"answered"}`+"\n")
+	answer, err := http.Get("http://" + state + "/status")
+	if err != nil {
+		t.Fatal(err)
+	}
+	text, _ := io.ReadAll(answer.Body)
+	answer.Body.Close()
+	var values struct{ Name, Program string }
+	if json.Unmarshal(text, &values); values.Name != "g" || values.Program != label(t) {
+		t.Errorf("status: got %s", text)
+	}
+	gateway.Process.Signal(syscall.SIGTERM)
+	s.expect("the status after a signal", fmt.Sprint(s.status(gateway)), "0")
+	s.expect("the status after a snapshot", fmt.Sprint(s.status(s.command("-snapshot", "-keep", "1"))), "0")
+	keys := "p/domain p/head p/log/0000000000000003 p/snapshot p/snapshot/0000000000000002/00000000"
+	s.expect("the keys after a snapshot", strings.Join(s.store.Keys(), " "), keys)
+	_, address = s.start()
+	s.expect("a query after a snapshot", s.call(address, show), `{"call":1,"place":3,"replies":[],"result":"answered"}`+"\n")
+}
+
+// label returns what votes say of this program as a regd.
+func label(t *testing.T) string {
+	text, err := os.ReadFile(os.Args[0])
+	if err != nil {
+		t.Fatal(err)
+	}
+	return fmt.Sprintf("1-%.8x", sha256.Sum256(text))
+}
+
+// TestOutvoted checks the exit status of a gateway whose checksum is wrong.
+func TestOutvoted(t *testing.T) {
+	s := newSite(t)
+	ctx := context.Background()
+	s.log.Open(ctx, "ex.org")
+	for entry := uint64(1); entry <= 1000; entry++ {
+		s.log.Append(ctx, entry, etcd.JoinEntry(fmt.Sprint(entry), [][]byte{[]byte(prune)}))
+	}
+	for _, name := range []string{"a", "b"} {
+		s.log.Put(ctx, "sum/"+label(t)+"/00000000000003e8/"+name, []byte("00"))
+	}
+	s.expect("the exit status", fmt.Sprint(s.status(s.command())), "4")
+}
+
+// TestExits checks the exit statuses of a gateway that can't begin, and of one that is outvoted.
+func TestExits(t *testing.T) {
+	s := newSite(t)
+	for _, c := range []struct {
+		name  string
+		words []string
+		want  int
+	}{
+		{"an invalid command line", []string{"-workers", "1"}, 2},
+		{"no program", []string{"-regd", "/nonexistent"}, 1},
+		{"a port that is taken", []string{"-listen", s.store.Listener.Addr().String()}, 1},
+		{"another port that is taken", []string{"-fresh", s.store.Listener.Addr().String()}, 1},
+		{"a third port that is taken", []string{"-status", s.store.Listener.Addr().String()}, 1},
+		{"no certificate", []string{"-certificate", "/nonexistent", "-key", "/nonexistent", "-authorities", "/nonexistent"}, 1},
+		{"no certificate for etcd", []string{"-etcd-files", "/nonexistent"}, 1},
+		{"another domain", []string{"-domain", "other.org"}, 1},
+	} {
+		s.expect(c.name, fmt.Sprint(s.status(s.command(c.words...))), fmt.Sprint(c.want))
 	}
 }

@@ -1,6 +1,7 @@
 package server
 
 import (
+	"bufio"
 	"crypto/ecdsa"
 	"crypto/elliptic"
 	"crypto/rand"
@@ -8,6 +9,7 @@ import (
 	"crypto/x509"
 	"crypto/x509/pkix"
 	"encoding/pem"
+	"fmt"
 	"math/big"
 	"net"
 	"net/url"
@@ -137,6 +139,64 @@ func handshake(t *testing.T, server *tls.Config, client *tls.Config) (string, er
 	}
 	id, _ := callerOf(conn.ConnectionState().PeerCertificates[0], nil)
 	return id, nil
+}
+
+// TestCallers checks what callers with certificates may send, and that a connection outlives the time for a handshake.
+func TestCallers(t *testing.T) {
+	long := handshakeTime
+	t.Cleanup(func() { handshakeTime = long })
+	handshakeTime = time.Second
+	a := newAuthority(t)
+	a.leaf("server")
+	config, err := a.files("server").Config()
+	if err != nil {
+		t.Fatal(err)
+	}
+	s := newSite(t)
+	g, _, _ := s.gateway("a")
+	g.options.TLS, g.options.Operators = config, []string{n2}
+	on, err := net.Listen("tcp", "127.0.0.1:0")
+	if err != nil {
+		t.Fatal(err)
+	}
+	go g.Serve(s.ctx, on, false)
+	trust := `{"ops":[{"op":"trust","agent":"` + n1 + `"}]}`
+	for _, c := range []struct {
+		name, uri string
+		line      string
+		want      string
+	}{
+		{"an agent", n1, trust, answered(1, 0)},
+		{"an agent with a change", n1, prune, `{"code":"G1","line":1}`},
+		{"another agent", n1 + "0", trust, `{"code":"G1","line":1}`},
+		{"nobody", "", trust, `{"code":"G1","line":1}`},
+		{"an operator", n2, show, answered(1, 0)},
+		{"an operator with a change", n2, prune, committed(1, 1)},
+	} {
+		if a.leaf("caller"); c.uri != "" {
+			a.leaf("caller", c.uri)
+		}
+		client, err := a.files("caller").Config()
+		if err != nil {
+			t.Fatal(err)
+		}
+		client.ServerName = "gateway"
+		outer, _ := s.dial(on.Addr().String())
+		conn := tls.Client(outer, client)
+		in := bufio.NewReader(conn)
+		fmt.Fprintln(conn, c.line)
+		got, err := in.ReadString('\n')
+		s.expect(c.name, []string{got}, c.want+"\n")
+		if c.name == "an operator" {
+			time.Sleep(handshakeTime * 3 / 2)
+			fmt.Fprintln(conn, c.line)
+			got, err = in.ReadString('\n')
+			s.expect(c.name+" after the time for a handshake", []string{got}, answered(2, 0)+"\n")
+		}
+		if err != nil {
+			t.Errorf("%s: %v", c.name, err)
+		}
+	}
 }
 
 func TestHandshakes(t *testing.T) {

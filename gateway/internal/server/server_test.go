@@ -11,6 +11,7 @@ import (
 	"net"
 	"net/http/httptest"
 	"os"
+	"reflect"
 	"strings"
 	"sync/atomic"
 	"testing"
@@ -227,13 +228,21 @@ func TestLateWorkers(t *testing.T) {
 func TestSilentWatch(t *testing.T) {
 	s := newSite(t)
 	_, first, _ := s.gateway("a")
-	_, usual, fresh := s.gateway("b")
+	g, usual, fresh := s.gateway("b")
 	s.expect("a change", s.call(first, prune), committed(1, 1))
 	s.expect("a fresh query", s.call(fresh, show), answered(1, 1))
 	s.store.HoldWatch()
+	before, _ := g.board.read()
 	s.expect("a change that the other one doesn't see", s.call(first, prune), committed(1, 2))
 	s.expect("the usual port", s.call(usual, show), answered(1, 1))
 	s.expect("the fresh port", s.call(fresh, show), answered(1, 2))
+	time.Sleep(silentTime / 2)
+	if counts := s.store.Counts(); counts.Watches != 3 {
+		t.Errorf("%d watches: those of a gateway that misses nothing stay", counts.Watches)
+	}
+	if after, _ := g.board.read(); after != before {
+		t.Error("another replica was made")
+	}
 }
 
 // TestCutLog cuts the log behind a snapshot while the watch of a gateway is held: it makes another replica from the snapshot.
@@ -297,6 +306,7 @@ func TestUnknownAppend(t *testing.T) {
 }
 
 // TestNoAnswer lets etcd refuse everything. After some time the connection of a change ends, and that of a fresh query; other queries are answered.
+// Of the changes whose callers have left, only the one that was being appended is made.
 func TestNoAnswer(t *testing.T) {
 	long := waitTime
 	t.Cleanup(func() { waitTime = long })
@@ -306,6 +316,7 @@ func TestNoAnswer(t *testing.T) {
 	s.store.Refuse(1 << 30)
 	begin := time.Now()
 	s.expect("a change", s.call(usual, prune, show))
+	s.expect("another change", s.call(usual, prune))
 	s.expect("a fresh query", s.call(fresh, show))
 	s.expect("a query", s.call(usual, show), answered(1, 0))
 	if took := time.Since(begin); took > 15*time.Second {
@@ -390,19 +401,49 @@ func TestSlowCallers(t *testing.T) {
 	}
 }
 
+// status returns the code and the values of a gateway's status.
+func status(t *testing.T, g *Gateway) (int, map[string]any) {
+	t.Helper()
+	answer := httptest.NewRecorder()
+	g.ServeHTTP(answer, nil)
+	var values map[string]any
+	if err := json.Unmarshal(answer.Body.Bytes(), &values); err != nil || answer.Header().Get("Content-Type") != "application/json" {
+		t.Fatalf("got %v, %v", answer, err)
+	}
+	return answer.Code, values
+}
+
 func TestStatus(t *testing.T) {
 	s := newSite(t)
 	g, address, _ := s.gateway("a")
 	s.call(address, prune)
-	answer := httptest.NewRecorder()
-	g.ServeHTTP(answer, nil)
-	var status map[string]any
-	if err := json.Unmarshal(answer.Body.Bytes(), &status); err != nil || answer.Code != 200 || status["place"] != 1.0 || status["ready"] != true {
-		t.Errorf("got %d, %v, %v", answer.Code, status, err)
+	s.call(address, `{"ops":[{"op":"prune"}],"token":"00000000-0000-0000-0000-000000000001"}`)
+	s.dial(address)
+	g.isDisputed.Store(true)
+	within(t, "no connection", func() bool { return g.sessions.Load() == 1 })
+	within(t, "the log doesn't end at the head", func() bool { _, values := status(t, g); return values["head"] == 2.0 })
+	r, state := g.board.read()
+	code, values := status(t, g)
+	silent, _ := values["silent"].(float64)
+	delete(values, "silent")
+	want := map[string]any{"name": "a", "program": "p", "ready": true, "disputed": true, "entry": float64(state.Entry), "place": 2.0,
+		"sum": fmt.Sprintf("%x", state.Sum), "head": 2.0, "sessions": 1.0, "regd": float64(r.Pid()), "tokens": 1.0}
+	if code != 200 || !reflect.DeepEqual(values, want) || silent > 5 {
+		t.Errorf("got %d, %v", code, values)
 	}
-	answer = httptest.NewRecorder()
-	New(s.log, Options{}).ServeHTTP(answer, nil)
-	if answer.Code != 503 {
-		t.Errorf("without a replica: %d", answer.Code)
+	code, values = status(t, New(s.log, Options{}))
+	if code != 503 || values["ready"] != false || values["disputed"] != false || values["silent"].(float64) > 1 {
+		t.Errorf("without a replica: got %d, %v", code, values)
 	}
+}
+
+// TestSilent checks that the status says for how long etcd has not answered.
+func TestSilent(t *testing.T) {
+	s := newSite(t)
+	g, _, _ := s.gateway("a")
+	silent := func() float64 { _, values := status(t, g); return values["silent"].(float64) }
+	s.store.Refuse(1 << 30)
+	within(t, "etcd is silent", func() bool { return silent() >= 3 })
+	s.store.Refuse(0)
+	within(t, "etcd is not silent", func() bool { return silent() < 3 })
 }

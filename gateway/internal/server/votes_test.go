@@ -35,6 +35,37 @@ func TestJudge(t *testing.T) {
 	}
 }
 
+// TestLooks checks that a gateway looks at the votes again although it has none of its own to add, and forgets a difference that is gone or old.
+func TestLooks(t *testing.T) {
+	long := voteTime
+	t.Cleanup(func() { voteTime = long })
+	voteTime = 20 * time.Millisecond
+	s := newSite(t)
+	g := New(s.log, Options{Program: "p", Name: "a"})
+	ended := make(chan error, 1)
+	go func() { ended <- g.compare(s.ctx) }()
+	g.marks <- replica.State{Entry: voteInterval}
+	vote := func(name, sum string) { s.log.Put(s.ctx, "sum/p/00000000000003e8/"+name, []byte(sum)) }
+	vote("b", "1")
+	within(t, "no dispute", g.isDisputed.Load)
+	vote("b", fmt.Sprintf("%x", [32]byte{}))
+	within(t, "a dispute that is over", func() bool { return !g.isDisputed.Load() })
+	vote("a", "1") // such as by another gateway of the same name
+	vote("b", "1")
+	within(t, "no dispute", g.isDisputed.Load)
+	for entry := uint64(2); entry <= 1+votesWatched; entry++ {
+		g.marks <- replica.State{Entry: entry * voteInterval}
+	}
+	within(t, "an old dispute", func() bool { return !g.isDisputed.Load() })
+	vote("b", "2")
+	vote("c", "2")
+	select {
+	case err := <-ended:
+		t.Errorf("ended with %v", err)
+	case <-time.After(10 * voteTime):
+	}
+}
+
 // TestVotes lets the gateway with the wrong checksum vote first. It stops as soon as two others agree, and they go on.
 func TestVotes(t *testing.T) {
 	s := newSite(t)

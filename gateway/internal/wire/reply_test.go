@@ -3,6 +3,7 @@ package wire
 import (
 	"bufio"
 	"io"
+	"runtime"
 	"strings"
 	"testing"
 )
@@ -77,6 +78,27 @@ func TestReadLine(t *testing.T) {
 				t.Errorf("%s: got %.200q", c.name, got)
 			}
 		}
+	}
+}
+
+// endless is an input without a line feed, of some bytes.
+type endless struct{ left int }
+
+func (e *endless) Read(to []byte) (int, error) {
+	if e.left -= len(to); e.left < 0 {
+		return 0, io.EOF
+	}
+	return len(to), nil
+}
+
+// TestReadLineMemory checks that a line that is too long takes no more memory than the longest one.
+func TestReadLineMemory(t *testing.T) {
+	var before, after runtime.MemStats
+	runtime.ReadMemStats(&before)
+	_, code, err := ReadLine(bufio.NewReader(&endless{256 * MaxLine}))
+	runtime.ReadMemStats(&after)
+	if grown := after.TotalAlloc - before.TotalAlloc; code != "L1" || err != nil || grown > 16*MaxLine {
+		t.Errorf("got %s, %v, %d bytes", code, err, grown)
 	}
 }
 

@@ -24,12 +24,15 @@ type Server struct {
 	held                int      // the number of the watch that is held
 	told                []string // what all watches were told
 	counts              Counts
+
+	untilBefore int // transactions
+	before      func()
 }
 
 // Counts says what a server was asked for.
 type Counts struct {
 	Requests     int // but for watches
-	Appends      int // transactions that wrote something
+	Transactions int // with a condition
 	Watches      int
 	Pairs, Bytes int // the most pairs, and bytes of their values, in one answer
 	Deleted      int // the most keys by one request
@@ -72,6 +75,24 @@ func (s *Server) TellWatches(line string) {
 	defer s.mu.Unlock()
 	s.told = append(s.told, line)
 	s.wake()
+}
+
+// Before calls a function before the transaction of a number, counted from now on from 1.
+func (s *Server) Before(number int, call func()) {
+	s.mu.Lock()
+	s.untilBefore, s.before = number, call
+	s.mu.Unlock()
+}
+
+// begin notes that a transaction has arrived.
+func (s *Server) begin() {
+	s.mu.Lock()
+	s.untilBefore--
+	isDue, call := s.untilBefore == 0, s.before
+	s.mu.Unlock()
+	if isDue {
+		call()
+	}
 }
 
 // Counts returns what the server was asked for.
@@ -121,6 +142,9 @@ func (s *Server) handler(handle func(*request) object) http.HandlerFunc {
 		if err := json.NewDecoder(r.Body).Decode(&in); err != nil {
 			http.Error(w, err.Error(), http.StatusBadRequest)
 			return
+		}
+		if r.URL.Path == "/v3/kv/txn" {
+			s.begin()
 		}
 		s.mu.Lock()
 		defer s.mu.Unlock()
@@ -217,8 +241,9 @@ func (s *Server) transact(in *request) object {
 	steps := in.Success
 	if !holds {
 		steps = in.Failure
-	} else if len(in.Compare) > 0 {
-		s.counts.Appends++
+	}
+	if len(in.Compare) > 0 {
+		s.counts.Transactions++
 	}
 	responses := []object{}
 	for _, one := range steps {

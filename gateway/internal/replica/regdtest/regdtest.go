@@ -1,9 +1,9 @@
 // Package regdtest has a regd in miniature for unit tests. A test binary calls Main first in TestMain, and names itself as the program.
 //
 // It knows prune, which commits and reports its number, show, after, and token, which it ignores. Some hints in a line make it misbehave: L6, L7
-// and L8 are replied as codes, KILL ends the process, HANG makes it answer nothing more, and SLOW makes it take a tenth of a second. With LATE
-// a change is seen by the other connections after two seconds. For the domain shared.org the connections number their calls together, and for
-// hung.org it never listens.
+// and L8 are replied as codes, KILL ends the process, HANG makes it answer nothing more on this connection, and SLOW makes it take a tenth of a
+// second. With LATE a change is seen by the other connections after two seconds. For the domain shared.org the connections number their calls
+// together, and for hung.org it never listens.
 package regdtest
 
 import (
@@ -91,6 +91,9 @@ func (b *book) reply(text []byte, isWriter bool) (reply string, isCall bool) {
 	if json.Unmarshal(text, &request) != nil {
 		return "L2", false
 	}
+	if bytes.Contains(text, []byte("HANG")) {
+		select {}
+	}
 	b.mu.Lock()
 	defer b.mu.Unlock()
 	for _, code := range []string{"L6", "L7", "L8"} {
@@ -101,8 +104,6 @@ func (b *book) reply(text []byte, isWriter bool) (reply string, isCall bool) {
 	switch {
 	case bytes.Contains(text, []byte("KILL")):
 		os.Exit(7)
-	case bytes.Contains(text, []byte("HANG")):
-		select {}
 	case bytes.Contains(text, []byte("SLOW")):
 		time.Sleep(100 * time.Millisecond)
 	case bytes.Contains(text, []byte("LATE")):

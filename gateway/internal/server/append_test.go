@@ -1,0 +1,84 @@
+package server
+
+import (
+	"sync"
+	"sync/atomic"
+	"testing"
+
+	"regd/gateway/internal/etcd"
+)
+
+// TestCollect checks the bounds of an entry.
+func TestCollect(t *testing.T) {
+	s := newSite(t)
+	for _, c := range []struct {
+		name              string
+		count, size, want int
+	}{
+		{"many lines", 3 * mostLines, 1, mostLines},
+		{"long lines", 9, mostBytes/3 + 1, 3},
+		{"the longest line", 2, 1 << 20, 1},
+		{"few lines", 7, 1, 7},
+	} {
+		g := New(s.log, Options{})
+		for i := 0; i < c.count; i++ {
+			g.changes <- &request{line: make([]byte, c.size), left: &atomic.Bool{}}
+		}
+		changes, lines := g.collect(s.ctx)
+		if len(changes) != c.want || len(lines) != c.want || len(g.changes) != c.count-c.want {
+			t.Errorf("%s: %d lines in an entry", c.name, len(lines))
+		}
+	}
+}
+
+// TestNames lets two gateways append at the same time. Each answers its own changes, and the names of entries are all different.
+func TestNames(t *testing.T) {
+	s := newSite(t)
+	var all sync.WaitGroup
+	var gateways []*Gateway
+	for _, name := range []string{"a", "b"} {
+		g, address, _ := s.gateway(name)
+		gateways = append(gateways, g)
+		for i := 0; i < 3; i++ {
+			all.Add(1)
+			go func() {
+				defer all.Done()
+				for i := 0; i < 10; i++ {
+					if answers := s.call(address, prune); len(answers) != 1 {
+						t.Errorf("got %q", answers)
+					}
+				}
+			}()
+		}
+	}
+	all.Wait()
+	head, err := s.log.Head(s.ctx)
+	if err != nil {
+		t.Fatal(err)
+	}
+	names := map[string]bool{}
+	for entry := uint64(1); entry <= head; entry++ {
+		value, _ := s.log.Get(s.ctx, etcd.EntryKey(entry))
+		name, _ := etcd.SplitEntry(value)
+		names[name] = true
+	}
+	if len(names) != int(head) {
+		t.Errorf("%d names for %d entries", len(names), head)
+	}
+	for _, g := range gateways { // nothing is kept of an entry that is answered
+		g.flights.Range(func(name, _ any) bool { t.Errorf("%s is under way", name); return true })
+	}
+}
+
+// TestNextNumber checks that a gateway which alone appends needs one transaction for an entry.
+func TestNextNumber(t *testing.T) {
+	s := newSite(t)
+	_, address, _ := s.gateway("a")
+	s.store.Recount()
+	for place := 1; place <= 5; place++ {
+		s.expect("a change", s.call(address, prune), committed(1, place))
+	}
+	if counts := s.store.Counts(); counts.Transactions != 5 {
+		t.Errorf("%d transactions", counts.Transactions)
+	}
+}

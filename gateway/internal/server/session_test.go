@@ -1,0 +1,237 @@
+package server
+
+import (
+	"context"
+	"errors"
+	"fmt"
+	"io"
+	"net"
+	"os"
+	"strings"
+	"sync/atomic"
+	"testing"
+	"time"
+
+	"regd/gateway/internal/etcd"
+	"regd/gateway/internal/replica"
+	"regd/gateway/internal/wire"
+)
+
+// within waits until a condition holds.
+func within(t *testing.T, what string, condition func() bool) {
+	t.Helper()
+	for begin := time.Now(); !condition(); time.Sleep(time.Millisecond) {
+		if time.Since(begin) > 15*time.Second {
+			t.Fatal(what)
+		}
+	}
+}
+
+// failing is a listener whose first calls of Accept fail.
+type failing struct {
+	net.Listener
+	left atomic.Int64
+}
+
+func (f *failing) Accept() (net.Conn, error) {
+	if f.left.Add(-1) >= 0 {
+		return nil, errors.New("no free descriptor")
+	}
+	return f.Listener.Accept()
+}
+
+// TestAccept checks that callers are accepted after errors, each of which is followed by a pause, until the context ends.
+func TestAccept(t *testing.T) {
+	s := newSite(t)
+	g, _, _ := s.gateway("a")
+	on, err := net.Listen("tcp", "127.0.0.1:0")
+	if err != nil {
+		t.Fatal(err)
+	}
+	listener := &failing{Listener: on}
+	listener.left.Store(9)
+	ctx, stop := context.WithCancel(s.ctx)
+	ended, begin := make(chan error, 1), time.Now()
+	go func() {
+		ended <- g.Serve(ctx, listener, false)
+		on.Close()
+	}()
+	s.expect("a query", s.call(on.Addr().String(), show), answered(1, 0))
+	if took := time.Since(begin); took < 90*time.Millisecond {
+		t.Errorf("9 errors took %v", took)
+	}
+	stop()
+	select {
+	case err := <-ended:
+		if err != context.Canceled {
+			t.Errorf("ended with %v", err)
+		}
+	case <-time.After(5 * time.Second):
+		t.Error("Serve goes on")
+	}
+}
+
+// TestRow checks how many lines of a connection are under way: no more than mostRow, and of the longest ones one.
+func TestRow(t *testing.T) {
+	s := newSite(t)
+	short := `{"ops":[{"op":"prune"}]}`
+	for line, want := range map[string]int{short: mostRow, short + strings.Repeat(" ", wire.MaxLine-len(short)): 1} {
+		g := New(s.log, Options{}) // which makes no entries of its changes
+		inner, outer := net.Pipe()
+		go g.receive(s.ctx, inner, false)
+		go outer.Write([]byte(strings.Repeat(line+"\n", 2*want)))
+		within(t, "too few lines are read", func() bool { return len(g.changes) == want })
+		time.Sleep(100 * time.Millisecond)
+		if count := len(g.changes); count != want {
+			t.Errorf("%.30s: %d lines are under way", line, count)
+		}
+		outer.Close()
+	}
+}
+
+// written is a connection that notes the sizes of what is written.
+type written struct {
+	net.Conn
+	sizes []int
+	text  string
+}
+
+func (w *written) SetWriteDeadline(time.Time) error { return nil }
+
+func (w *written) Write(text []byte) (int, error) {
+	w.sizes, w.text = append(w.sizes, len(text)), w.text+string(text)
+	return len(text), nil
+}
+
+// rowOf returns a session with the answers to changes, of which a nil one can't be known.
+func rowOf(s *site, answers ...[]byte) (*session, *written) {
+	conn := &written{}
+	made := &session{Gateway: New(s.log, Options{}), conn: conn, isChanging: true}
+	for _, answer := range answers {
+		made.add(nil).answer(answer)
+	}
+	return made, conn
+}
+
+// TestWriteAnswers checks that answers are written in few pieces that are not too long, and that those before an unknown one are written.
+func TestWriteAnswers(t *testing.T) {
+	s := newSite(t)
+	long := []byte(`{"call":1,"place":1,"replies":["` + strings.Repeat("x", flushSize/4) + `"],"result":"committed"}`)
+	made, conn := rowOf(s, long, long, long, long, long, long, long, long, long, long)
+	if !made.writeAnswers(s.ctx, 0) || len(conn.sizes) != 3 || conn.sizes[0] > 2*flushSize {
+		t.Errorf("wrote %v bytes", conn.sizes)
+	}
+	made, conn = rowOf(s, []byte(committed(7, 1)), nil, []byte(committed(8, 2)))
+	if made.writeAnswers(s.ctx, 0) || conn.text != committed(1, 1)+"\n" {
+		t.Errorf("wrote %s", conn.text)
+	}
+	made, conn = rowOf(s, []byte(committed(7, 1)), []byte(committed(8, 2)))
+	if !made.writeAnswers(s.ctx, 1) || conn.text != committed(1, 1)+"\n" || len(made.row) != 1 {
+		t.Errorf("wrote %s", conn.text)
+	}
+}
+
+// TestAnswersDoNotWait checks that an answer is sent although a later line of the caller gets none, or waits for a commit.
+func TestAnswersDoNotWait(t *testing.T) {
+	long := afterTime
+	t.Cleanup(func() { afterTime = long })
+	afterTime = 10 * time.Second
+	s := newSite(t)
+	_, address, _ := s.gateway("a")
+	for name, second := range map[string]string{"an early line": `{"ops":[],"after":99}`, "a line without an answer": `{"ops":[{"op":"show","hint":"HANG"}]}`} {
+		conn, in := s.dial(address)
+		begin := time.Now()
+		fmt.Fprintf(conn, "%s\n%s\n", show, second)
+		got, err := in.ReadString('\n')
+		if took := time.Since(begin); got != answered(1, 0)+"\n" || took > 5*time.Second {
+			t.Errorf("before %s: got %s, %v after %v", name, got, err, took)
+		}
+		conn.Close()
+	}
+}
+
+// TestFreshAnswersDoNotWait sends two fresh queries together. The worker is late, so the answer to the first one comes after two seconds. Only then is
+// etcd asked for the second one, and if it doesn't answer, the caller still has the first answer.
+func TestFreshAnswersDoNotWait(t *testing.T) {
+	long := waitTime
+	t.Cleanup(func() { waitTime = long })
+	waitTime = 4 * time.Second
+	s := newSite(t)
+	_, usual, fresh := s.gateway("a")
+	s.expect("a change", s.call(usual, `{"ops":[{"op":"prune","hint":"LATE"}]}`), committed(1, 1))
+	conn, in := s.dial(fresh)
+	fmt.Fprintf(conn, "%s\n%s\n", show, show)
+	time.Sleep(time.Second)
+	s.store.Refuse(1 << 30)
+	first, _ := in.ReadString('\n')
+	second, err := in.ReadString('\n')
+	s.expect("the first query", []string{first}, answered(1, 1)+"\n")
+	if err != io.EOF {
+		t.Errorf("the second query: got %s, %v", second, err)
+	}
+	s.store.Refuse(0)
+}
+
+// TestReplicaIsAway checks that the gateway is not ready after its regd has ended, and that a regd which always ends is never ready.
+func TestReplicaIsAway(t *testing.T) {
+	s := newSite(t)
+	g, _, _ := s.gateway("a")
+	first, _ := g.board.read()
+	process, _ := os.FindProcess(first.Pid())
+	process.Kill()
+	var now *replica.Replica
+	within(t, "the replica stays", func() bool { now, _ = g.board.read(); return now != first })
+	if now != nil {
+		t.Error("there is no time without a replica")
+	}
+	within(t, "no other replica", func() bool { now, _ = g.board.read(); return now != nil })
+	s.log.Append(s.ctx, 1, etcd.JoinEntry("x", [][]byte{[]byte(prune), []byte(`{"ops":[{"op":"prune","hint":"KILL"}]}`)}))
+	within(t, "the replica stays", func() bool { now, _ = g.board.read(); return now == nil })
+	other := New(s.log, Options{Replica: g.options.Replica})
+	ctx, stop := context.WithTimeout(s.ctx, time.Second)
+	defer stop()
+	if err := other.Run(ctx, func(context.Context) error { return errors.New("it is ready") }); !errors.Is(err, context.DeadlineExceeded) {
+		t.Error(err)
+	}
+}
+
+// TestRunEnds checks that a gateway with the wrong checksum stops serving.
+func TestRunEnds(t *testing.T) {
+	s := newSite(t)
+	for _, name := range []string{"a", "b"} {
+		s.log.Put(s.ctx, "sum/p/00000000000003e8/"+name, []byte("00"))
+	}
+	g := New(s.log, Options{Program: "p", Name: "c", Replica: replica.Options{Program: os.Args[0], Domain: "ex.org", Workers: 2}})
+	isOver := false
+	err := g.Run(s.ctx, func(ctx context.Context) error {
+		g.executed(replica.State{Entry: voteInterval - 1})
+		g.executed(replica.State{Entry: voteInterval})
+		<-ctx.Done()
+		isOver = true
+		return nil
+	})
+	if err != ErrOutvoted || !isOver {
+		t.Errorf("got %v, %v", err, isOver)
+	}
+	for entry := uint64(0); entry < 2*votesLeft; entry++ { // a gateway whose etcd doesn't answer goes on
+		g.executed(replica.State{Entry: entry * voteInterval})
+	}
+	if g.executed(replica.State{Entry: 1}); len(g.marks) != votesLeft {
+		t.Errorf("%d votes wait", len(g.marks))
+	}
+}
+
+// TestWorkers checks that two connections use different workers of regd: one of them hangs.
+func TestWorkers(t *testing.T) {
+	s := newSite(t)
+	g, address, _ := s.gateway("a")
+	first, _ := s.dial(address)
+	fmt.Fprintln(first, `{"ops":[{"op":"show","hint":"HANG"}]}`)
+	within(t, "no connection", func() bool { return g.accepted.Load() == 1 })
+	second, in := s.dial(address)
+	second.SetDeadline(time.Now().Add(5 * time.Second))
+	fmt.Fprintln(second, show)
+	if got, err := in.ReadString('\n'); got != answered(1, 0)+"\n" {
+		t.Errorf("got %s, %v", got, err)
+	}
+}
