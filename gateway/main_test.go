@@ -3,14 +3,24 @@ package main
 import (
 	"bufio"
 	"context"
+	"crypto/ecdsa"
+	"crypto/elliptic"
+	"crypto/rand"
 	"crypto/sha256"
+	"crypto/tls"
+	"crypto/x509"
 	"encoding/json"
+	"encoding/pem"
 	"fmt"
 	"io"
+	"math/big"
 	"net"
 	"net/http"
+	"net/http/httptest"
+	"net/url"
 	"os"
 	"os/exec"
+	"path/filepath"
 	"strings"
 	"syscall"
 	"testing"
@@ -19,6 +29,7 @@ import (
 	"regd/gateway/internal/etcd"
 	"regd/gateway/internal/etcd/etcdtest"
 	"regd/gateway/internal/replica/regdtest"
+	"regd/gateway/internal/server"
 )
 
 // TestMain makes this program a regd in miniature, or the gateway, if the arguments say so.
@@ -99,6 +110,8 @@ func (s site) start(words ...string) (*exec.Cmd, string) {
 		err = command.Start()
 	}
 	var first struct{ Listening string }
+	late := time.AfterFunc(30*time.Second, func() { command.Process.Kill() })
+	defer late.Stop()
 	if err == nil {
 		err = json.NewDecoder(out).Decode(&first)
 	}
@@ -129,9 +142,17 @@ func (s site) call(address, line string) string {
 		s.t.Fatal(err)
 	}
 	defer conn.Close()
-	conn.SetDeadline(time.Now().Add(20 * time.Second))
+	return s.ask(conn, line)
+}
+
+// ask sends a line on a connection, and returns the answer, or "" if there is none within three seconds.
+func (s site) ask(conn net.Conn, line string) string {
+	conn.SetDeadline(time.Now().Add(3 * time.Second))
 	fmt.Fprintln(conn, line)
-	answer, _ := bufio.NewReader(conn).ReadString('\n')
+	answer, err := bufio.NewReader(conn).ReadString('\n')
+	if err != nil {
+		return ""
+	}
 	return answer
 }
 
@@ -171,6 +192,10 @@ func TestProgram(t *testing.T) {
 	if json.Unmarshal(text, &values); values.Name != "g" || values.Program != label(t) {
 		t.Errorf("status: got %s", text)
 	}
+	s.store.Refuse(1 << 30)
+	s.expect("a query while etcd refuses", s.call(address, show), `{"call":1,"place":3,"replies":[],"result":"answered"}`+"\n")
+	s.expect("a fresh query while etcd refuses", s.call(fresh, show), "")
+	s.store.Refuse(0)
 	gateway.Process.Signal(syscall.SIGTERM)
 	s.expect("the status after a signal", fmt.Sprint(s.status(gateway)), "0")
 	s.expect("the status after a snapshot", fmt.Sprint(s.status(s.command("-snapshot", "-keep", "1"))), "0")
@@ -201,6 +226,48 @@ func TestOutvoted(t *testing.T) {
 		s.log.Put(ctx, "sum/"+label(t)+"/00000000000003e8/"+name, []byte("00"))
 	}
 	s.expect("the exit status", fmt.Sprint(s.status(s.command())), "4")
+}
+
+// TestFiles runs the program with certificates, over an etcd with certificates that doesn't speak TLS 1.3.
+func TestFiles(t *testing.T) {
+	s, folder := newSite(t), t.TempDir()
+	key, err := ecdsa.GenerateKey(elliptic.P256(), rand.Reader)
+	if err != nil {
+		t.Fatal(err)
+	}
+	template := &x509.Certificate{SerialNumber: big.NewInt(1), URIs: []*url.URL{{Scheme: "spiffe", Host: "ex.org", Path: "/o"}},
+		IPAddresses: []net.IP{net.IPv4(127, 0, 0, 1)}, NotBefore: time.Now().Add(-time.Hour), NotAfter: time.Now().Add(time.Hour)}
+	der, err := x509.CreateCertificate(rand.Reader, template, template, &key.PublicKey, key)
+	if err != nil {
+		t.Fatal(err)
+	}
+	keyDER, _ := x509.MarshalECPrivateKey(key)
+	certificate := pem.EncodeToMemory(&pem.Block{Type: "CERTIFICATE", Bytes: der})
+	for name, text := range map[string][]byte{"cert.pem": certificate, "ca.pem": certificate,
+		"key.pem": pem.EncodeToMemory(&pem.Block{Type: "EC PRIVATE KEY", Bytes: keyDER})} {
+		if err := os.WriteFile(filepath.Join(folder, name), text, 0o600); err != nil {
+			t.Fatal(err)
+		}
+	}
+	config, err := server.FilesIn(folder).Config()
+	if err != nil {
+		t.Fatal(err)
+	}
+	secure := httptest.NewUnstartedServer(s.store.Config.Handler)
+	secure.TLS = &tls.Config{Certificates: config.Certificates, ClientAuth: tls.RequireAnyClientCert, MaxVersion: tls.VersionTLS12}
+	secure.StartTLS()
+	t.Cleanup(secure.CloseClientConnections)
+	_, address := s.start("-etcd", secure.URL, "-etcd-files", folder, "-operators", "spiffe://ex.org/ci,spiffe://ex.org/o",
+		"-certificate", filepath.Join(folder, "cert.pem"), "-key", filepath.Join(folder, "key.pem"), "-authorities", filepath.Join(folder, "ca.pem"))
+	conn, err := tls.Dial("tcp", address, config)
+	if err != nil {
+		t.Fatal(err)
+	}
+	defer conn.Close()
+	s.expect("an operator", s.ask(conn, prune), `{"call":1,"place":1,"replies":[{"pruned":["1"]}],"result":"committed"}`+"\n")
+	if answer := s.call(address, show); strings.Contains(answer, "answered") {
+		t.Errorf("a caller in plain text got %s", answer)
+	}
 }
 
 // TestExits checks the exit statuses of a gateway that can't begin, and of one that is outvoted.

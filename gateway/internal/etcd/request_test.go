@@ -8,6 +8,8 @@ import (
 	"net/http"
 	"net/http/httptest"
 	"strings"
+	"sync"
+	"sync/atomic"
 	"testing"
 	"time"
 
@@ -103,6 +105,44 @@ func TestLongError(t *testing.T) {
 	err := New([]string{server.URL}, "r/", nil).call(context.Background(), pageTime, "/", object{}, &found{})
 	if err == nil || len(err.Error()) > 1000 || !strings.Contains(err.Error(), "503") || !strings.Contains(err.Error(), "reason") {
 		t.Errorf("got %.2000v", err)
+	}
+}
+
+// TestConnections checks that requests use connections again, also after errors, and also several at a time.
+func TestConnections(t *testing.T) {
+	var opened atomic.Int64
+	handler := etcdtest.New()
+	server := httptest.NewUnstartedServer(handler.Config.Handler)
+	server.Config.ConnState = func(_ net.Conn, state http.ConnState) {
+		if state == http.StateNew {
+			opened.Add(1)
+		}
+	}
+	server.Start()
+	defer server.Close()
+	log, ctx := New([]string{server.URL}, "r/", nil), context.Background()
+	for i := 0; i < 20; i++ {
+		handler.Refuse(i % 2)
+		if err := log.call(ctx, callTime, "/v3/kv/range", object{"key": log.key("head")}, &found{}); (err != nil) != (i%2 == 1) {
+			t.Error(err)
+		}
+	}
+	if count := opened.Load(); count != 1 {
+		t.Errorf("%d connections for one request after another", count)
+	}
+	for round := 0; round < 10; round++ {
+		var all sync.WaitGroup
+		for i := 0; i < 10; i++ {
+			all.Add(1)
+			go func() {
+				defer all.Done()
+				log.Get(ctx, "head")
+			}()
+		}
+		all.Wait()
+	}
+	if count := opened.Load(); count > 30 {
+		t.Errorf("%d connections for 10 requests at a time", count)
 	}
 }
 

@@ -243,6 +243,11 @@ func TestHandshakes(t *testing.T) {
 	if _, err := (Files{"no", "no", "no"}).Config(); err == nil {
 		t.Error("missing files were accepted")
 	}
+	empty := a.files("agent")
+	empty.Authorities = empty.Key
+	if _, err := empty.Config(); err == nil {
+		t.Error("a file without an authority was accepted")
+	}
 	if config, err := FilesIn("").Config(); config != nil || err != nil {
 		t.Errorf("no files: got %v, %v", config, err)
 	}

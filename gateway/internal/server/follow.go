@@ -31,7 +31,7 @@ func (g *Gateway) follow(ctx context.Context) error {
 
 // runReplica makes a replica from the newest snapshot and the log, and keeps it at the end of the log until it ends.
 func (g *Gateway) runReplica(ctx context.Context) error {
-	began, isReady := time.Now(), false
+	began := time.Now()
 	r, err := replica.Start(ctx, g.options.Replica, g.executed)
 	if err != nil {
 		return err
@@ -44,8 +44,7 @@ func (g *Gateway) runReplica(ctx context.Context) error {
 	}
 	defer g.board.update(func() { g.board.replica = nil })
 	caughtUp := func(last uint64) {
-		if r.Settle(); !isReady && r.State().Entry >= last { // less if regd has ended
-			isReady = true
+		if r.Settle(); r.State().Entry >= last { // less if regd has ended
 			g.board.update(func() { g.board.replica, g.board.state = r, r.State() })
 			logline.Info("replica ready", "entry", last, "place", r.State().Place, "seconds", fmt.Sprintf("%.2f", time.Since(began).Seconds()))
 		}

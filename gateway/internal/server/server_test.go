@@ -288,6 +288,7 @@ func TestUnknownAppend(t *testing.T) {
 		if reply != nil {
 			t.Errorf("got %s", reply)
 		}
+		g.flights.Range(func(name, _ any) bool { t.Errorf("%s is under way", name); return true })
 	case <-s.ctx.Done():
 		t.Fatal("no answer")
 	}

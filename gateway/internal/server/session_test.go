@@ -2,6 +2,7 @@ package server
 
 import (
 	"context"
+	"encoding/json"
 	"errors"
 	"fmt"
 	"io"
@@ -60,6 +61,10 @@ func TestAccept(t *testing.T) {
 	if took := time.Since(begin); took < 90*time.Millisecond {
 		t.Errorf("9 errors took %v", took)
 	}
+	waiting, in := s.dial(on.Addr().String())
+	waiting.SetDeadline(time.Now().Add(10 * time.Second))
+	fmt.Fprintln(waiting, `{"ops":[{"op":"show","hint":"HANG"}]}`)
+	within(t, "no connection", func() bool { return g.accepted.Load() == 2 })
 	stop()
 	select {
 	case err := <-ended:
@@ -68,6 +73,9 @@ func TestAccept(t *testing.T) {
 		}
 	case <-time.After(5 * time.Second):
 		t.Error("Serve goes on")
+	}
+	if _, err := in.ReadByte(); err != io.EOF {
+		t.Errorf("a caller that waits for an answer: got %v", err)
 	}
 }
 
@@ -172,6 +180,107 @@ func TestFreshAnswersDoNotWait(t *testing.T) {
 	s.store.Refuse(0)
 }
 
+// TestPastAfter checks that a query with the number of a commit that is there doesn't wait for the lines before it.
+func TestPastAfter(t *testing.T) {
+	long := waitTime
+	t.Cleanup(func() { waitTime = long })
+	waitTime = 300 * time.Millisecond
+	s := newSite(t)
+	g, address, _ := s.gateway("a")
+	s.expect("a change", s.call(address, prune), committed(1, 1))
+	made := &session{Gateway: g, conn: &written{}}
+	made.add(nil) // which is never answered
+	if isGoing := made.query(s.ctx, []byte(`{"ops":[],"after":1}`)); !isGoing || len(made.row) != 2 {
+		t.Errorf("%d lines are under way", len(made.row))
+	}
+}
+
+// TestAsksAgain checks that there is a pause before a query is asked again.
+func TestAsksAgain(t *testing.T) {
+	s := newSite(t)
+	g, usual, fresh := s.gateway("a")
+	for _, address := range []string{usual, fresh} { // one for each of the workers
+		s.expect("a change", s.call(usual, `{"ops":[{"op":"prune","hint":"LATE"}]}`), committed(1, 1+int(g.accepted.Load())/2))
+		if answers := s.call(address, show); len(answers) != 1 {
+			t.Errorf("got %q", answers)
+		}
+	}
+	var asked struct{ Call int }
+	r, _ := g.board.read()
+	if err := json.Unmarshal(r.Ask([]byte(show)), &asked); err != nil || asked.Call < 20 || asked.Call > 1010 { // one in 2 ms
+		t.Errorf("asked %d times, %v", asked.Call, err)
+	}
+}
+
+// TestPausesOfReplicas checks that there are pauses before the log is read again, and before another replica is started.
+func TestPausesOfReplicas(t *testing.T) {
+	s := newSite(t)
+	s.gateway("a")
+	within(t, "no watch", func() bool { return s.store.Counts().Watches == 1 })
+	s.store.Refuse(1 << 30)
+	s.store.TellWatches(`{"error":{"message":"x"}}`)
+	s.store.Recount()
+	time.Sleep(time.Second)
+	if counts := s.store.Counts(); counts.Requests < 2 || counts.Requests > 30 {
+		t.Errorf("the log was read again: %v", counts)
+	}
+	s.store.Refuse(0)
+	s.log.Append(s.ctx, 1, etcd.JoinEntry("x", [][]byte{[]byte(`{"ops":[{"op":"prune","hint":"KILL"}]}`)}))
+	time.Sleep(500 * time.Millisecond)
+	s.store.Recount()
+	time.Sleep(time.Second)
+	if counts := s.store.Counts(); counts.Pages < 1 || counts.Pages > 6 {
+		t.Errorf("other replicas were started: %v", counts)
+	}
+}
+
+// TestSlowReplica checks that the log isn't read again while a replica is behind but executes entries.
+func TestSlowReplica(t *testing.T) {
+	s := newSite(t)
+	for entry := uint64(1); entry <= 50; entry++ { // a tenth of a second each
+		s.log.Append(s.ctx, entry, etcd.JoinEntry(fmt.Sprint(entry), [][]byte{[]byte(`{"ops":[{"op":"prune","hint":"SLOW"}]}`)}))
+	}
+	g, _, _ := s.gateway("a")
+	if _, state := g.board.read(); state.Entry != 50 || s.store.Counts().Pages != 1 {
+		t.Errorf("at entry %d, %v", state.Entry, s.store.Counts())
+	}
+}
+
+// TestFreshHead checks that those who wait for etcd share one request, and that nobody gets the answer to one that failed.
+func TestFreshHead(t *testing.T) {
+	s := newSite(t)
+	s.log.Append(s.ctx, 1, []byte("a"))
+	g := New(s.log, Options{})
+	s.store.Refuse(1 << 30)
+	short, cancel := context.WithTimeout(s.ctx, 500*time.Millisecond)
+	defer cancel()
+	heads, failed := make(chan uint64, 20), make(chan error, 1)
+	go func() { _, err := g.freshHead(short); failed <- err }()
+	within(t, "no request", func() bool { return g.fresh.begun.Load() == 1 })
+	for i := 0; i < 20; i++ {
+		go func() {
+			head, err := g.freshHead(s.ctx)
+			if err != nil {
+				t.Error(err)
+			}
+			heads <- head
+		}()
+	}
+	if err := <-failed; err != context.DeadlineExceeded {
+		t.Errorf("got %v", err)
+	}
+	time.Sleep(200 * time.Millisecond)
+	s.store.Refuse(0)
+	for i := 0; i < 20; i++ {
+		if head := <-heads; head != 1 {
+			t.Errorf("got %d", head)
+		}
+	}
+	if count := g.fresh.begun.Load(); count > 4 { // a failed one, one for most, and few for those that came late
+		t.Errorf("%d requests", count)
+	}
+}
+
 // TestReplicaIsAway checks that the gateway is not ready after its regd has ended, and that a regd which always ends is never ready.
 func TestReplicaIsAway(t *testing.T) {
 	s := newSite(t)
@@ -213,10 +322,21 @@ func TestRunEnds(t *testing.T) {
 	if err != ErrOutvoted || !isOver {
 		t.Errorf("got %v, %v", err, isOver)
 	}
-	for entry := uint64(0); entry < 2*votesLeft; entry++ { // a gateway whose etcd doesn't answer goes on
+}
+
+// TestMarks checks after which entries a gateway votes, and that it goes on if etcd doesn't take its votes.
+func TestMarks(t *testing.T) {
+	g := New(newSite(t).log, Options{})
+	for entry := uint64(1); entry <= 2*voteInterval; entry++ {
+		g.executed(replica.State{Entry: entry})
+	}
+	if len(g.marks) != 2 {
+		t.Errorf("%d votes after %d entries", len(g.marks), 2*voteInterval)
+	}
+	for entry := uint64(3); entry <= 2*votesLeft; entry++ {
 		g.executed(replica.State{Entry: entry * voteInterval})
 	}
-	if g.executed(replica.State{Entry: 1}); len(g.marks) != votesLeft {
+	if len(g.marks) != votesLeft {
 		t.Errorf("%d votes wait", len(g.marks))
 	}
 }

@@ -5,6 +5,7 @@ import (
 	"fmt"
 	"math/rand"
 	"os"
+	"path/filepath"
 	"reflect"
 	"strings"
 	"testing"
@@ -13,6 +14,7 @@ import (
 	"regd/gateway/internal/etcd"
 	"regd/gateway/internal/etcd/etcdtest"
 	"regd/gateway/internal/replica"
+	"regd/gateway/internal/replica/regdtest"
 )
 
 func options(t *testing.T) replica.Options {
@@ -21,6 +23,125 @@ func options(t *testing.T) replica.Options {
 		t.Skip("REGD names no program")
 	}
 	return replica.Options{Program: program, Domain: "ex.org", Workers: 2}
+}
+
+// miniature returns options for a regd in miniature, with a log of some entries.
+func miniature(t *testing.T, ctx context.Context, entries uint64) (replica.Options, *etcdtest.Server, *etcd.Log) {
+	store := etcdtest.New()
+	t.Cleanup(store.CloseClientConnections)
+	log := etcd.New([]string{store.URL}, "r/", nil)
+	if err := log.Open(ctx, "ex.org"); err != nil {
+		t.Fatal(err)
+	}
+	for entry := uint64(1); entry <= entries; entry++ {
+		if _, err := log.Append(ctx, entry, etcd.JoinEntry(fmt.Sprint(entry), [][]byte{[]byte(emptyLine)})); err != nil {
+			t.Fatal(err)
+		}
+	}
+	return replica.Options{Program: os.Args[0], Domain: "ex.org", Workers: 2}, store, log
+}
+
+func TestMain(m *testing.M) {
+	regdtest.Main()
+	os.Exit(m.Run())
+}
+
+// TestMakeVerifies lets the regd end that would execute a snapshot for the second time: no snapshot is made, and nothing is cut.
+func TestMakeVerifies(t *testing.T) {
+	ctx, cancel := context.WithTimeout(context.Background(), time.Minute)
+	defer cancel()
+	options, store, log := miniature(t, ctx, 5)
+	before := strings.Join(store.Keys(), " ")
+	folder, program := t.TempDir(), options.Program
+	options.Program = filepath.Join(folder, "once")
+	text := fmt.Sprintf("#!/bin/sh\nmkdir %s/begun || exit 1\nexec %s \"$@\"\n", folder, program)
+	if err := os.WriteFile(options.Program, []byte(text), 0o700); err != nil {
+		t.Fatal(err)
+	}
+	if err := Make(ctx, log, options, 2); err == nil || strings.Join(store.Keys(), " ") != before {
+		t.Errorf("got %v, %v", err, store.Keys())
+	}
+}
+
+// TestPublish checks that the head of a snapshot is stored after its pieces, and that these are all read.
+func TestPublish(t *testing.T) {
+	ctx, cancel := context.WithTimeout(context.Background(), time.Minute)
+	defer cancel()
+	_, store, log := miniature(t, ctx, 0)
+	c := content{State: replica.State{Entry: 7, Place: 3}, Lines: []string{strings.Repeat("x", 2*chunkSize), "y"}}
+	if err := c.publish(ctx, log); err != nil {
+		t.Fatal(err)
+	}
+	keys := []string{"r/head", "r/domain", "r/" + chunkKey(7, 0), "r/" + chunkKey(7, 1), "r/" + chunkKey(7, 2), "r/snapshot"}
+	if puts := store.Puts(); !reflect.DeepEqual(puts, keys) {
+		t.Errorf("stored %v", puts)
+	}
+	if got, err := read(ctx, log); err != nil || !reflect.DeepEqual(got, c) {
+		t.Errorf("read %v", err)
+	}
+	for number := 2; number >= 0; number-- { // a newer snapshot deletes all pieces at once, so those that a reader misses are the last ones
+		log.Delete(ctx, chunkKey(7, number), chunkKey(7, number+1))
+		if _, err := read(ctx, log); err == nil {
+			t.Errorf("a snapshot of %d pieces was read", number)
+		}
+	}
+}
+
+// TestReplayEnds checks that a replay ends at its entry, and fails if it doesn't reach it.
+func TestReplayEnds(t *testing.T) {
+	ctx, cancel := context.WithTimeout(context.Background(), time.Minute)
+	defer cancel()
+	options, _, log := miniature(t, ctx, 5)
+	for _, last := range []uint64{3, 9} {
+		r, err := replica.Start(ctx, options, func(replica.State) {})
+		if err != nil {
+			t.Fatal(err)
+		}
+		defer r.Close()
+		if last == 9 {
+			time.AfterFunc(300*time.Millisecond, r.Close)
+		}
+		err = replay(log, content{}, r, names{}, last)
+		if (err == nil) != (last == 3) || err == nil && r.State().Place != 3 {
+			t.Errorf("up to %d: got %v, %v", last, err, r.State())
+		}
+	}
+}
+
+// TestShow checks that a regd that runs out of memory makes no snapshot.
+func TestShow(t *testing.T) {
+	ctx, cancel := context.WithTimeout(context.Background(), time.Minute)
+	defer cancel()
+	options, _, _ := miniature(t, ctx, 0)
+	r, err := replica.Start(ctx, options, func(replica.State) {})
+	if err != nil {
+		t.Fatal(err)
+	}
+	defer r.Close()
+	for i, query := range []string{`{"op":"show"}`, `{"op":"show","hint":"L6"}`, `{"op":"show","hint":"KILL"}`} {
+		if _, err := show(r, query); (err == nil) != (i == 0) {
+			t.Errorf("%s: got %v", query, err)
+		}
+	}
+}
+
+// TestPages makes a snapshot of more entries than a page has. It needs REGD.
+func TestPages(t *testing.T) {
+	ctx, cancel := context.WithTimeout(context.Background(), time.Minute)
+	defer cancel()
+	r := started(t, ctx)
+	var ops []string
+	for number := 0; number < 1200; number++ {
+		ops = append(ops, fmt.Sprintf(`{"op":"create","id":"00000000-0000-4000-8000-%012x","parent":"spiffe://ex.org/spire/agent/n","identity":"spiffe://ex.org/w%d","selectors":["u:1"]}`,
+			number, number))
+	}
+	if err := r.Restore(replica.State{Place: uint64(len(batches(ops)))}, batches(ops), nil); err != nil {
+		t.Fatal(err)
+	}
+	lines, err := bookLines(r, names{})
+	if count := strings.Count(strings.Join(lines, "\n"), `"op":"create"`); count != len(ops) || err != nil {
+		t.Errorf("%d entries, %v", count, err)
+	}
 }
 
 // randomLine returns a change of one of a few rows, sometimes with a token, and sometimes one that regd refuses.

@@ -33,6 +33,7 @@ type Server struct {
 type Counts struct {
 	Requests     int // but for watches
 	Transactions int // with a condition
+	Pages        int // transactions without one
 	Watches      int
 	Pairs, Bytes int // the most pairs, and bytes of their values, in one answer
 	Deleted      int // the most keys by one request
@@ -110,6 +111,18 @@ func (s *Server) Keys() []string {
 		keys = append(keys, key)
 	}
 	sort.Strings(keys)
+	return keys
+}
+
+// Puts returns the keys that were stored, in the order of that.
+func (s *Server) Puts() (keys []string) {
+	s.mu.Lock()
+	defer s.mu.Unlock()
+	for _, one := range s.events {
+		if !one.isDelete {
+			keys = append(keys, string(one.key))
+		}
+	}
 	return keys
 }
 
@@ -244,6 +257,8 @@ func (s *Server) transact(in *request) object {
 	}
 	if len(in.Compare) > 0 {
 		s.counts.Transactions++
+	} else {
+		s.counts.Pages++
 	}
 	responses := []object{}
 	for _, one := range steps {
