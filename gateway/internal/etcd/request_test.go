@@ -146,7 +146,7 @@ func TestConnections(t *testing.T) {
 	}
 }
 
-// TestPauses checks that a request that is refused is not repeated at once.
+// TestPauses checks that there is a pause before a refused request is repeated.
 func TestPauses(t *testing.T) {
 	server, log, _ := openLog(t)
 	for name, request := range map[string]func(context.Context) error{

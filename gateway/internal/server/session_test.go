@@ -246,7 +246,7 @@ func TestSlowReplica(t *testing.T) {
 	}
 }
 
-// TestFreshHead checks that those who wait for etcd share one request, and that nobody gets the answer to one that failed.
+// TestFreshHead checks that those who wait for etcd share one request, and that no caller gets the answer to one that failed.
 func TestFreshHead(t *testing.T) {
 	s := newSite(t)
 	s.log.Append(s.ctx, 1, []byte("a"))

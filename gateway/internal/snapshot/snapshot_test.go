@@ -79,7 +79,7 @@ func TestPublish(t *testing.T) {
 	if got, err := read(ctx, log); err != nil || !reflect.DeepEqual(got, c) {
 		t.Errorf("read %v", err)
 	}
-	for number := 2; number >= 0; number-- { // a newer snapshot deletes all pieces at once, so those that a reader misses are the last ones
+	for number := 2; number >= 0; number-- { // a newer snapshot deletes all pieces together, so a reader misses the last ones
 		log.Delete(ctx, chunkKey(7, number), chunkKey(7, number+1))
 		if _, err := read(ctx, log); err == nil {
 			t.Errorf("a snapshot of %d pieces was read", number)

@@ -38,7 +38,7 @@ FEATURES = [
     ("SIGTERM ends the program", MAIN, "syscall.SIGINT, syscall.SIGTERM", "syscall.SIGINT", "TestProgram"),
     ("votes are labelled with the checksum of regd", MAIN, "sha256.Sum256(text)", "sha256.Sum256(text[:0])", "TestProgram"),
     ("callers come by TLS", MAIN, "if s.TLS, err = s.files", "if _, err = s.files", "TestFiles"),
-    ("etcd is called by TLS", MAIN, "s.prefix, etcdTLS)", "s.prefix, nil)", "TestFiles"),
+    ("etcd is called by TLS", MAIN, "FilesIn(s.etcdFiles)", "FilesIn(s.etcdFiles[:0])", "TestFiles"),
     ("etcd without its certificate is not called", MAIN, "FilesIn(s.etcdFiles).Config()\n\tif err != nil {\n\t\treturn err\n\t}", "FilesIn(s.etcdFiles).Config()", "TestExits"),
     ("operators are a list", MAIN, 'strings.Split(*operators, ",")', "[]string{*operators}", "TestFiles"),
     ("members are a list", MAIN, 'strings.Split(s.members, ",")', "[]string{s.members}", "TestProgram"),

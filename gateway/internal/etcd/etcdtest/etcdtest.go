@@ -22,7 +22,7 @@ type Server struct {
 
 	loseAnswers, refuse int
 	held                int      // the number of the watch that is held
-	told                []string // what all watches were told
+	told                []string // lines that all open watches got
 	counts              Counts
 
 	untilBefore int // transactions
