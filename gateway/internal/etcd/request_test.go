@@ -159,7 +159,7 @@ func TestPauses(t *testing.T) {
 		if err := request(ctx); err != context.DeadlineExceeded {
 			t.Errorf("%s: got %v", name, err)
 		}
-		if count := server.Counts().Requests; count < 1 || count > 5 {
+		if count := server.Counts().Requests; count > 5 {
 			t.Errorf("%s: %d requests", name, count)
 		}
 		cancel()

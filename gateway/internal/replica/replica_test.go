@@ -318,8 +318,8 @@ func TestEnd(t *testing.T) {
 func TestHang(t *testing.T) {
 	long := hangTime
 	t.Cleanup(func() { hangTime = long })
-	hangTime = 800 * time.Millisecond
 	r, _ := start(t)
+	hangTime = 800 * time.Millisecond
 	for place := 1; place <= 10; place++ {
 		r.Apply(1, [][]byte{[]byte(`{"ops":[{"op":"prune","hint":"SLOW"}]}`)}, func(int, []byte) {})
 	}

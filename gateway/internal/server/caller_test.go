@@ -87,6 +87,9 @@ func (a *authority) files(name string) Files {
 func TestCallerOf(t *testing.T) {
 	a := newAuthority(t)
 	operators := []string{"spiffe://ex.org/operator"}
+	named := a.leaf("c", "spiffe://ex.org/operator")
+	named.IsCA, named.BasicConstraintsValid = true, true
+	signed, _ := a.sign("authority", named, a)
 	for _, c := range []struct {
 		name string
 		cert *x509.Certificate
@@ -98,7 +101,7 @@ func TestCallerOf(t *testing.T) {
 		{"no URI", a.leaf("e"), ""},
 		{"two URIs", a.leaf("d", "spiffe://ex.org/operator", n1), ""},
 		{"another scheme", a.leaf("h", "https://ex.org/operator"), ""},
-		{"an authority", a.cert, ""},
+		{"an authority", signed, ""},
 	} {
 		id, isOperator := callerOf(c.cert, operators)
 		if id != c.id || isOperator != (c.name == "an operator") {

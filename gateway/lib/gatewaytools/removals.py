@@ -96,8 +96,8 @@ FEATURES = [
     ("it doesn't wait for ever", SESSION, "context.WithTimeout(ctx, afterTime)", "context.WithCancel(ctx)", "TestGateways"),
     ("answers are sent before it waits", SESSION, "\t\tif !s.writeAnswers(ctx, 0) {\n\t\t\treturn false\n\t\t}\n\t\tlate", "\t\tlate", "TestAnswersDoNotWait"),
     ("it waits for nothing if the commit is there", SESSION, "after > state.Place {", "after > 0 || after > state.Place {", "TestPastAfter"),
-    ("a query is kept while there is no replica", SESSION, "\tif r == nil {\n\t\tq.answer(nil)\n", "\tif r == nil {\n", "TestAnswersDoNotWait"),
-    ("a fresh query has the place of the replica", SESSION, "q.place = state.Place", "q.place = 0", "TestLateWorkers"),
+    ("a query is kept while there is no replica", SESSION, "\tif r == nil {\n\t\tq.answer(nil)\n", "\tif r == nil {\n", "TestReplicaEnds"),
+    ("a fresh query has the place of the replica", SESSION, "q.place = state.Place", "q.place = 0 * state.Place", "TestLateWorkers"),
     ("answers before an unknown one are sent", SESSION, "\t\t\ts.flush()\n\t\t\treturn false", "\t\t\treturn false", "TestWriteAnswers"),
     ("a caller's place is kept", SESSION, "s.place = place\n", "s.place = 0 * place\n", "TestLateWorkers"),
     ("calls are counted", SESSION, "!wire.IsRefusal(reply) {", "true {", "TestOrder"),
@@ -376,7 +376,7 @@ def noticed(folder, feature, env):
     package = next(file.parent for file in sorted(folder.rglob("*_test.go")) if f"func {feature[4]}(" in file.read_text())
     undo = changed(folder, feature)
     try:
-        done = tools.go("test", "-count=1", "-vet=off", "-timeout", "70s", "-run", f"^{feature[4]}$", f"./{package.relative_to(folder)}", cwd=folder,
+        done = tools.go("test", "-count=1", "-vet=off", "-ldflags=-s -w", "-timeout", "70s", "-run", f"^{feature[4]}$", f"./{package.relative_to(folder)}", cwd=folder,
                         env=env, capture_output=True, text=True, errors="replace")
     finally:
         undo()
