@@ -185,6 +185,43 @@ func TestFreshAnswersDoNotWait(t *testing.T) {
 	s.store.Refuse(0)
 }
 
+// TestQueriesOutliveRegd kills regd while it owes replies to queries: they are asked again when there is another replica.
+func TestQueriesOutliveRegd(t *testing.T) {
+	s := newSite(t)
+	g, address, _ := s.gateway("a")
+	conn, in := s.dial(address)
+	const count = 15
+	fmt.Fprint(conn, strings.Repeat(`{"ops":[{"op":"show","hint":"SLOW"}]}`+"\n", count))
+	for call := 1; call <= count; call++ {
+		if got, err := in.ReadString('\n'); got != answered(call, 0)+"\n" {
+			t.Fatalf("got %s, %v", got, err)
+		}
+		if call == 1 {
+			r, _ := g.board.read()
+			process, _ := os.FindProcess(r.Pid())
+			process.Kill()
+		}
+	}
+}
+
+// TestAnswerOnce checks that only the first reply to a line counts, and that nothing waits for the caller to take it.
+func TestAnswerOnce(t *testing.T) {
+	q, done := &request{reply: make(chan []byte, 1)}, make(chan struct{})
+	go func() {
+		q.answer([]byte("a"))
+		q.answer([]byte("b"))
+		close(done)
+	}()
+	select {
+	case <-done:
+	case <-time.After(5 * time.Second):
+		t.Fatal("a second reply waits")
+	}
+	if got := string(<-q.reply); got != "a" {
+		t.Errorf("got %s", got)
+	}
+}
+
 // TestPastAfter checks that a query with the number of a commit that is there doesn't wait for the lines before it.
 func TestPastAfter(t *testing.T) {
 	long := waitTime
