@@ -340,9 +340,17 @@ func TestReplicaIsAway(t *testing.T) {
 	s.log.Append(s.ctx, 1, etcd.JoinEntry("x", [][]byte{[]byte(prune), []byte(`{"ops":[{"op":"prune","hint":"KILL"}]}`)}))
 	within(t, "the replica stays", func() bool { now, _ = g.board.read(); return now == nil })
 	other := New(s.log, Options{Replica: g.options.Replica})
-	ctx, stop := context.WithTimeout(s.ctx, time.Second)
-	defer stop()
-	if err := other.Run(ctx, func(context.Context) error { return errors.New("it is ready") }); !errors.Is(err, context.DeadlineExceeded) {
+	ctx, stop := context.WithCancel(s.ctx)
+	ended := make(chan error, 1)
+	go func() { ended <- other.Run(ctx, func(context.Context) error { return errors.New("it is ready") }) }()
+	for s.store.Recount(); s.store.Counts().Pages < 6; { // of which at least two are for the other gateway
+		if now, _ = other.board.read(); now != nil {
+			t.Error("a replica that always ends is ready")
+			break
+		}
+	}
+	stop()
+	if err := <-ended; err != context.Canceled {
 		t.Error(err)
 	}
 }
