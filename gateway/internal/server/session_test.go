@@ -362,7 +362,7 @@ func TestRunEnds(t *testing.T) {
 		s.log.Put(s.ctx, "sum/p/00000000000003e8/"+name, []byte("00"))
 	}
 	g := New(s.log, Options{Program: "p", Name: "c", Replica: replica.Options{Program: os.Args[0], Domain: "ex.org", Workers: 2}})
-	isOver := false
+	isOver, begin := false, time.Now()
 	err := g.Run(s.ctx, func(ctx context.Context) error {
 		g.executed(replica.State{Entry: voteInterval - 1})
 		g.executed(replica.State{Entry: voteInterval})
@@ -370,8 +370,8 @@ func TestRunEnds(t *testing.T) {
 		isOver = true
 		return nil
 	})
-	if err != ErrOutvoted || !isOver {
-		t.Errorf("got %v, %v", err, isOver)
+	if took := time.Since(begin); err != ErrOutvoted || !isOver || took > 20*time.Second {
+		t.Errorf("got %v, %v after %v", err, isOver, took)
 	}
 }
 

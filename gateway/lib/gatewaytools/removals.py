@@ -146,7 +146,7 @@ FEATURES = [
     ("the log is read again after an error", FOLLOW, '"next", next, "error", err)\n', '"next", next, "error", err)\n\t\treturn err\n', "TestSilentWatch"),
     ("after a pause too", FOLLOW, "\t\tetcd.Pause(ctx, againTime)\n\t}\n}\n\n// executed", "\t}\n}\n\n// executed", "TestPausesOfReplicas"),
     ("the board follows the replica", FOLLOW, "g.board.update(func() { g.board.state = state })", "g.board.update(func() {})", "TestGateways"),
-    ("a gateway votes", FOLLOW, "case g.marks <- state:", "case nil <- state:", "TestMarks"),
+    ("a gateway votes", FOLLOW, "case g.marks <- state:", "case make(chan replica.State) <- state:", "TestMarks"),
     ("every 1,000 entries", FOLLOW, "if state.Entry%voteInterval == 0 {", "{", "TestMarks"),
     ("votes never hold up a replica", FOLLOW, "\t\tdefault: // while etcd doesn't answer, those that there is no room for don't count\n", "", "TestMarks"),
     ("the status says where the log ends", FOLLOW, "\t\tg.heard(head)\n", "", "TestStatus"),
