@@ -1,6 +1,7 @@
 pub mod FoundEntries
 pub mod Batches
 pub mod Bounds
+pub mod Cases
 pub mod Counts
 pub mod Deciding
 pub mod InOrder

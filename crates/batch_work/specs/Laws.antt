@@ -1,5 +1,5 @@
 -- The laws of what batches read. Each is a clause of a function of the module `laws`.
-use Rattle.std.specs.Prelude.{◌≡◌, ◌↔◌, ◌+◌, ◌*◌, ◌≤◌, true, false, List, [], ◌∷◌, ◌++◌, Some, None, Ok, ℕ, take}
+use Rattle.std.specs.Prelude.{◌≡◌, ◌↔◌, ◌+◌, ◌*◌, ◌≤◌, true, false, List, [], ◌∷◌, ◌++◌, Option, Some, None, Ok, ℕ, take}
 use Rattle.std.specs.List.{AllByRecursion, list_any}
 use Rattle.entry_book.specs.declared.limit.Limit.{Limit}
 use Rattle.entry_book.specs.declared.op.Op.{Op}
@@ -18,10 +18,29 @@ use Rattle.version_book.specs.Applying.{MayApply}
 use Rattle.version_book.specs.Marks.{Agree}
 use Rattle.version_book.specs.CommittedRows.{State, book_of, next_state}
 use Rattle.version_book.specs.History.{Commits, Follows, IsLast, any_hits, state_with}
-use Rattle.batch_work.specs.Reads.{marks_of_ops, footprint_on, awaits_on, footprint_of, awaits_commit}
+use Rattle.batch_work.specs.Reads.{marks_of_ops, footprint_on, footprint_at, awaits_on, awaits_at, footprint_of, awaits_commit, case_on, case_at, footprint_in, awaits_in, verdict_in}
 use Rattle.batch_work.specs.Windows.{Window, IsNext, StandsFor, book_in, pushed}
 use Rattle.batch_work.specs.declared.status.Status.TheVariants.{Ready, Running}
 use Rattle.batch_work.specs.Working.{Base, Work, base_in, footprint_there, awaits_there, marks_so_far, reply_there, status_of, status_on}
+
+-- ---- case by case
+
+-- the plain book's verdict is that of the case
+abbrev pub VerdictByCase : Type 0
+VerdictByCase = (batch : Batch) (place : ℕ) (b : Option Book) → verdict batch place b ≡ verdict_in batch place (case_at batch place b)
+
+-- For the next commit alone: the footprint, and whether a batch awaits its commit, are those of the case.
+abbrev pub FootprintByCase : Type 0
+FootprintByCase = (batch : Batch) (place : ℕ) (b : Option Book) → footprint_at batch place b ≡ footprint_in batch (case_at batch place b)
+
+abbrev pub FootprintOnByCase : Type 0
+FootprintOnByCase = (batch : Batch) (b : Book) → footprint_on batch (Some b) ≡ footprint_in batch (case_on batch b)
+
+abbrev pub AwaitsByCase : Type 0
+AwaitsByCase = (batch : Batch) (place : ℕ) (b : Option Book) → awaits_at batch place b ≡ awaits_in batch (case_at batch place b)
+
+abbrev pub AwaitsOnByCase : Type 0
+AwaitsOnByCase = (batch : Batch) (b : Book) → awaits_on batch (Some b) ≡ awaits_in batch (case_on batch b)
 
 -- ---- what is read decides
 

@@ -1,6 +1,7 @@
 -- The table of reads: which marks an operation reads on the book that it finds, in their order, up to the one that shows its refusal; and the footprint of a batch, which is its reads, one operation after another.
-use Rattle.std.specs.Prelude.{ℕ, zero, suc, ◌+◌, Bool, true, false, not, List, [], ◌∷◌, ◌++◌, filter, map, flat_map, length, nat_lt, Option, Some, None, Ok, Err, is_some, bytes_eq, if◌then◌else◌}
+use Rattle.std.specs.Prelude.{ℕ, zero, suc, ◌+◌, Bool, true, false, not, ◌&&◌, List, [], ◌∷◌, ◌++◌, filter, map, flat_map, length, nat_lt, Option, Some, None, Ok, Err, is_ok, is_some, bytes_eq, if◌then◌else◌}
 use Rattle.std.specs.List.{list_any}
+use Rattle.std.specs.Option.{option_map_or}
 use Rattle.spiffe_name.specs.Id.{server_text}
 use Rattle.entry_book.specs.declared.agent.Agent.{Agent}
 use Rattle.entry_book.specs.declared.bundle.Bundle.{Bundle}
@@ -8,6 +9,8 @@ use Rattle.entry_book.specs.declared.entry.NewEntry.{NewEntry}
 use Rattle.entry_book.specs.declared.kept.KeptBatch.{KeptBatch}
 use Rattle.entry_book.specs.declared.op.Op.{Op}
 use Rattle.entry_book.specs.declared.op.Op.TheVariants.{Create, Update, Delete, Show, ShowAgent, ShowBundle, Children, Page, Authorised, Trust, Prune, SetAgent, DropAgent, SetBundle, DropBundle}
+use Rattle.entry_book.specs.declared.reply.OpRefusal.TheVariants.{VersionGone}
+use Rattle.entry_book.specs.declared.reply.Refusal.TheVariants.{NotYet, OfOp}
 use Rattle.entry_book.specs.Rows.{Bytes, Entry, at_revision}
 use Rattle.entry_book.specs.Order.{first, with_row}
 use Rattle.entry_book.specs.Book.{Book, entry_at, agent_at, bundle_at, children_of}
@@ -16,7 +19,8 @@ use Rattle.entry_book.specs.Authorised.{holds, authorised}
 use Rattle.entry_book.specs.Ops.{OpEffect, OpResult, similar, is_stale, op_of}
 use Rattle.entry_book.specs.Runs.{RunResult, run}
 use Rattle.entry_book.specs.Batches.{Batch, is_query, past_place}
-use Rattle.entry_book.specs.History.{place_of, book_for, kept_under}
+use Rattle.entry_book.specs.History.{Verdict, refuses, place_of, book_for, kept_under, verdict_again, verdict_run}
+use Rattle.entry_book.specs.SameOps.{ops_eq}
 use Rattle.version_book.specs.declared.mark.MarkKind.{MarkKind}
 use Rattle.version_book.specs.declared.mark.MarkKind.TheVariants as mark
 
@@ -167,3 +171,45 @@ footprint_of batch books = footprint_at batch (place_of books) (book_for (past_p
 
 abbrev pub awaits_commit : Batch → List Book → Bool
 awaits_commit batch books = awaits_at batch (place_of books) (book_for (past_place batch.ops) books)
+
+-- ---- what a batch meets, at a place, and what follows in each case
+
+-- It comes too early; the book of its page is gone, or not there yet; a batch is kept under its token; or it runs on this book.
+pub data Case : Type 0 where
+  early : Case
+  gone : Case
+  kept : KeptBatch → Case
+  runs : Book → Case
+
+-- on the book that it reads, where it doesn't come too early
+abbrev pub case_on : Batch → Book → Case
+case_on batch b = option_map_or kept (kept_under batch.token b) (runs b)
+
+-- at this place, with the book that it reads, where this is there
+abbrev pub case_at : Batch → ℕ → Option Book → Case
+case_at batch place b = if nat_lt place batch.after then early else option_map_or (case_on batch) b gone
+
+-- on the list of all books
+abbrev pub case_of : Batch → List Book → Case
+case_of batch books = case_at batch (place_of books) (book_for (past_place batch.ops) books)
+
+-- Its reads: none where it comes too early; one that shows that the book isn't there; what is kept under its token, where it carries one; and then those of its operations, where it runs.
+abbrev pub footprint_in : Batch → Case → List MarkKind
+footprint_in batch early = []
+footprint_in batch gone = mark.All ∷ []
+footprint_in batch (kept k) = token_marks batch.token
+footprint_in batch (runs b) = token_marks batch.token ++ marks_of_ops batch.domain batch.ops b
+
+-- It has changes that await their commit where it runs, doesn't only ask, and no operation is refused.
+abbrev pub awaits_in : Batch → Case → Bool
+awaits_in batch early = false
+awaits_in batch gone = false
+awaits_in batch (kept k) = false
+awaits_in batch (runs b) = not (is_query batch.ops) && is_ok (run batch.domain batch.ops b)
+
+-- the plain book's verdict
+abbrev pub verdict_in : Batch → ℕ → Case → Verdict
+verdict_in batch place early = refuses NotYet
+verdict_in batch place gone = refuses (OfOp 0 VersionGone)
+verdict_in batch place (kept k) = verdict_again (ops_eq k.ops batch.ops) k
+verdict_in batch place (runs b) = verdict_run batch place b
