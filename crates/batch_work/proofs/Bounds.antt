@@ -2,6 +2,7 @@
 use Rattle.std.proofs.Common.{◌≡◌, ℕ, suc, ◌+◌, ◌*◌, ◌^◌, ◌≤◌, Bool, true, false, cond, List, [], ◌∷◌, ◌++◌, length, map, Option, Some, None, Result, Ok, Err, refl, sym, ap, subst, IfSome, IfOk, arith, length-append}
 use Rattle.std.specs.Prelude.{flat_map, is_some, nat_lt, option_to_list}
 use Rattle.std.specs.List.{AllByRecursion}
+use Rattle.std.specs.Option.{option_map_or}
 use Rattle.std.proofs.Math.Nat.{suc-mul}
 use Rattle.std.proofs.lemmas.List.{length-map}
 use Rattle.std.proofs.lemmas.Nat.{mul-le}
@@ -30,7 +31,7 @@ use Rattle.entry_book.proofs.Unfaulted.{entry_faults}
 use Rattle.version_book.specs.declared.mark.MarkKind.TheVariants as mark
 use Rattle.version_book.specs.declared.mark.MarkKind.{MarkKind}
 use Rattle.batch_work.specs.Bounds.{identity_put, identities_put, identities_of, count_of_identities, sets_bundle, count_of_sets, most_reads, IsBounded, OpReadsBounded, BatchReadsBounded, ReadsAreFew, ReadsAreFewAnywhere}
-use Rattle.batch_work.specs.Reads.{text_set, bundle_marks, marks_beside, put_marks, create_marks, update_marks_when, update_marks, walk, walk_marks, for_agent_marks, domains_of, trust_marks, drop_marks, marks_of, marks_after, marks_of_ops, token_marks, footprint_over, footprint_on}
+use Rattle.batch_work.specs.Reads.{early, gone, kept, runs, case_on, text_set, bundle_marks, marks_beside, put_marks, create_marks, update_marks_when, update_marks, walk, walk_marks, for_agent_marks, domains_of, trust_marks, drop_marks, marks_of, marks_after, marks_of_ops, token_marks, footprint_in}
 use Rattle.batch_work.proofs.Counts.{no_longer, once}
 use Rattle.batch_work.proofs.Deciding.{split_all}
 use Rattle.batch_work.proofs.Names.{domain_set, IsNamed, PutsNamed, named_after_op, named_after_run}
@@ -186,9 +187,9 @@ token_few : (o : Option Bytes) → length (token_marks o) ≡ length (option_to_
 token_few None = refl
 token_few (Some k) = refl
 
-over_few : (o : Option KeptBatch) (batch : Batch) (b : Book) → length (footprint_over o batch b) ≤ length (marks_of_ops batch.domain batch.ops b)
-over_few None batch b = omega arith
-over_few (Some k) batch b = omega arith
+case_few : (batch : Batch) (b : Book) (o : Option KeptBatch) → length (footprint_in batch (option_map_or kept o (runs b))) ≤ length (token_marks batch.token) + length (marks_of_ops batch.domain batch.ops b)
+case_few batch b (Some k) = omega arith
+case_few batch b None = let a = length-append (token_marks batch.token) (marks_of_ops batch.domain batch.ops b) in omega arith
 
 pub batch_reads_bounded : BatchReadsBounded
 batch_reads_bounded own most batch b made l few =
@@ -198,9 +199,8 @@ batch_reads_bounded own most batch b made l few =
     let r = footprint_few (identities batch b) (domains batch.ops b) (1024 + count_of_sets batch.ops) (domains_few batch.ops b few) (omega arith) d most batch.ops b made.proper faultless.none (all_put batch batch.ops b (λ op w. w)) l' (at_first batch batch.ops b) in
     let same : 3 + length (identities batch b) + (1024 + count_of_sets batch.ops) ≡ most_reads batch batch.ops b = omega arith in
     let r' : length (marks_of_ops d batch.ops b) ≤ length batch.ops * most_reads batch batch.ops b = subst (λ n. length (marks_of_ops d batch.ops b) ≤ length batch.ops * n) same r in
-    let a = length-append (token_marks batch.token) (footprint_over (kept_under batch.token b) batch b) in
     let t = token_few batch.token in
-    let o = over_few (kept_under batch.token b) batch b in
+    let o = case_few batch b (kept_under batch.token b) in
     omega arith
 
 -- ---- in numbers
@@ -239,12 +239,12 @@ reads_are_few own batch b made bounded =
     let t = one_token batch.token in
     omega arith
 
-few_on : (own : Bytes) (batch : Batch) (b : Option Book) → IsMadeFor own batch → IfSome b (IsBounded own) → length (footprint_on batch b) ≤ 2 ^ 21
-few_on own batch None made bounded = omega arith
-few_on own batch (Some b) made bounded = reads_are_few own batch b made bounded
+few_read : (own : Bytes) (batch : Batch) (b : Option Book) → IsMadeFor own batch → IfSome b (IsBounded own) → length (footprint_in batch (option_map_or (case_on batch) b gone)) ≤ 2 ^ 21
+few_read own batch None made bounded = omega arith
+few_read own batch (Some b) made bounded = reads_are_few own batch b made bounded
 
 pub reads_are_few_anywhere : ReadsAreFewAnywhere
-reads_are_few_anywhere own batch place b made bounded = elim (nat_lt place batch.after) as (λ t. length (cond t [] (footprint_on batch b)) ≤ 2 ^ 21) [
+reads_are_few_anywhere own batch place b made bounded = elim (nat_lt place batch.after) as (λ t. length (footprint_in batch (cond t early (option_map_or (case_on batch) b gone))) ≤ 2 ^ 21) [
   | true ↦ omega arith
-  | false ↦ few_on own batch b made bounded
+  | false ↦ few_read own batch b made bounded
 ]

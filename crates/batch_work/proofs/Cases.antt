@@ -1,16 +1,16 @@
 -- What a batch meets, and what follows from it.
-use Rattle.std.proofs.Common.{◌≡◌, ℕ, Bool, true, false, cond, not, ◌&&◌, List, [], ◌∷◌, ◌++◌, Option, Some, None, Ok, Err, refl}
+use Rattle.std.proofs.Common.{◌≡◌, ℕ, ◌≤◌, Bool, true, false, cond, not, ◌&&◌, Option, Some, None, Ok, Err, refl, sym, ap, ◌∙◌}
 use Rattle.std.specs.Prelude.{nat_lt, is_ok}
 use Rattle.std.specs.Option.{option_map_or}
-use Rattle.std.proofs.lemmas.List.{append-nil}
+use Rattle.std.proofs.lemmas.Bool.{le-ltb}
 use Rattle.entry_book.specs.declared.kept.KeptBatch.{KeptBatch}
 use Rattle.entry_book.specs.declared.reply.Refusal.TheVariants.{NotYet}
 use Rattle.entry_book.specs.Batches.{Batch, is_query}
 use Rattle.entry_book.specs.Book.{Book}
 use Rattle.entry_book.specs.History.{kept_under, refuses, verdict_on, verdict_over}
-use Rattle.entry_book.specs.Runs.{RunResult, run}
-use Rattle.batch_work.specs.Laws.{AwaitsByCase, AwaitsOnByCase, FootprintByCase, FootprintOnByCase, VerdictByCase}
-use Rattle.batch_work.specs.Reads.{Case, early, gone, kept, runs, case_on, token_marks, footprint_in, awaits_in, verdict_in, footprint_over, footprint_on, awaits_when, awaits_over, awaits_on}
+use Rattle.entry_book.specs.Runs.{RunEffect, RunResult, run}
+use Rattle.batch_work.specs.Laws.{VerdictByCase}
+use Rattle.batch_work.specs.Reads.{Case, early, gone, kept, runs, case_on, case_at, awaits_in, verdict_in}
 
 -- ---- the plain book's verdict
 
@@ -29,46 +29,34 @@ verdict_time false batch place o = verdict_read o batch place
 pub verdict_by_case : VerdictByCase
 verdict_by_case batch place o = verdict_time (nat_lt place batch.after) batch place o
 
--- ---- the older definitions
+-- ---- it runs on a book
 
-footprint_kept : (o : Option KeptBatch) (batch : Batch) (b : Book) → token_marks batch.token ++ footprint_over o batch b ≡ footprint_in batch (option_map_or kept o (runs b))
-footprint_kept (Some k) batch b = append-nil (token_marks batch.token)
-footprint_kept None batch b = refl
+pub runs_there : (batch : Batch) (place : ℕ) (b : Book) → batch.after ≤ place → kept_under batch.token b ≡ None → case_at batch place (Some b) ≡ runs b
+runs_there batch place b in_time free = ap (λ t. cond t early (case_on batch b)) (le-ltb place batch.after in_time) ∙ ap (λ o. option_map_or kept o (runs b)) free
 
-pub footprint_on_by_case : FootprintOnByCase
-footprint_on_by_case batch b = footprint_kept (kept_under batch.token b) batch b
+pub unkept : (o : Option KeptBatch) (b c : Book) → option_map_or kept o (runs b) ≡ runs c → (o ≡ None) × (b ≡ c)
+unkept (Some k) b c e = cc
+unkept None b c e = let q : b ≡ c = cc in (refl, q)
 
-footprint_read : (o : Option Book) (batch : Batch) → footprint_on batch o ≡ footprint_in batch (option_map_or (case_on batch) o gone)
-footprint_read None batch = refl
-footprint_read (Some b) batch = footprint_on_by_case batch b
+-- only where it doesn't come too early, on the book that it reads, and nothing is kept there under its token
+pub of_runs : (t : Bool) (batch : Batch) (o : Option Book) (b : Book) → cond t early (option_map_or (case_on batch) o gone) ≡ runs b → (t ≡ false) × (o ≡ Some b) × (kept_under batch.token b ≡ None)
+of_runs true batch o b e = cc
+of_runs false batch None b e = cc
+of_runs false batch (Some c) b e = let k = unkept (kept_under batch.token c) c b e in (refl, ap Some k.1, ap (kept_under batch.token) (sym k.1) ∙ k.0)
 
-footprint_time : (t : Bool) (batch : Batch) (o : Option Book) → cond t [] (footprint_on batch o) ≡ footprint_in batch (cond t early (option_map_or (case_on batch) o gone))
-footprint_time true batch o = refl
-footprint_time false batch o = footprint_read o batch
+-- ---- it awaits its commit
 
-pub footprint_by_case : FootprintByCase
-footprint_by_case batch place o = footprint_time (nat_lt place batch.after) batch o
+ok_waits : (query : Bool) (r : RunResult) → (not query && is_ok r) ≡ true → (query ≡ false) × (t : RunEffect) × (r ≡ Ok t)
+ok_waits true r e = cc
+ok_waits false (Err s) e = cc
+ok_waits false (Ok t) e = (refl, t, refl)
 
-awaits_run : (query : Bool) (r : RunResult) → awaits_when query r ≡ (not query && is_ok r)
-awaits_run true (Err s) = refl
-awaits_run false (Err s) = refl
-awaits_run true (Ok t) = refl
-awaits_run false (Ok t) = refl
+-- where it runs on this book, some operation changes it, and all are accepted
+abbrev pub Waits : Batch → Case → Type 0
+Waits batch c = (b : Book) × (c ≡ runs b) × (is_query batch.ops ≡ false) × (t : RunEffect) × (run batch.domain batch.ops b ≡ Ok t)
 
-awaits_kept : (o : Option KeptBatch) (batch : Batch) (b : Book) → awaits_over o batch b ≡ awaits_in batch (option_map_or kept o (runs b))
-awaits_kept (Some k) batch b = refl
-awaits_kept None batch b = awaits_run (is_query batch.ops) (run batch.domain batch.ops b)
-
-pub awaits_on_by_case : AwaitsOnByCase
-awaits_on_by_case batch b = awaits_kept (kept_under batch.token b) batch b
-
-awaits_read : (o : Option Book) (batch : Batch) → awaits_on batch o ≡ awaits_in batch (option_map_or (case_on batch) o gone)
-awaits_read None batch = refl
-awaits_read (Some b) batch = awaits_on_by_case batch b
-
-awaits_time : (t : Bool) (batch : Batch) (o : Option Book) → cond t false (awaits_on batch o) ≡ awaits_in batch (cond t early (option_map_or (case_on batch) o gone))
-awaits_time true batch o = refl
-awaits_time false batch o = awaits_read o batch
-
-pub awaits_by_case : AwaitsByCase
-awaits_by_case batch place o = awaits_time (nat_lt place batch.after) batch o
+pub waits : (batch : Batch) (c : Case) → awaits_in batch c ≡ true → Waits batch c
+waits batch early e = cc
+waits batch gone e = cc
+waits batch (kept k) e = cc
+waits batch (runs b) e = let r = ok_waits (is_query batch.ops) (run batch.domain batch.ops b) e in (b, refl, r.0, r.1, r.2)

@@ -1,10 +1,13 @@
 -- In which order the reads of a batch stand.
-use Rattle.std.proofs.Common.{◌≡◌, List, [], ◌∷◌, ◌++◌, Ok, Err, refl, sym, ap, ◌∙◌}
+use Rattle.std.proofs.Common.{◌≡◌, List, [], ◌∷◌, ◌++◌, Option, Some, None, Ok, Err, refl, sym, ap, ◌∙◌}
+use Rattle.std.specs.Option.{option_map_or}
 use Rattle.std.proofs.lemmas.List.{append_assoc}
+use Rattle.entry_book.specs.declared.kept.KeptBatch.{KeptBatch}
 use Rattle.entry_book.specs.declared.op.Op.{Op}
 use Rattle.entry_book.specs.declared.reply.OpReply.{OpReply}
 use Rattle.entry_book.specs.Rows.{Bytes}
-use Rattle.entry_book.specs.Book.{Book}
+use Rattle.entry_book.specs.Batches.{Batch}
+use Rattle.entry_book.specs.Book.{Book, token_at}
 use Rattle.entry_book.specs.Writes.{RowWrite, after}
 use Rattle.entry_book.specs.History.{kept_under}
 use Rattle.entry_book.specs.Ops.{OpEffect, OpResult, op_of}
@@ -13,7 +16,7 @@ use Rattle.entry_book.proofs.Changed.{after-append}
 use Rattle.version_book.specs.declared.mark.MarkKind.{MarkKind}
 use Rattle.version_book.specs.declared.mark.MarkKind.TheVariants as mark
 use Rattle.batch_work.specs.Bounds.{ReadsInOrder, TokenReadFirst, KeptReadOnly}
-use Rattle.batch_work.specs.Reads.{marks_of, marks_after, marks_of_ops, token_marks, footprint_over}
+use Rattle.batch_work.specs.Reads.{kept, runs, case_on, marks_of, marks_after, marks_of_ops, token_marks, footprint_in}
 
 abbrev ran : RunEffect → RunResult
 ran t = Ok t
@@ -45,8 +48,12 @@ module _ (own : Bytes) (op : Op) (later : List Op) where
 pub reads_in_order : ReadsInOrder
 reads_in_order own before op later b t e = splits own op later before b t e
 
+-- what a batch meets on a book under whose token this is kept
+meets : (batch : Batch) (b : Book) (k : Bytes) (o : Option KeptBatch) → batch.token ≡ Some k → token_at k b ≡ o → case_on batch b ≡ option_map_or kept o (runs b)
+meets batch b k o e n = ap (λ x. option_map_or kept x (runs b)) (ap (λ t. kept_under t b) e ∙ n)
+
 pub token_read_first : TokenReadFirst
-token_read_first batch b k e n = ap (λ o. token_marks o ++ footprint_over (kept_under o b) batch b) e ∙ ap (λ o. mark.Token k ∷ footprint_over o batch b) n
+token_read_first batch b k e n = ap (footprint_in batch) (meets batch b k None e n) ∙ ap (λ t. token_marks t ++ marks_of_ops batch.domain batch.ops b) e
 
 pub kept_read_only : KeptReadOnly
-kept_read_only batch b k kept e n = ap (λ o. token_marks o ++ footprint_over (kept_under o b) batch b) e ∙ ap (λ o. mark.Token k ∷ footprint_over o batch b) n
+kept_read_only batch b k row e n = ap (footprint_in batch) (meets batch b k (Some row) e n) ∙ ap token_marks e

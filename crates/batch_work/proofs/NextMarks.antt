@@ -1,6 +1,6 @@
 -- Which mark a work that runs reads next.
 use Rattle.std.proofs.Common.{◌≡◌, ℕ, List, [], ◌∷◌, ◌++◌, length, get_or, Some, None, Ok, Err, IfOk, refl, sym, ap, ◌∙◌}
-use Rattle.std.specs.Prelude.{MatchResult, Result, option_map, slice_get}
+use Rattle.std.specs.Prelude.{MatchResult, Result, slice_get}
 use Rattle.spiffe_name.specs.Id.{server_text}
 use Rattle.entry_book.specs.declared.op.Op.{Op}
 use Rattle.entry_book.specs.declared.reply.OpReply.{OpReply}
@@ -9,19 +9,17 @@ use Rattle.entry_book.specs.Book.{Book}
 use Rattle.entry_book.specs.Writes.{RowWrite}
 use Rattle.entry_book.specs.Ops.{OpResult}
 use Rattle.entry_book.specs.Batches.{Batch, past_place}
-use Rattle.entry_book.specs.History.{kept_under}
 use Rattle.version_book.specs.declared.mark.MarkKind.{MarkKind}
 use Rattle.version_book.specs.declared.mark.MarkKind.TheVariants as mark
 use Rattle.batch_work.specs.declared.phase.Phase.{Phase}
 use Rattle.batch_work.specs.declared.stage.Found.{Found}
 use Rattle.batch_work.specs.declared.stage.Found.TheVariants as found
-use Rattle.batch_work.specs.Reads.{token_marks, footprint_on, footprint_over}
+use Rattle.batch_work.specs.Reads.{footprint_in}
 use Rattle.batch_work.specs.Steps.{Plays, mark_of}
-use Rattle.batch_work.specs.Windows.{book_in}
 use Rattle.batch_work.specs.Working.{Base, footprint_there, version_read}
 use Rattle.batch_work.specs.Standing.{AtStart, AtToken, Going, InTime, StandsRead, later_marks}
 use Rattle.batch_work.proofs.Looking.{op_is}
-use Rattle.batch_work.proofs.Standing.{reads_in_time, reads_there}
+use Rattle.batch_work.proofs.Standing.{meets_none, token_first}
 
 -- the item behind these
 at_length : {X : Type 0} (xs : List X) (y : X) (ys : List X) → slice_get (xs ++ y ∷ ys) (length xs) ≡ Some y
@@ -37,15 +35,13 @@ module _ (batch : Batch) (base : Base) (marks : List MarkKind) where
   first_left server op p b (m ∷ ms) o h later f = behind m (ms ++ later) f ∙ ap Some h.0
 
   pub next_gone : InTime batch base → version_read (past_place batch.ops) base ≡ None → marks ≡ [] → slice_get (footprint_there batch base) (length marks) ≡ Some mark.All
-  next_gone t g e = behind mark.All [] (ap (λ l. l ++ mark.All ∷ []) e ∙ sym (reads_in_time batch base t ∙ ap (λ v. footprint_on batch (option_map book_in v)) g))
+  next_gone t g e = behind mark.All [] (ap (λ l. l ++ mark.All ∷ []) e ∙ sym (ap (footprint_in batch) (meets_none batch base t g)))
 
   module _ (changes : List RowWrite) (replies : List OpReply) where
     pub next_token : (k : Bytes) → AtStart batch base marks changes replies → AtToken batch base k → slice_get (footprint_there batch base) (length marks) ≡ Some (mark.Token k)
     next_token k a t =
-        let kept = kept_under batch.token (book_in t.s) in
-        let later : List MarkKind = footprint_over kept batch (book_in t.s) in
-        behind (mark.Token k) later (ap (λ l. l ++ mark.Token k ∷ later) a.no_marks
-        ∙ sym (reads_there batch base a.in_time t.s t.read_is kept refl ∙ ap (λ t. token_marks t ++ later) t.token_is))
+        let read = token_first batch base a.in_time t.s t.read_is k t.token_is in
+        behind (mark.Token k) read.0 (ap (λ l. l ++ mark.Token k ∷ read.0) a.no_marks ∙ sym read.1)
 
     -- a read that was made and is to be taken down
     pub next_read : (m : MarkKind) (f : Found) → StandsRead m f batch base marks changes replies → slice_get (footprint_there batch base) (length marks) ≡ Some m

@@ -1,16 +1,18 @@
 -- What a work that is at its end has read.
 use Rattle.std.proofs.Common.{◌≡◌, ℕ, Bool, true, false, cond, [], length, Option, Some, None, refl, sym, ap, ◌∙◌}
 use Rattle.std.specs.Prelude.{nat_lt, option_map}
+use Rattle.std.specs.Option.{option_map_or}
 use Rattle.std.proofs.lemmas.Bool.{ltb-false}
 use Rattle.std.proofs.lemmas.List.{take_all}
 use Rattle.entry_book.specs.Batches.{Batch, past_place}
 use Rattle.entry_book.proofs.PastPages.{changes_newest}
 use Rattle.batch_work.specs.declared.status.Status.TheVariants.{Ready, Running}
-use Rattle.batch_work.specs.Reads.{awaits_on, footprint_on}
+use Rattle.batch_work.specs.Reads.{early, gone, case_on, footprint_in, awaits_in}
 use Rattle.batch_work.specs.Windows.{book_in}
-use Rattle.batch_work.specs.Working.{Base, version_read, book_read, end_status, footprint_there, awaits_there, marks_from, status_from, status_on}
+use Rattle.batch_work.specs.Working.{Base, version_read, book_read, case_there, end_status, footprint_there, awaits_there, marks_from, status_from, status_on}
 use Rattle.batch_work.specs.Laws.{EndHasRead, ReadyHasRead}
-use Rattle.batch_work.proofs.Batches.{early_waits, late, some_book}
+use Rattle.batch_work.proofs.Batches.{late}
+use Rattle.batch_work.proofs.Cases.{of_runs, waits}
 
 at_end : (t w : Bool) → (cond t Running (end_status w) ≡ Running → ⊥) → t ≡ false
 at_end true w n = absurd (n refl)
@@ -36,15 +38,15 @@ ready_has_read own w made e =
     let b = begun w.base w.batch w.steps e in
     let base : Base = b.0 in
     let r = of_ready (nat_lt w.steps (length (footprint_there w.batch base))) (awaits_there w.batch base) b.2 in
-    let time = early_waits (nat_lt base.newest.number w.batch.after) w.batch (book_read w.batch base) r.1 in
-    let s = some_book w.batch (book_read w.batch base) time.1 in
-    let newest : past_place w.batch.ops ≡ None = changes_newest own w.batch made s.2.1 in
-    let read : book_read w.batch base ≡ Some (book_in base.newest) = ap (λ o. option_map book_in (version_read o base)) newest in
+    let wait = waits w.batch (case_there w.batch base) r.1 in
+    let runs_on = of_runs (nat_lt base.newest.number w.batch.after) w.batch (book_read w.batch base) wait.0 wait.1 in
+    let newest : past_place w.batch.ops ≡ None = changes_newest own w.batch made wait.2 in
+    let meets : case_there w.batch base ≡ case_on w.batch (book_in base.newest) = ap (λ t. cond t early (option_map_or (case_on w.batch) (book_read w.batch base) gone)) runs_on.0 ∙ ap (λ o. option_map_or (case_on w.batch) (option_map book_in (version_read o base)) gone) newest in
     record {
       base = base;
       base_is = b.1;
       all_read = ap (λ o. marks_from o w.batch w.steps) b.1 ∙ end_has_read w.batch base w.steps (not_running w.batch base w.steps b.2);
-      newest_read = ap (λ t. cond t [] (footprint_on w.batch (book_read w.batch base))) time.0 ∙ ap (footprint_on w.batch) read;
-      in_time = late base.newest.number w.batch.after time.0;
-      awaits = ap (awaits_on w.batch) (sym read) ∙ time.1;
+      newest_read = ap (footprint_in w.batch) meets;
+      in_time = late base.newest.number w.batch.after runs_on.0;
+      awaits = ap (awaits_in w.batch) (sym meets) ∙ r.1;
     }

@@ -1,7 +1,8 @@
 -- A read, and what it shows, keep a work's course.
-use Rattle.std.proofs.Common.{◌≡◌, ℕ, zero, suc, ◌+◌, ◌*◌, ◌<◌, ◌≤◌, ◌^◌, Bool, true, false, cond, List, [], ◌∷◌, ◌++◌, length, drop, Option, Some, None, Ok, Err, IfOk, refl, sym, ap, subst, ◌∙◌, arith}
-use Rattle.std.specs.Prelude.{nat_lt, option_map}
+use Rattle.std.proofs.Common.{◌≡◌, ℕ, zero, suc, ◌+◌, ◌*◌, ◌<◌, ◌≤◌, ◌^◌, Bool, true, false, cond, not, ◌&&◌, List, [], ◌∷◌, ◌++◌, length, drop, Option, Some, None, Ok, Err, IfOk, refl, sym, ap, subst, ◌∙◌, arith}
+use Rattle.std.specs.Prelude.{nat_lt, is_ok, option_map}
 use Rattle.std.specs.List.{AllByRecursion}
+use Rattle.std.specs.Option.{option_map_or}
 use Rattle.std.proofs.lemmas.List.{append_assoc, append-nil}
 use Rattle.spiffe_name.specs.Id.{server_text}
 use Rattle.entry_book.specs.declared.kept.KeptBatch.{KeptBatch}
@@ -19,7 +20,7 @@ use Rattle.entry_book.specs.Writes.{RowWrite, after}
 use Rattle.entry_book.specs.Ops.{OpResult, OpEffect, op_of}
 use Rattle.entry_book.specs.Runs.{RunEffect, RunResult, then_run, onto, run}
 use Rattle.entry_book.specs.Batches.{Batch, IsMadeFor, IsProperOp, is_query, op_fault, past_place}
-use Rattle.entry_book.specs.History.{kept_under, token_writes, batch_writes, verdict_on, verdict_over, verdict_when, verdict_again, refuses, reply_with}
+use Rattle.entry_book.specs.History.{kept_under, token_writes, batch_writes, verdict_when, verdict_again, reply_with}
 use Rattle.entry_book.specs.Lawful.{Lawful}
 use Rattle.entry_book.proofs.Changed.{after-append}
 use Rattle.entry_book.proofs.Faults.{no_fault}
@@ -33,11 +34,12 @@ use Rattle.batch_work.specs.declared.phase.Phase.{Phase}
 use Rattle.batch_work.specs.declared.phase.Phase.TheVariants as phase
 use Rattle.batch_work.specs.declared.phase.Next.{Next}
 use Rattle.batch_work.specs.declared.phase.Next.TheVariants.{Goes, Ends, Refused}
-use Rattle.batch_work.specs.Reads.{marks_of, marks_after, marks_of_ops, token_marks, footprint_over, footprint_on, awaits_when, awaits_over, awaits_on}
+use Rattle.batch_work.specs.Reads.{Case, early, gone, kept, runs, case_on, marks_of, marks_after, marks_of_ops, token_marks, footprint_in, awaits_in, verdict_in}
 use Rattle.batch_work.specs.Steps.{mark_of, advance, GoesOn, Plays}
 use Rattle.batch_work.specs.Windows.{book_in}
-use Rattle.batch_work.specs.Working.{Base, version_read, book_read, footprint_there, awaits_there, reply_there}
+use Rattle.batch_work.specs.Working.{Base, version_read, book_read, case_there, footprint_there}
 use Rattle.batch_work.specs.Standing.{going_on, book_now, InTime, IsReadable, InOps, later_marks, Going, Looked, IsReady, IsSettled}
+use Rattle.batch_work.proofs.Cases.{verdict_by_case}
 use Rattle.batch_work.proofs.Plays.{at_item, cons_apart, plays}
 
 -- ---- runs that go on
@@ -93,87 +95,72 @@ module _ (batch : Batch) (base : Base) where
   abbrev own : Bytes
   own = batch.domain
 
-  abbrev is_early : Bool
-  is_early = nat_lt base.newest.number batch.after
-
-  -- it comes too early
-  pub early_settles : is_early ≡ true → (reply : Reply) → reply ≡ record { place = base.newest.number; outcome = WasRefused NotYet } → IsSettled batch base [] reply
-  early_settles e reply r = record {
-    all_read = sym (ap (λ t. cond t [] (footprint_on batch (book_read batch base))) e);
-    done = ap (λ t. cond t false (awaits_on batch (book_read batch base))) e;
-    reply_is = r ∙ sym (ap (λ t. reply_with base.newest.number (cond t (refuses NotYet) (verdict_on batch base.newest.number (book_read batch base)))) e);
+  -- it settles in a case where it awaits no commit
+  case_settles : (c : Case) → case_there batch base ≡ c → awaits_in batch c ≡ false → (marks : List MarkKind) → marks ≡ footprint_in batch c → (reply : Reply) → reply ≡ reply_with base.newest.number (verdict_in batch base.newest.number c) → IsSettled batch base marks reply
+  case_settles c e w marks m reply r = record {
+    all_read = m ∙ sym (ap (footprint_in batch) e);
+    done = ap (awaits_in batch) e ∙ w;
+    reply_is = r ∙ sym (ap (reply_with base.newest.number) (verdict_by_case batch base.newest.number (book_read batch base)) ∙ ap (λ x. reply_with base.newest.number (verdict_in batch base.newest.number x)) e);
   }
 
+  -- it comes too early
+  pub early_settles : nat_lt base.newest.number batch.after ≡ true → (reply : Reply) → reply ≡ record { place = base.newest.number; outcome = WasRefused NotYet } → IsSettled batch base [] reply
+  early_settles e reply r = case_settles early (ap (λ t. cond t early (option_map_or (case_on batch) (book_read batch base) gone)) e) refl [] refl reply r
+
   module _ (in_time : InTime batch base) where
-    pub reads_in_time : footprint_there batch base ≡ footprint_on batch (book_read batch base)
-    reads_in_time = ap (λ t. cond t [] (footprint_on batch (book_read batch base))) in_time
-
-    waits_in_time : awaits_there batch base ≡ awaits_on batch (book_read batch base)
-    waits_in_time = ap (λ t. cond t false (awaits_on batch (book_read batch base))) in_time
-
-    reply_in_time : reply_there batch base ≡ reply_with base.newest.number (verdict_on batch base.newest.number (book_read batch base))
-    reply_in_time = ap (λ t. reply_with base.newest.number (cond t (refuses NotYet) (verdict_on batch base.newest.number (book_read batch base)))) in_time
+    case_read : case_there batch base ≡ option_map_or (case_on batch) (book_read batch base) gone
+    case_read = ap (λ t. cond t early (option_map_or (case_on batch) (book_read batch base) gone)) in_time
 
     -- the book that it asks for isn't there
+    pub meets_none : version_read (past_place batch.ops) base ≡ None → case_there batch base ≡ gone
+    meets_none g = case_read ∙ ap (λ o. option_map_or (case_on batch) (option_map book_in o) gone) g
+
     pub gone_settles : version_read (past_place batch.ops) base ≡ None → (reply : Reply) → reply ≡ record { place = base.newest.number; outcome = WasRefused (OfOp 0 VersionGone) } → IsSettled batch base (mark.All ∷ []) reply
-    gone_settles g reply r =
-        let b : book_read batch base ≡ None = ap (option_map book_in) g in
-        record {
-          all_read = sym (reads_in_time ∙ ap (footprint_on batch) b);
-          done = waits_in_time ∙ ap (awaits_on batch) b;
-          reply_is = r ∙ sym (reply_in_time ∙ ap (λ o. reply_with base.newest.number (verdict_on batch base.newest.number o)) b);
-        }
+    gone_settles g reply r = case_settles gone (meets_none g) refl (mark.All ∷ []) refl reply r
 
     module _ (s : State) (read_is : version_read (past_place batch.ops) base ≡ Some s) where
-      there : book_read batch base ≡ Some (book_in s)
-      there = ap (option_map book_in) read_is
+      -- this is kept under its token
+      meets : (o : Option KeptBatch) → kept_under batch.token (book_in s) ≡ o → case_there batch base ≡ option_map_or kept o (runs (book_in s))
+      meets o k = case_read ∙ (ap (λ v. option_map_or (case_on batch) (option_map book_in v) gone) read_is ∙ ap (λ x. option_map_or kept x (runs (book_in s))) k)
 
-      abbrev kept : Option KeptBatch
-      kept = kept_under batch.token (book_in s)
-
-      pub reads_there : (o : Option KeptBatch) → kept ≡ o → footprint_there batch base ≡ token_marks batch.token ++ footprint_over o batch (book_in s)
-      reads_there o k = reads_in_time ∙ (ap (footprint_on batch) there ∙ ap (λ o. token_marks batch.token ++ footprint_over o batch (book_in s)) k)
-
-      waits_there : (o : Option KeptBatch) → kept ≡ o → awaits_there batch base ≡ awaits_over o batch (book_in s)
-      waits_there o k = waits_in_time ∙ (ap (awaits_on batch) there ∙ ap (λ o. awaits_over o batch (book_in s)) k)
-
-      replied_there : (o : Option KeptBatch) → kept ≡ o → reply_there batch base ≡ reply_with base.newest.number (verdict_over o batch base.newest.number (book_in s))
-      replied_there o k = reply_in_time ∙ (ap (λ o. reply_with base.newest.number (verdict_on batch base.newest.number o)) there ∙ ap (λ o. reply_with base.newest.number (verdict_over o batch base.newest.number (book_in s))) k)
+      -- what is kept under its token is read first
+      pub token_first : (t : Bytes) → batch.token ≡ Some t → (later : List MarkKind) × (footprint_there batch base ≡ mark.Token t ∷ later)
+      token_first t e = behind (kept_under batch.token (book_in s)) refl
+        where
+          behind : (o : Option KeptBatch) → kept_under batch.token (book_in s) ≡ o → (later : List MarkKind) × (footprint_there batch base ≡ mark.Token t ∷ later)
+          behind (Some k) h = ([], ap (footprint_in batch) (meets (Some k) h) ∙ ap token_marks e)
+          behind None h = (marks_of_ops own batch.ops (book_in s), ap (footprint_in batch) (meets None h) ∙ ap (λ x. token_marks x ++ marks_of_ops own batch.ops (book_in s)) e)
 
       -- a batch was committed with its token
-      abbrev repeat_reply : Bool → KeptBatch → Reply
-      repeat_reply same k = reply_with base.newest.number (verdict_again same k)
-
-      pub kept_settles : (t : Bytes) → batch.token ≡ Some t → (k : KeptBatch) → kept ≡ Some k → (reply : Reply) → reply ≡ repeat_reply (ops_eq k.ops batch.ops) k → IsSettled batch base (mark.Token t ∷ []) reply
-      kept_settles t e k h reply r = record {
-        all_read = sym (reads_there (Some k) h ∙ (append-nil (token_marks batch.token) ∙ ap token_marks e));
-        done = waits_there (Some k) h;
-        reply_is = r ∙ sym (replied_there (Some k) h);
-      }
+      pub kept_settles : (t : Bytes) → batch.token ≡ Some t → (k : KeptBatch) → kept_under batch.token (book_in s) ≡ Some k → (reply : Reply) → reply ≡ reply_with base.newest.number (verdict_again (ops_eq k.ops batch.ops) k) → IsSettled batch base (mark.Token t ∷ []) reply
+      kept_settles t e k h reply r = case_settles (kept k) (meets (Some k) h) refl (mark.Token t ∷ []) (sym (ap token_marks e)) reply r
 
       -- nothing is kept, and its operations have this run
-      module _ (free : kept ≡ None) where
-        waits_run : (r : RunResult) → run own batch.ops (book_in s) ≡ r → awaits_there batch base ≡ awaits_when (is_query batch.ops) r
-        waits_run r e = waits_there None free ∙ ap (awaits_when (is_query batch.ops)) e
+      module _ (free : kept_under batch.token (book_in s) ≡ None) where
+        abbrev run_waits : Bool → RunResult → Bool
+        run_waits query r = not query && is_ok r
 
-        reply_run : (r : RunResult) → run own batch.ops (book_in s) ≡ r → reply_there batch base ≡ reply_with base.newest.number (verdict_when (is_query batch.ops) batch base.newest.number (book_in s) r)
-        reply_run r e = replied_there None free ∙ ap (λ r. reply_with base.newest.number (verdict_when (is_query batch.ops) batch base.newest.number (book_in s) r)) e
+        pub reads_run : footprint_there batch base ≡ token_marks batch.token ++ marks_of_ops own batch.ops (book_in s)
+        reads_run = ap (footprint_in batch) (meets None free)
+
+        run_settles : (r : RunResult) → run own batch.ops (book_in s) ≡ r → run_waits (is_query batch.ops) r ≡ false → (marks : List MarkKind) → marks ≡ footprint_there batch base → (reply : Reply) → reply ≡ reply_with base.newest.number (verdict_when (is_query batch.ops) batch base.newest.number (book_in s) r) → IsSettled batch base marks reply
+        run_settles r e w marks m reply q =
+            case_settles (runs (book_in s)) (meets None free) (ap (run_waits (is_query batch.ops)) e ∙ w) marks (m ∙ reads_run) reply
+            (q ∙ sym (ap (λ x. reply_with base.newest.number (verdict_when (is_query batch.ops) batch base.newest.number (book_in s) x)) e))
 
         -- one is refused
         pub refused_settles : (marks : List MarkKind) (n : ℕ) (x : OpRefusal) → marks ≡ footprint_there batch base → run own batch.ops (book_in s) ≡ Err (record { op = n; reason = x }) → (reply : Reply) → reply ≡ record { place = base.newest.number; outcome = WasRefused (OfOp n x) } → IsSettled batch base marks reply
-        refused_settles marks n x m e reply r = record {
-          all_read = m;
-          done = waits_run (Err (record { op = n; reason = x })) e;
-          reply_is = r ∙ sym (reply_run (Err (record { op = n; reason = x })) e);
-        }
+        refused_settles marks n x m e reply r = run_settles (Err (record { op = n; reason = x })) e (none_waits (is_query batch.ops)) marks m reply r
+          where
+            none_waits : (query : Bool) → run_waits query (Err (record { op = n; reason = x })) ≡ false
+            none_waits true = refl
+            none_waits false = refl
 
         -- all are accepted, and only ask
         pub answered_settles : (marks : List MarkKind) (t : RunEffect) → marks ≡ footprint_there batch base → run own batch.ops (book_in s) ≡ Ok t → is_query batch.ops ≡ true → (reply : Reply) → reply ≡ record { place = base.newest.number; outcome = Answered t.replies } → IsSettled batch base marks reply
-        answered_settles marks t m e q reply r = record {
-          all_read = m;
-          done = waits_run (Ok t) e ∙ ap (λ x. awaits_when x (Ok t)) q;
-          reply_is = r ∙ sym (reply_run (Ok t) e ∙ ap (λ x. reply_with base.newest.number (verdict_when x batch base.newest.number (book_in s) (Ok t))) q);
-        }
+        answered_settles marks t m e q reply r =
+            run_settles (Ok t) e (ap (λ x. run_waits x (Ok t)) q) marks m reply
+            (r ∙ sym (ap (λ x. reply_with base.newest.number (verdict_when x batch base.newest.number (book_in s) (Ok t))) q))
 
         -- all are accepted, and some change the book
         pub changes_wait : IsMadeFor own batch → (marks : List MarkKind) (t : RunEffect) → marks ≡ footprint_there batch base → run own batch.ops (book_in s) ≡ Ok t → is_query batch.ops ≡ false → (replies : List OpReply) (writes : List RowWrite) → replies ≡ t.replies → writes ≡ batch_writes batch 0 t → IsReady batch base marks writes replies
@@ -182,7 +169,7 @@ module _ (batch : Batch) (base : Base) where
             let same : base.newest ≡ s = some_same base.newest s newest in
             record {
               all_read = m;
-              waits = waits_run (Ok t) e ∙ ap (λ x. awaits_when x (Ok t)) q;
+              waits = ap (awaits_in batch) (meets None free) ∙ (ap (run_waits (is_query batch.ops)) e ∙ ap (λ x. run_waits x (Ok t)) q);
               accepted = record { effect = t; ran = subst (λ x. run own batch.ops (book_in x) ≡ Ok t) (sym same) e; replies_are = p; writes_are = w };
             }
           where
@@ -221,7 +208,7 @@ module _ (batch : Batch) (base : Base) where
         let q : 64 * s.number ≡ 64 * s.number + 0 = omega arith in
         let lawful : Lawful own (64 * s.number + 0) (book_in s) = subst (λ m. Lawful own m (book_in s)) q readable.lawful in
         let g : Going batch base (token_marks batch.token) [] [] 0 phase.First = at_op s read_is in_time unkept readable.low (token_marks batch.token) [] [] 0 o.0 o.1 o.2 lawful
-        (ap (λ ops. token_marks batch.token ++ marks_of_ops own ops (book_in s)) (sym whole) ∙ sym (reads_there in_time s read_is None unkept))
+        (ap (λ ops. token_marks batch.token ++ marks_of_ops own ops (book_in s)) (sym whole) ∙ sym (reads_run in_time s read_is unkept))
         (going_none _ ∙ ap (λ ops. run own ops (book_in s)) (sym whole)) in
         subst (λ x. Going batch base x changes replies 0 phase.First) (sym m) (subst (λ x. Going batch base (token_marks batch.token) x replies 0 phase.First) (sym c) (subst (λ x. Going batch base (token_marks batch.token) [] x 0 phase.First) (sym p) g))
 

@@ -7,7 +7,6 @@ use Rattle.entry_book.specs.declared.reply.Reply.{Reply}
 use Rattle.spiffe_name.specs.Id.{server_text}
 use Rattle.entry_book.specs.Rows.{Bytes}
 use Rattle.entry_book.specs.Writes.{RowWrite}
-use Rattle.entry_book.specs.History.{kept_under}
 use Rattle.entry_book.specs.Batches.{Batch, past_place}
 use Rattle.version_book.specs.declared.mark.MarkKind.{MarkKind}
 use Rattle.version_book.specs.declared.mark.MarkKind.TheVariants as mark
@@ -18,12 +17,12 @@ use Rattle.batch_work.specs.declared.stage.Found.TheVariants as found
 use Rattle.batch_work.specs.declared.stage.Stage.{Stage}
 use Rattle.batch_work.specs.declared.stage.Stage.TheVariants as stage
 use Rattle.batch_work.specs.declared.status.Status.TheVariants.{Running, Ready, Settled}
-use Rattle.batch_work.specs.Reads.{footprint_on, footprint_over, token_marks}
+use Rattle.batch_work.specs.Reads.{footprint_in}
 use Rattle.batch_work.specs.Windows.{book_in}
 use Rattle.batch_work.specs.Working.{Base, version_read, footprint_there, end_status, status_on, status_from, IsAccepted, IsAcceptedOn}
 use Rattle.batch_work.specs.Standing.{InOps, AtStart, AtToken, IsReady, IsNew, StandsRead, StandsAt, Stands, base_of, book_now, later_marks}
 use Rattle.batch_work.specs.Steps.{Plays}
-use Rattle.batch_work.proofs.Standing.{reads_in_time, reads_there}
+use Rattle.batch_work.proofs.Standing.{meets_none, token_first}
 
 -- ---- more is to be read
 
@@ -42,10 +41,12 @@ module _ (batch : Batch) (base : Base) (marks : List MarkKind) (changes : List R
   left_more n p i (m ∷ ms) h e = more marks m (ms ++ later_marks i) (footprint_there batch base) e
 
   gone_more : AtStart batch base marks changes replies → version_read (past_place batch.ops) base ≡ None → nat_lt (length marks) (length (footprint_there batch base)) ≡ true
-  gone_more start g = at_first marks mark.All [] (footprint_there batch base) start.no_marks (reads_in_time batch base start.in_time ∙ ap (λ o. footprint_on batch (option_map book_in o)) g)
+  gone_more start g = at_first marks mark.All [] (footprint_there batch base) start.no_marks (ap (footprint_in batch) (meets_none batch base start.in_time g))
 
   token_more : (k : Bytes) → AtStart batch base marks changes replies → AtToken batch base k → nat_lt (length marks) (length (footprint_there batch base)) ≡ true
-  token_more k start t = at_first marks (mark.Token k) (footprint_over (kept_under batch.token (book_in t.s)) batch (book_in t.s)) (footprint_there batch base) start.no_marks (reads_there batch base start.in_time t.s t.read_is (kept_under batch.token (book_in t.s)) refl ∙ ap (λ o. token_marks o ++ footprint_over (kept_under batch.token (book_in t.s)) batch (book_in t.s)) t.token_is)
+  token_more k start t =
+      let read = token_first batch base start.in_time t.s t.read_is k t.token_is in
+      at_first marks (mark.Token k) read.0 (footprint_there batch base) start.no_marks read.1
 
   found_more : (m : MarkKind) (f : Found) → StandsRead m f batch base marks changes replies → nat_lt (length marks) (length (footprint_there batch base)) ≡ true
   found_more m (found.Op n next) h = more marks m (h.left ++ later_marks h.at_hand) (footprint_there batch base) h.reads_are

@@ -14,7 +14,7 @@ use Rattle.entry_book.specs.History.{among_last, book_for, last_book, last_of, p
 use Rattle.entry_book.proofs.Histories.{last-snoc}
 use Rattle.version_book.specs.CommittedRows.{State}
 use Rattle.batch_work.specs.Laws.{WindowBegins, WindowGoesOn, WindowLast, WindowStands}
-use Rattle.batch_work.specs.Reads.{footprint_at, awaits_at}
+use Rattle.batch_work.specs.Reads.{case_at, footprint_in, awaits_in}
 use Rattle.batch_work.specs.Windows.{Counted, IsNext, StandsFor, Window, book_in, ending, pushed, version_at, versions}
 use Rattle.batch_work.specs.Working.{earlier_in, version_read}
 
@@ -183,9 +183,10 @@ pub window_stands : WindowStands
 window_stands batch w books h =
     let book = book_is w books h (past_place batch.ops) in
     let place = place_is w books h in
+    let meets = ap (case_at batch w.newest.number) book ∙ ap (λ n. case_at batch n (book_for (past_place batch.ops) books)) place in
     record {
-      reads = ap (λ b. footprint_at batch w.newest.number b) book ∙ ap (λ n. footprint_at batch n (book_for (past_place batch.ops) books)) place;
-      wait = ap (λ b. awaits_at batch w.newest.number b) book ∙ ap (λ n. awaits_at batch n (book_for (past_place batch.ops) books)) place;
+      reads = ap (footprint_in batch) meets;
+      wait = ap (awaits_in batch) meets;
       reply = ap (λ b. reply_with w.newest.number (verdict batch w.newest.number b)) book ∙ ap (λ n. reply_with n (verdict batch n (book_for (past_place batch.ops) books))) place;
     }
 

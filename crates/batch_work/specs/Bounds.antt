@@ -10,7 +10,7 @@ use Rattle.entry_book.specs.Batches.{Batch, IsMadeFor}
 use Rattle.entry_book.specs.Lawful.{Lawful}
 use Rattle.entry_book.specs.Runs.{RunEffect, run}
 use Rattle.version_book.specs.declared.mark.MarkKind.TheVariants as mark
-use Rattle.batch_work.specs.Reads.{text_set, marks_of, marks_of_ops, footprint_on, footprint_at}
+use Rattle.batch_work.specs.Reads.{text_set, marks_of, marks_of_ops, case_on, case_at, footprint_in}
 
 -- the identity that an operation puts into the book: a create and an update put one
 abbrev pub identity_put : Op → List Bytes
@@ -44,11 +44,11 @@ ReadsInOrder = (own : Bytes) (before : List Op) (op : Op) (later : List Op) (b :
 
 -- a token is read before the first operation, and where nothing is kept under it the operations' reads follow
 abbrev pub TokenReadFirst : Type 0
-TokenReadFirst = (batch : Batch) (b : Book) (k : Bytes) → batch.token ≡ Some k → token_at k b ≡ None → footprint_on batch (Some b) ≡ mark.Token k ∷ marks_of_ops batch.domain batch.ops b
+TokenReadFirst = (batch : Batch) (b : Book) (k : Bytes) → batch.token ≡ Some k → token_at k b ≡ None → footprint_in batch (case_on batch b) ≡ mark.Token k ∷ marks_of_ops batch.domain batch.ops b
 
 -- where a batch is kept under it, no other read is made
 abbrev pub KeptReadOnly : Type 0
-KeptReadOnly = (batch : Batch) (b : Book) (k : Bytes) (kept : KeptBatch) → batch.token ≡ Some k → token_at k b ≡ Some kept → footprint_on batch (Some b) ≡ mark.Token k ∷ []
+KeptReadOnly = (batch : Batch) (b : Book) (k : Bytes) (kept : KeptBatch) → batch.token ≡ Some k → token_at k b ≡ Some kept → footprint_in batch (case_on batch b) ≡ mark.Token k ∷ []
 
 -- ---- how many they are
 
@@ -62,7 +62,7 @@ OpReadsBounded = (own : Bytes) (most : ℕ) (batch : Batch) (b : Book) (before :
 
 -- the whole batch: one read more where it carries a token
 abbrev pub BatchReadsBounded : Type 0
-BatchReadsBounded = (own : Bytes) (most : ℕ) (batch : Batch) (b : Book) → IsMadeFor own batch → Lawful own most b → length b.bundles ≤ 1024 → length (footprint_on batch (Some b)) ≤ length (option_to_list batch.token) + length batch.ops * most_reads batch batch.ops b
+BatchReadsBounded = (own : Bytes) (most : ℕ) (batch : Batch) (b : Book) → IsMadeFor own batch → Lawful own most b → length b.bundles ≤ 1024 → length (footprint_in batch (case_on batch b)) ≤ length (option_to_list batch.token) + length batch.ops * most_reads batch batch.ops b
 
 -- a lawful book within the limits on entries and bundles
 pub record IsBounded (own : Bytes) (b : Book) : Type 0 where
@@ -73,8 +73,8 @@ pub record IsBounded (own : Bytes) (b : Book) : Type 0 where
 
 -- on such a book no batch makes more reads than this number
 abbrev pub ReadsAreFew : Type 0
-ReadsAreFew = (own : Bytes) (batch : Batch) (b : Book) → IsMadeFor own batch → IsBounded own b → length (footprint_on batch (Some b)) ≤ 2 ^ 21
+ReadsAreFew = (own : Bytes) (batch : Batch) (b : Book) → IsMadeFor own batch → IsBounded own b → length (footprint_in batch (case_on batch b)) ≤ 2 ^ 21
 
 -- nor at any place, nor where the book that it asks for is gone
 abbrev pub ReadsAreFewAnywhere : Type 0
-ReadsAreFewAnywhere = (own : Bytes) (batch : Batch) (place : ℕ) (b : Option Book) → IsMadeFor own batch → IfSome b (IsBounded own) → length (footprint_at batch place b) ≤ 2 ^ 21
+ReadsAreFewAnywhere = (own : Bytes) (batch : Batch) (place : ℕ) (b : Option Book) → IsMadeFor own batch → IfSome b (IsBounded own) → length (footprint_in batch (case_at batch place b)) ≤ 2 ^ 21

@@ -18,7 +18,7 @@ use Rattle.version_book.specs.Applying.{MayApply}
 use Rattle.version_book.specs.Marks.{Agree}
 use Rattle.version_book.specs.CommittedRows.{State, book_of, next_state}
 use Rattle.version_book.specs.History.{Commits, Follows, IsLast, any_hits, state_with}
-use Rattle.batch_work.specs.Reads.{marks_of_ops, footprint_on, footprint_at, awaits_on, awaits_at, footprint_of, awaits_commit, case_on, case_at, footprint_in, awaits_in, verdict_in}
+use Rattle.batch_work.specs.Reads.{marks_of_ops, case_on, case_at, footprint_in, awaits_in, verdict_in, footprint_of, awaits_commit}
 use Rattle.batch_work.specs.Windows.{Window, IsNext, StandsFor, book_in, pushed}
 use Rattle.batch_work.specs.declared.status.Status.TheVariants.{Ready, Running}
 use Rattle.batch_work.specs.Working.{Base, Work, base_in, footprint_there, awaits_there, marks_so_far, reply_there, status_of, status_on}
@@ -29,19 +29,6 @@ use Rattle.batch_work.specs.Working.{Base, Work, base_in, footprint_there, await
 abbrev pub VerdictByCase : Type 0
 VerdictByCase = (batch : Batch) (place : ℕ) (b : Option Book) → verdict batch place b ≡ verdict_in batch place (case_at batch place b)
 
--- For the next commit alone: the footprint, and whether a batch awaits its commit, are those of the case.
-abbrev pub FootprintByCase : Type 0
-FootprintByCase = (batch : Batch) (place : ℕ) (b : Option Book) → footprint_at batch place b ≡ footprint_in batch (case_at batch place b)
-
-abbrev pub FootprintOnByCase : Type 0
-FootprintOnByCase = (batch : Batch) (b : Book) → footprint_on batch (Some b) ≡ footprint_in batch (case_on batch b)
-
-abbrev pub AwaitsByCase : Type 0
-AwaitsByCase = (batch : Batch) (place : ℕ) (b : Option Book) → awaits_at batch place b ≡ awaits_in batch (case_at batch place b)
-
-abbrev pub AwaitsOnByCase : Type 0
-AwaitsOnByCase = (batch : Batch) (b : Book) → awaits_on batch (Some b) ≡ awaits_in batch (case_on batch b)
-
 -- ---- what is read decides
 
 -- Where two books read the same at each mark that operations read on the first, they have the same run on both, and the same reads.
@@ -51,17 +38,17 @@ ReadsDecide = (own : Bytes) (ops : List Op) (b c : Book) → AscendingBook b →
 -- Two books are one to a batch: the same is kept under its token, it has the same reads, where nothing is kept its operations have the same run, and it awaits a commit on both or on neither.
 pub record AreOneTo (batch : Batch) (b c : Book) : Type 0 where
   pub kept : kept_under batch.token b ≡ kept_under batch.token c
-  pub marks : footprint_on batch (Some b) ≡ footprint_on batch (Some c)
+  pub marks : footprint_in batch (case_on batch b) ≡ footprint_in batch (case_on batch c)
   pub runs : kept_under batch.token b ≡ None → run batch.domain batch.ops b ≡ run batch.domain batch.ops c
-  pub wait : awaits_on batch (Some b) ≡ awaits_on batch (Some c)
+  pub wait : awaits_in batch (case_on batch b) ≡ awaits_in batch (case_on batch c)
 
 -- where two books read the same at each mark that a batch reads on the first, they are one to it
 abbrev pub BatchReadsDecide : Type 0
-BatchReadsDecide = (batch : Batch) (b c : Book) → AscendingBook b → AscendingBook c → AllByRecursion (Agree b c) (footprint_on batch (Some b)) → AreOneTo batch b c
+BatchReadsDecide = (batch : Batch) (b c : Book) → AscendingBook b → AscendingBook c → AllByRecursion (Agree b c) (footprint_in batch (case_on batch b)) → AreOneTo batch b c
 
 -- where no batch since an older version makes a write that hits one of the marks that a batch reads there, the newer version's book is one to it with the older one's
 abbrev pub UnhitStays : Type 0
-UnhitStays = (batch : Batch) (batches : List Batch) (older newer : State) → AscendingBook (book_of older.rows) → Follows older batches newer → list_any (λ m. any_hits m older batches) (footprint_on batch (Some (book_of older.rows))) ≡ false → AreOneTo batch (book_of older.rows) (book_of newer.rows)
+UnhitStays = (batch : Batch) (batches : List Batch) (older newer : State) → AscendingBook (book_of older.rows) → Follows older batches newer → list_any (λ m. any_hits m older batches) (footprint_in batch (case_on batch (book_of older.rows))) ≡ false → AreOneTo batch (book_of older.rows) (book_of newer.rows)
 
 -- ---- the commit check
 
@@ -74,7 +61,7 @@ pub record ComesTo (batch : Batch) (s : State) (t : RunEffect) : Type 0 where
 
 -- a batch that awaits its commit on an older version, and finds the same at each mark that it read on the newest one, comes there to what it came to on the older one
 abbrev pub CommitCheck : Type 0
-CommitCheck = (batch : Batch) (base newest : State) (t : RunEffect) → IsMadeFor newest.domain batch → batch.after ≤ newest.number → Lawful newest.domain (64 * newest.number) (book_of newest.rows) → IsWithinLimits (book_of newest.rows) → AscendingBook (book_of base.rows) → AllByRecursion (Agree (book_of base.rows) (book_of newest.rows)) (footprint_on batch (Some (book_of base.rows))) → awaits_on batch (Some (book_of base.rows)) ≡ true → run batch.domain batch.ops (book_of base.rows) ≡ Ok t → ComesTo batch newest t
+CommitCheck = (batch : Batch) (base newest : State) (t : RunEffect) → IsMadeFor newest.domain batch → batch.after ≤ newest.number → Lawful newest.domain (64 * newest.number) (book_of newest.rows) → IsWithinLimits (book_of newest.rows) → AscendingBook (book_of base.rows) → AllByRecursion (Agree (book_of base.rows) (book_of newest.rows)) (footprint_in batch (case_on batch (book_of base.rows))) → awaits_in batch (case_on batch (book_of base.rows)) ≡ true → run batch.domain batch.ops (book_of base.rows) ≡ Ok t → ComesTo batch newest t
 
 -- The batch has changes that await their commit: it may run, and on the last book; nothing is kept there under its token; it doesn't only ask; and its operations are accepted.
 pub record HasChanges (batch : Batch) (books : List Book) : Type 0 where
@@ -122,9 +109,9 @@ pub record HasRead (w : Work) : Type 0 where
   pub base : Base
   pub base_is : w.base ≡ Some base
   pub all_read : marks_so_far w ≡ footprint_there w.batch base
-  pub newest_read : footprint_there w.batch base ≡ footprint_on w.batch (Some (book_in base.newest))
+  pub newest_read : footprint_there w.batch base ≡ footprint_in w.batch (case_on w.batch (book_in base.newest))
   pub in_time : w.batch.after ≤ base.newest.number
-  pub awaits : awaits_on w.batch (Some (book_in base.newest)) ≡ true
+  pub awaits : awaits_in w.batch (case_on w.batch (book_in base.newest)) ≡ true
 
 abbrev pub ReadyHasRead : Type 0
 ReadyHasRead = (own : Bytes) (w : Work) → IsMadeFor own w.batch → status_of w ≡ Ready → HasRead w

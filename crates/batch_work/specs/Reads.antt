@@ -17,7 +17,7 @@ use Rattle.entry_book.specs.Book.{Book, entry_at, agent_at, bundle_at, children_
 use Rattle.entry_book.specs.Writes.{after}
 use Rattle.entry_book.specs.Authorised.{holds, authorised}
 use Rattle.entry_book.specs.Ops.{OpEffect, OpResult, similar, is_stale, op_of}
-use Rattle.entry_book.specs.Runs.{RunResult, run}
+use Rattle.entry_book.specs.Runs.{run}
 use Rattle.entry_book.specs.Batches.{Batch, is_query, past_place}
 use Rattle.entry_book.specs.History.{Verdict, refuses, place_of, book_for, kept_under, verdict_again, verdict_run}
 use Rattle.entry_book.specs.SameOps.{ops_eq}
@@ -126,52 +126,6 @@ abbrev pub marks_of_ops : Bytes → List Op → Book → List MarkKind
 marks_of_ops own [] b = []
 marks_of_ops own (op ∷ ops) b = marks_of own op b ++ marks_after (op_of own op b) (λ d. marks_of_ops own ops (after d.writes b))
 
--- ---- the footprint of a batch: its reads, at a place, on the book that it runs on
-
--- what is kept under its token comes first, where it carries one; where a batch was committed with it, nothing else is read
-abbrev pub token_marks : Option Bytes → List MarkKind
-token_marks None = []
-token_marks (Some k) = mark.Token k ∷ []
-
-abbrev pub footprint_over : Option KeptBatch → Batch → Book → List MarkKind
-footprint_over (Some k) batch b = []
-footprint_over None batch b = marks_of_ops batch.domain batch.ops b
-
--- the page of a book that is gone, or not there yet, still makes its one read, which shows that
-abbrev pub footprint_on : Batch → Option Book → List MarkKind
-footprint_on batch None = mark.All ∷ []
-footprint_on batch (Some b) = token_marks batch.token ++ footprint_over (kept_under batch.token b) batch b
-
--- a batch that may not run yet reads nothing
-abbrev pub footprint_at : Batch → ℕ → Option Book → List MarkKind
-footprint_at batch place b = if nat_lt place batch.after then [] else footprint_on batch b
-
--- ---- whether a batch has changes that await their commit: it may run, nothing is kept under its token, no operation is refused, and it doesn't only ask
-
-abbrev pub awaits_when : Bool → RunResult → Bool
-awaits_when query (Err s) = false
-awaits_when true (Ok t) = false
-awaits_when false (Ok t) = true
-
-abbrev pub awaits_over : Option KeptBatch → Batch → Book → Bool
-awaits_over (Some k) batch b = false
-awaits_over None batch b = awaits_when (is_query batch.ops) (run batch.domain batch.ops b)
-
-abbrev pub awaits_on : Batch → Option Book → Bool
-awaits_on batch None = false
-awaits_on batch (Some b) = awaits_over (kept_under batch.token b) batch b
-
-abbrev pub awaits_at : Batch → ℕ → Option Book → Bool
-awaits_at batch place b = if nat_lt place batch.after then false else awaits_on batch b
-
--- ---- the same, of a batch and the list of all books
-
-abbrev pub footprint_of : Batch → List Book → List MarkKind
-footprint_of batch books = footprint_at batch (place_of books) (book_for (past_place batch.ops) books)
-
-abbrev pub awaits_commit : Batch → List Book → Bool
-awaits_commit batch books = awaits_at batch (place_of books) (book_for (past_place batch.ops) books)
-
 -- ---- what a batch meets, at a place, and what follows in each case
 
 -- It comes too early; the book of its page is gone, or not there yet; a batch is kept under its token; or it runs on this book.
@@ -193,14 +147,19 @@ case_at batch place b = if nat_lt place batch.after then early else option_map_o
 abbrev pub case_of : Batch → List Book → Case
 case_of batch books = case_at batch (place_of books) (book_for (past_place batch.ops) books)
 
--- Its reads: none where it comes too early; one that shows that the book isn't there; what is kept under its token, where it carries one; and then those of its operations, where it runs.
+-- what is kept under its token is read first, where it carries one
+abbrev pub token_marks : Option Bytes → List MarkKind
+token_marks None = []
+token_marks (Some k) = mark.Token k ∷ []
+
+-- its reads; the page of a book that isn't there makes its one read, which shows that
 abbrev pub footprint_in : Batch → Case → List MarkKind
 footprint_in batch early = []
 footprint_in batch gone = mark.All ∷ []
 footprint_in batch (kept k) = token_marks batch.token
 footprint_in batch (runs b) = token_marks batch.token ++ marks_of_ops batch.domain batch.ops b
 
--- It has changes that await their commit where it runs, doesn't only ask, and no operation is refused.
+-- whether it has changes that await their commit: it runs, doesn't only ask, and no operation is refused
 abbrev pub awaits_in : Batch → Case → Bool
 awaits_in batch early = false
 awaits_in batch gone = false
@@ -213,3 +172,11 @@ verdict_in batch place early = refuses NotYet
 verdict_in batch place gone = refuses (OfOp 0 VersionGone)
 verdict_in batch place (kept k) = verdict_again (ops_eq k.ops batch.ops) k
 verdict_in batch place (runs b) = verdict_run batch place b
+
+-- ---- the same, of a batch and the list of all books
+
+abbrev pub footprint_of : Batch → List Book → List MarkKind
+footprint_of batch books = footprint_in batch (case_of batch books)
+
+abbrev pub awaits_commit : Batch → List Book → Bool
+awaits_commit batch books = awaits_in batch (case_of batch books)

@@ -11,7 +11,7 @@ use Rattle.version_book.specs.declared.mark.MarkKind.{MarkKind}
 use Rattle.version_book.specs.CommittedRows.{State}
 use Rattle.batch_work.specs.declared.status.Status.{Status}
 use Rattle.batch_work.specs.declared.status.Status.TheVariants.{New, Running, Ready, Settled}
-use Rattle.batch_work.specs.Reads.{footprint_at, awaits_at}
+use Rattle.batch_work.specs.Reads.{Case, case_at, footprint_in, awaits_in}
 use Rattle.batch_work.specs.Windows.{Window, book_in, version_at}
 
 -- What a work began on: the newest version of its window, and where its batch asks for an earlier book the version of that one, which may be gone, or not there yet.
@@ -41,11 +41,14 @@ pub record Work : Type 0 where
 abbrev pub book_read : Batch → Base → Option Book
 book_read batch base = option_map book_in (version_read (past_place batch.ops) base)
 
+abbrev pub case_there : Batch → Base → Case
+case_there batch base = case_at batch base.newest.number (book_read batch base)
+
 abbrev pub footprint_there : Batch → Base → List MarkKind
-footprint_there batch base = footprint_at batch base.newest.number (book_read batch base)
+footprint_there batch base = footprint_in batch (case_there batch base)
 
 abbrev pub awaits_there : Batch → Base → Bool
-awaits_there batch base = awaits_at batch base.newest.number (book_read batch base)
+awaits_there batch base = awaits_in batch (case_there batch base)
 
 -- the plain book's reply there; where the batch awaits no commit, no limit has a say in it
 abbrev pub reply_there : Batch → Base → Reply

@@ -4,16 +4,12 @@
 //! `specs/Bounds.antt` or `specs/Walked.antt`; a caller that calls it may rest on the law.
 
 ghost use Rattle.batch_work.specs.Bounds.{BatchReadsBounded, KeptReadOnly, OpReadsBounded, ReadsAreFew, ReadsAreFewAnywhere, ReadsInOrder, TokenReadFirst};
-ghost use Rattle.batch_work.specs.Laws.{AwaitsAsSaid, AwaitsByCase, AwaitsOnByCase, BatchReadsDecide, CommitCheck, EndHasRead, FootprintByCase, FootprintOnByCase, OthersDontCommit, ReadsDecide, ReadyHasRead, UnhitStays, VerdictByCase, WindowBegins, WindowGoesOn, WindowLast, WindowStands};
+ghost use Rattle.batch_work.specs.Laws.{AwaitsAsSaid, BatchReadsDecide, CommitCheck, EndHasRead, OthersDontCommit, ReadsDecide, ReadyHasRead, UnhitStays, VerdictByCase, WindowBegins, WindowGoesOn, WindowLast, WindowStands};
 ghost use Rattle.batch_work.specs.Walked.{AuthorisedReads, MissingReads, OneWalk, TrustReads, TrustedAsSaid, WalkAsSaid};
 
-/// The case that a batch meets decides what it comes to. The reads and the wait of the older definitions are those of the case too.
+/// What a batch meets decides what the plain book does with it.
 pub fn cases()
     ensures verdict { VerdictByCase }
-    ensures footprint { FootprintByCase }
-    ensures footprint_on { FootprintOnByCase }
-    ensures awaits { AwaitsByCase }
-    ensures awaits_on { AwaitsOnByCase }
 {}
 
 /// What a batch reads decides what it comes to.

@@ -14,7 +14,7 @@
 //! - [`laws`]: what is read decides what a batch comes to; what becomes of it at a commit; how many reads it makes, and which;
 //!   what a window shows of the list of all books.
 //!
-//! The definitions stand in `specs/`: the table of reads and the footprint of a batch in `Reads`, what a work is in `Working`,
+//! The definitions stand in `specs/`: the table of reads, what a batch meets and its footprint then in `Reads`, what a work is in `Working`,
 //! what a window shows in `Windows`, what rows that are lent reply in `LentReplies`, the laws in `Laws`, `Bounds` and `Walked`; the
 //! others are for this crate's own contracts. Nothing outside this crate knows how a work keeps its course:
 //!

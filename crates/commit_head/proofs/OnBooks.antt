@@ -17,9 +17,10 @@ use Rattle.version_book.proofs.Batches.{books_join, commits_join}
 use Rattle.version_book.proofs.Histories.{books_follow, verdict_last}
 use Rattle.version_book.proofs.Writers.{hits_in_books}
 use Rattle.batch_work.specs.declared.status.Status.TheVariants.{Ready}
+use Rattle.batch_work.specs.Reads.{case_on}
 use Rattle.batch_work.specs.Windows.{book_in}
 use Rattle.batch_work.specs.Working.{Base, Work, footprint_there, status_of}
-use Rattle.batch_work.proofs.Batches.{some_book}
+use Rattle.batch_work.proofs.Cases.{waits}
 use Rattle.batch_work.proofs.Ready.{ready_has_read}
 use Rattle.commit_head.specs.declared.commit.Commit.TheVariants.{Conflict, Full, Committed, NoMemory}
 use Rattle.commit_head.specs.declared.item.Item.{Item}
@@ -103,7 +104,7 @@ due_on_books items h batch base k leads due =
 asks_newest : (own : Bytes) (w : Work) → IsMadeFor own w.batch → status_of w ≡ Ready → past_place w.batch.ops ≡ None
 asks_newest own w made ready =
     let read = ready_has_read own w made ready in
-    changes_newest own w.batch made (some_book w.batch (Some (book_in read.base.newest)) read.awaits).2.1
+    changes_newest own w.batch made (waits w.batch (case_on w.batch (book_in read.base.newest)) read.awaits).2
 
 committed_on_books : (items : List Item) (old new : Head) (seat call : ℕ) (w : Work) (n : ℕ) → IsJournal items old → IsCommitted old seat call w n new → CommitsOnBooks items seat call w n new
 committed_on_books items old new seat call w n k c =

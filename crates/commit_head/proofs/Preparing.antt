@@ -21,7 +21,7 @@ use Rattle.version_book.specs.Written.{placed}
 use Rattle.version_book.proofs.NamedRows.{book_after}
 use Rattle.version_book.proofs.Places.{places_put}
 use Rattle.batch_work.specs.declared.status.Status.TheVariants.{Ready}
-use Rattle.batch_work.specs.Reads.{footprint_on}
+use Rattle.batch_work.specs.Reads.{case_on, footprint_in}
 use Rattle.batch_work.specs.Windows.{book_in}
 use Rattle.batch_work.specs.Working.{Base, Work, HasReplies, HasWrites, IsAccepted, IsAcceptedOn, footprint_there, marks_so_far, status_of}
 use Rattle.batch_work.specs.Laws.{ComesTo, HasRead}
@@ -72,10 +72,10 @@ module _ (newest : State) (kept : List Item) (w : Work) (made : IsMadeFor newest
       same : start ≡ base
       same = newest_base w.base read.base start read.base_is start_is
 
-      all_marks : marks ≡ footprint_on w.batch (Some (book_in base))
+      all_marks : marks ≡ footprint_in w.batch (case_on w.batch (book_in base))
       all_marks = marks_are ∙ (read.all_read ∙ read.newest_read)
 
-      agree : AllByRecursion (Agree (book_of base.rows) (book_of newest.rows)) (footprint_on w.batch (Some (book_of base.rows)))
+      agree : AllByRecursion (Agree (book_of base.rows) (book_of newest.rows)) (footprint_in w.batch (case_on w.batch (book_of base.rows)))
       agree =
           let items = began_there.0 in
           let leads : Leads start items newest = subst (λ s. Leads s items newest) (sym same) began_there.1 in
