@@ -2,11 +2,12 @@
 
 ghost use Rattle.std.specs.Prelude.{◌≡◌, ◌++◌, IfOk, OnOk, flat_map};
 ghost use Rattle.entry_book.specs.Rows.{Entry as EntryRow};
-ghost use Rattle.batch_work.specs.Reads.{domains_of};
+ghost use Rattle.batch_work.specs.Reads.{domains_of, text_set};
 
 use entry_book::{Entry, Shared};
 use spiffe_name::TrustDomain;
 use std::alloc::{AllocError, Global};
+use version_book::Lent;
 
 fn push_all(
     all: &mut Vec<Shared<TrustDomain>>,
@@ -31,6 +32,29 @@ fn all_domains(alloc: Global, entries: &[Entry]) -> Result<Vec<Shared<TrustDomai
     Ok(all)
 }
 
+/// The domains that lent entries name, as often as they are named. The error is want of memory.
+fn all_lent_domains(
+    alloc: Global,
+    entries: &[Lent<'_, Entry>],
+) -> Result<Vec<Shared<TrustDomain>>, AllocError>
+    ensures { IfOk result (λ all. all.items ≡ flat_map (λ (entry : EntryRow). entry.domains) entries.now) }
+{
+    let mut all = Vec::new(alloc);
+    for entry in entries {
+        push_all(&mut all, entry.get().domains().as_slice())?;
+    }
+    Ok(all)
+}
+
+/// These domains, each once, in order. The error is want of memory.
+fn each_once(mut domains: Vec<Shared<TrustDomain>>) -> Result<Vec<Shared<TrustDomain>>, AllocError>
+    ensures { IfOk result (λ set. set.items ≡ text_set domains.items) }
+{
+    domains.sort()?;
+    domains.dedup();
+    Ok(domains)
+}
+
 /// The domains that the entries name, each once, in order. The error is want of memory.
 pub(crate) fn domains_of(
     alloc: Global,
@@ -38,8 +62,15 @@ pub(crate) fn domains_of(
 ) -> Result<Vec<Shared<TrustDomain>>, AllocError>
     ensures { IfOk result (λ set. set.items ≡ domains_of entries.now) }
 {
-    let mut domains = all_domains(alloc, entries)?;
-    domains.sort()?;
-    domains.dedup();
-    Ok(domains)
+    each_once(all_domains(alloc, entries)?)
+}
+
+/// The domains that lent entries name, each once, in order. The error is want of memory.
+pub(crate) fn domains_of_lent(
+    alloc: Global,
+    entries: &[Lent<'_, Entry>],
+) -> Result<Vec<Shared<TrustDomain>>, AllocError>
+    ensures { IfOk result (λ set. set.items ≡ domains_of entries.now) }
+{
+    each_once(all_lent_domains(alloc, entries)?)
 }

@@ -8,18 +8,17 @@ ghost use Rattle.entry_book.specs.Book.{agent_at, children_of};
 ghost use Rattle.entry_book.specs.Ops.{bundles_of, done, for_agent};
 ghost use Rattle.entry_book.specs.declared.reply.OpReply.TheVariants as op_reply;
 ghost use Rattle.batch_work.specs.Questions.{answered, bundles_at, walk_begun};
-ghost use Rattle.batch_work.specs.Reads.{domains_of};
 ghost use Rattle.batch_work.specs.WalkStates.{walked};
 ghost use Rattle.batch_work.specs.Windows.{book_in};
 
 use crate::asking::walk::LentWalk;
-use crate::domains::domains_of;
+use crate::domains::domains_of_lent;
 use crate::lent_reply::{LentOpReply, LentRows};
 use crate::rows::holds;
 use entry_book::{Agent, Bundle, Entry, OpRefusal, Sequence, Shared};
 use spiffe_name::{SpiffeId, TrustDomain};
 use std::alloc::{AllocError, Global};
-use version_book::{Lent, Version, owned};
+use version_book::{Lent, Version};
 
 /// The entries among these that are aliases which the agent holds. The error is want of memory.
 fn held_of<'a>(
@@ -138,19 +137,6 @@ fn push_bundles<'a>(
         push_bundle(found, version.bundle(domain))?;
     }
     Ok(())
-}
-
-/// The domains that lent entries name, each once, in order. The error is want of memory.
-fn domains_of_lent(
-    alloc: Global,
-    entries: &[Lent<'_, Entry>],
-) -> Result<Vec<Shared<TrustDomain>>, AllocError>
-    ensures { IfOk result (λ set. set.items ≡ domains_of entries.now) }
-{
-    let entries = owned(alloc, entries)?;
-    let domains = domains_of(alloc, entries.as_slice());
-    drop(entries);
-    domains
 }
 
 /// The bundles that go with these entries. The error is want of memory.

@@ -13,7 +13,7 @@ use Rattle.entry_book.specs.Rows.{Bytes, IsDomainSet, domain_set}
 use Rattle.entry_book.proofs.DomainSets.{is_domain_set}
 use Rattle.entry_book.proofs.Sets.{text_is}
 use Rattle.batch_work.specs.Reads.{text_set}
-use Rattle.batch_work.proofs.domains.domains_of.Goals as goal
+use Rattle.batch_work.proofs.domains.each_once.Goals as goal
 
 all_before : (x : List ℕ) (ys : List (List ℕ)) → AllByRecursion (λ y. slice_cmp nat_cmp x y ≡ Less) ys → AllByRecursion (λ y. is_before x y ≡ true) ys
 unfolding is_before
@@ -35,7 +35,7 @@ is_set c =
     subst IsDomainSet (sym (dedup_is bytes_eq _ _ c.dedup.ensures.filtered))
     (in_order (dedup bytes_eq c.sort.new.self.items) (IsStrictlySortedBy-dedup nat_list_cmp_total texts_ties c.sort.new.self.items c.in_ok-sort.ensures.sorted))
 
-members : (c : goal.After-dedup) → (domain : Bytes) → Contains c.dedup.new.self.items domain ↔ Contains c.in_ok-domains.domains.items domain
+members : (c : goal.After-dedup) → (domain : Bytes) → Contains c.dedup.new.self.items domain ↔ Contains c.args.domains.items domain
 members c = λ domain.
     let e = dedup_is bytes_eq _ _ c.dedup.ensures.filtered in
     let p = c.in_ok-sort.ensures.permutation in (
@@ -44,4 +44,4 @@ members c = λ domain.
     )
 
 pub returns : goal.returns
-returns c = is_domain_set _ c.in_ok-domains.domains.items (is_set c) (members c) ∙ (same_set c.in_ok-domains.domains.items ∙ ap text_set c.in_ok-domains.ensures)
+returns c = is_domain_set _ c.args.domains.items (is_set c) (members c) ∙ same_set c.args.domains.items
