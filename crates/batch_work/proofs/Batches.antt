@@ -71,7 +71,7 @@ unhit_stays batch batches older newer a f h = batch_decided batch (book_of older
 
 -- ---- at its place, nothing being kept under its token
 
-verdict_there : (batch : Batch) (s : State) (t : RunEffect) → batch.after ≤ s.number → kept_under batch.token (book_of s.rows) ≡ None → is_query batch.ops ≡ false → run batch.domain batch.ops (book_of s.rows) ≡ Ok t → verdict batch s.number (Some (book_of s.rows)) ≡ adds_within (limit_passed s.number (after (batch_writes batch (s.number + 1) t) (book_of s.rows))) t.replies (after (batch_writes batch (s.number + 1) t) (book_of s.rows))
+pub verdict_there : (batch : Batch) (s : State) (t : RunEffect) → batch.after ≤ s.number → kept_under batch.token (book_of s.rows) ≡ None → is_query batch.ops ≡ false → run batch.domain batch.ops (book_of s.rows) ≡ Ok t → verdict batch s.number (Some (book_of s.rows)) ≡ adds_within (limit_passed s.number (after (batch_writes batch (s.number + 1) t) (book_of s.rows))) t.replies (after (batch_writes batch (s.number + 1) t) (book_of s.rows))
 verdict_there batch s t a k q r =
     verdict_by_case batch s.number (Some (book_of s.rows))
     ∙ (ap (verdict_in batch s.number) (runs_there batch s.number (book_of s.rows) a k)

@@ -1,18 +1,24 @@
 -- What a work that is at its end has read.
-use Rattle.std.proofs.Common.{◌≡◌, ℕ, Bool, true, false, cond, [], length, Option, Some, None, refl, sym, ap, ◌∙◌}
+use Rattle.std.proofs.Common.{◌≡◌, ℕ, ◌+◌, ◌≤◌, Bool, true, false, cond, length, Option, Some, None, Ok, IfOk, refl, sym, ap, subst, ◌∙◌}
 use Rattle.std.specs.Prelude.{nat_lt, option_map}
 use Rattle.std.specs.Option.{option_map_or}
 use Rattle.std.proofs.lemmas.Bool.{ltb-false}
 use Rattle.std.proofs.lemmas.List.{take_all}
 use Rattle.entry_book.specs.Batches.{Batch, past_place}
+use Rattle.entry_book.specs.History.{adds_within, batch_writes, kept_under}
+use Rattle.entry_book.specs.Limits.{limit_passed}
+use Rattle.entry_book.specs.Runs.{RunEffect, RunResult, run}
+use Rattle.entry_book.specs.Writes.{after}
 use Rattle.entry_book.proofs.PastPages.{changes_newest}
+use Rattle.version_book.specs.Written.{placed}
+use Rattle.version_book.proofs.Places.{places_put}
 use Rattle.batch_work.specs.declared.status.Status.TheVariants.{Ready, Running}
 use Rattle.batch_work.specs.Reads.{early, gone, case_on, footprint_in, awaits_in}
 use Rattle.batch_work.specs.Windows.{book_in}
-use Rattle.batch_work.specs.Working.{Base, version_read, book_read, case_there, end_status, footprint_there, awaits_there, marks_from, status_from, status_on}
-use Rattle.batch_work.specs.Laws.{EndHasRead, ReadyHasRead}
-use Rattle.batch_work.proofs.Batches.{late}
-use Rattle.batch_work.proofs.Cases.{of_runs, waits}
+use Rattle.batch_work.specs.Working.{Base, IsAccepted, IsAcceptedOn, version_read, book_read, case_there, end_status, footprint_there, awaits_there, marks_from, status_from, status_on}
+use Rattle.batch_work.specs.Laws.{EndHasRead, ReadyHasRead, ReadyTurns}
+use Rattle.batch_work.proofs.Batches.{late, verdict_there}
+use Rattle.batch_work.proofs.Cases.{of_runs, unkept, waits}
 
 at_end : (t w : Bool) → (cond t Running (end_status w) ≡ Running → ⊥) → t ≡ false
 at_end true w n = absurd (n refl)
@@ -49,4 +55,33 @@ ready_has_read own w made e =
       newest_read = ap (footprint_in w.batch) meets;
       in_time = late base.newest.number w.batch.after runs_on.0;
       awaits = ap (awaits_in w.batch) (sym meets) ∙ r.1;
+    }
+
+-- ---- the plain book's next book
+
+one_base : (b c : Base) → Some b ≡ Some c → b ≡ c
+one_base b c e = cc
+
+of_ok : (P : RunEffect → Type 0) (r : RunResult) (t : RunEffect) → r ≡ Ok t → IfOk r P → P t
+of_ok P r t e h = subst (λ r. IfOk r P) e h
+
+pub ready_turns : ReadyTurns
+ready_turns own w base writes made ready base_is h =
+    let s = base.newest in
+    let b = book_in s in
+    let next = s.number + 1 in
+    let read = ready_has_read own w made ready in
+    let same : read.base ≡ base = one_base read.base base (sym read.base_is ∙ base_is) in
+    let accepted : IsAccepted w.batch b h.0 writes = subst (λ o. IsAcceptedOn o w.batch h.0 writes) base_is h.1 in
+    let t = accepted.effect in
+    let wait = waits w.batch (case_on w.batch b) (subst (λ x. awaits_in w.batch (case_on w.batch (book_in x.newest)) ≡ true) same read.awaits) in
+    let free = (unkept (kept_under w.batch.token b) b wait.0 wait.1).0 in
+    let in_time : w.batch.after ≤ s.number = subst (λ x. w.batch.after ≤ x.newest.number) same read.in_time in
+    let writes_are : placed next writes ≡ batch_writes w.batch next t = ap (placed next) accepted.writes_are ∙ of_ok (λ x. placed next (batch_writes w.batch 0 x) ≡ batch_writes w.batch next x) (run w.batch.domain w.batch.ops b) t accepted.ran (places_put w.batch b 0 next) in
+    record {
+      replies = h.0;
+      of_work = (writes, h.1);
+      next = after (batch_writes w.batch next t) b;
+      next_is = ap (λ ws. after ws b) (sym writes_are);
+      verdict_is = verdict_there w.batch s t in_time free wait.2 accepted.ran ∙ ap (λ rs. adds_within (limit_passed s.number (after (batch_writes w.batch next t) b)) rs (after (batch_writes w.batch next t) b)) (sym accepted.replies_are);
     }

@@ -3,25 +3,27 @@ use Rattle.std.specs.Prelude.{◌≡◌, ◌↔◌, ◌+◌, ◌*◌, ◌≤◌,
 use Rattle.std.specs.List.{AllByRecursion, list_any}
 use Rattle.entry_book.specs.declared.limit.Limit.{Limit}
 use Rattle.entry_book.specs.declared.op.Op.{Op}
+use Rattle.entry_book.specs.declared.reply.OpReply.{OpReply}
 use Rattle.entry_book.specs.declared.reply.Outcome.TheVariants.{Refused}
 use Rattle.entry_book.specs.declared.reply.Refusal.TheVariants.{Full}
 use Rattle.entry_book.specs.Rows.{Bytes}
 use Rattle.entry_book.specs.Book.{Book, AscendingBook}
-use Rattle.entry_book.specs.Writes.{after}
+use Rattle.entry_book.specs.Writes.{RowWrite, after}
 use Rattle.entry_book.specs.Runs.{RunEffect, run}
 use Rattle.entry_book.specs.Batches.{Batch, IsMadeFor, is_query, past_place}
 use Rattle.entry_book.specs.Limits.{limit_passed}
 use Rattle.entry_book.specs.Lawful.{Lawful}
 use Rattle.entry_book.specs.Laws.{IsWithinLimits}
-use Rattle.entry_book.specs.History.{batch_writes, kept_under, verdict, adds, refuses, last_book, place_of, reply_to, commits}
+use Rattle.entry_book.specs.History.{batch_writes, kept_under, verdict, adds, adds_within, refuses, last_book, place_of, reply_to, commits}
 use Rattle.version_book.specs.Applying.{MayApply}
 use Rattle.version_book.specs.Marks.{Agree}
 use Rattle.version_book.specs.CommittedRows.{State, book_of, next_state}
 use Rattle.version_book.specs.History.{Commits, Follows, IsLast, any_hits, state_with}
+use Rattle.version_book.specs.Written.{placed}
 use Rattle.batch_work.specs.Reads.{marks_of_ops, case_on, case_at, footprint_in, awaits_in, verdict_in, footprint_of, awaits_commit}
 use Rattle.batch_work.specs.Windows.{Window, IsNext, StandsFor, book_in, pushed}
 use Rattle.batch_work.specs.declared.status.Status.TheVariants.{Ready, Running}
-use Rattle.batch_work.specs.Working.{Base, Work, base_in, footprint_there, awaits_there, marks_so_far, reply_there, status_of, status_on}
+use Rattle.batch_work.specs.Working.{Base, HasReplies, HasWrites, Work, base_in, footprint_there, awaits_there, marks_so_far, reply_there, status_of, status_on}
 
 -- ---- case by case
 
@@ -115,6 +117,17 @@ pub record HasRead (w : Work) : Type 0 where
 
 abbrev pub ReadyHasRead : Type 0
 ReadyHasRead = (own : Bytes) (w : Work) → IsMadeFor own w.batch → status_of w ≡ Ready → HasRead w
+
+-- The book on which a ready work began, after its changes with the place put in, is the plain book's next one: it commits the batch with the work's replies as this book, or refuses it for the first limit that this book passes.
+pub record TurnsBook (w : Work) (s : State) (writes : List RowWrite) : Type 0 where
+  pub replies : List OpReply
+  pub of_work : HasReplies w replies
+  pub next : Book
+  pub next_is : next ≡ after (placed (s.number + 1) writes) (book_in s)
+  pub verdict_is : verdict w.batch s.number (Some (book_in s)) ≡ adds_within (limit_passed s.number next) replies next
+
+abbrev pub ReadyTurns : Type 0
+ReadyTurns = (own : Bytes) (w : Work) (base : Base) (writes : List RowWrite) → IsMadeFor own w.batch → status_of w ≡ Ready → w.base ≡ Some base → HasWrites w writes → TurnsBook w base.newest writes
 
 -- where nothing is left to read, the marks of a work are its whole footprint
 abbrev pub EndHasRead : Type 0

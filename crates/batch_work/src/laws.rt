@@ -4,7 +4,7 @@
 //! `specs/Bounds.antt` or `specs/Walked.antt`; a caller that calls it may rest on the law.
 
 ghost use Rattle.batch_work.specs.Bounds.{BatchReadsBounded, KeptReadOnly, OpReadsBounded, ReadsAreFew, ReadsAreFewAnywhere, ReadsInOrder, TokenReadFirst};
-ghost use Rattle.batch_work.specs.Laws.{AwaitsAsSaid, BatchReadsDecide, CommitCheck, EndHasRead, OthersDontCommit, ReadsDecide, ReadyHasRead, UnhitStays, VerdictByCase, WindowBegins, WindowGoesOn, WindowLast, WindowStands};
+ghost use Rattle.batch_work.specs.Laws.{AwaitsAsSaid, BatchReadsDecide, CommitCheck, EndHasRead, OthersDontCommit, ReadsDecide, ReadyHasRead, ReadyTurns, UnhitStays, VerdictByCase, WindowBegins, WindowGoesOn, WindowLast, WindowStands};
 ghost use Rattle.batch_work.specs.Walked.{AuthorisedReads, MissingReads, OneWalk, TrustReads, TrustedAsSaid, WalkAsSaid};
 
 /// What a batch meets decides what the plain book does with it.
@@ -58,8 +58,9 @@ pub fn walks()
     ensures missing { MissingReads }
 {}
 
-/// What a work that is at its end has read.
+/// What a work that is at its end has read, and what its changes make of the book on which it began.
 pub fn works()
     ensures end { EndHasRead }
     ensures ready { ReadyHasRead }
+    ensures turns { ReadyTurns }
 {}
