@@ -11,7 +11,7 @@ use crate::stage::{Begun, Stage};
 use crate::take::settled;
 use crate::window::Window;
 use entry_book::{Batch, Outcome, Refusal, both};
-use std::alloc::{AllocError, Global};
+use std::alloc::AllocError;
 use version_book::Version;
 
 /// The version of the earlier book that a batch asks for, where it asks for one and the window has it. The error is that no
@@ -49,21 +49,20 @@ pub(crate) fn begun_on(batch: &Batch, window: &Window) -> Result<Begun, AllocErr
     })
 }
 
-/// What a batch does first where it begins. The error is want of memory.
-pub(crate) fn first_stage(alloc: Global, batch: &Batch, begun: &Begun) -> Result<Stage, AllocError>
+/// What a batch does first where it begins.
+pub(crate) fn first_stage(batch: &Batch, begun: &Begun) -> Stage
     requires began { BeganOn batch.now begun.now }
-    ensures { IfOk result (λ stage. StandsAt stage batch.now (base_of begun.now) [] [] []) }
+    ensures { StandsAt result batch.now (base_of begun.now) [] [] [] }
 {
     let place = begun.newest.number();
     if place < batch.after() {
-        let stage = settled(alloc, place, Outcome::Refused(Refusal::NotYet))?;
-        return Ok(stage);
+        return settled(place, Outcome::Refused(Refusal::NotYet));
     }
     let Some(_) = version_read(begun, batch) else {
-        return Ok(Stage::Gone);
+        return Stage::Gone;
     };
     match batch.token() {
-        Some(token) => Ok(Stage::Token(token)),
-        None => Ok(Stage::At(0, Phase::First)),
+        Some(token) => Stage::Token(token),
+        None => Stage::At(0, Phase::First),
     }
 }

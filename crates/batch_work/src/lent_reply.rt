@@ -125,7 +125,7 @@ impl<'a> LentReply<'a> {
     }
 
     /// The same reply with copies of the rows, to be kept as long as anyone likes. The error is want of memory.
-    pub fn kept(&self, alloc: Global) -> Result<Shared<Reply>, AllocError>
+    pub fn kept(&self, alloc: Global) -> Result<Reply, AllocError>
         ensures { IfOk result (λ reply. reply ≡ self.now) }
     {
         let outcome = match &self.outcome {
@@ -136,7 +136,7 @@ impl<'a> LentReply<'a> {
             Err(refusal) => Outcome::Refused(refusal.clone()?),
         };
         let place = self.place;
-        Shared::of(alloc, Reply { place, outcome })
+        Ok(Reply { place, outcome })
     }
 }
 

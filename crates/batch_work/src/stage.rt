@@ -49,5 +49,5 @@ pub(crate) enum Stage {
     /// The changes wait for their commit; the replies.
     Ready(Shared<Sequence<OpReply>>),
     /// Nothing is left to do; the reply.
-    Settled(Shared<Reply>),
+    Settled(Reply),
 }

@@ -12,51 +12,45 @@ use entry_book::{Batch, KeptBatch, OpRefusal, OpReply, Outcome, Refusal, Reply, 
 use std::alloc::{AllocError, Global};
 use version_book::{Changes, Mark};
 
-/// A work with this reply, at this place, is done. The error is want of memory.
-pub(crate) fn settled(alloc: Global, place: u64, outcome: Outcome) -> Result<Stage, AllocError>
-    ensures { IfOk result (λ stage. stage ≡ Stage.Settled (record { place = place; outcome = outcome })) }
+/// Returns the stage of a work that is done, with this reply at this place.
+pub(crate) fn settled(place: u64, outcome: Outcome) -> Stage
+    ensures { result ≡ Stage.Settled (record { place = place; outcome = outcome }) }
 {
-    Ok(Stage::Settled(Shared::of(alloc, Reply { place, outcome })?))
+    Stage::Settled(Reply { place, outcome })
 }
 
-/// This operation, counted from 0, is refused. The error is want of memory.
-fn refused(
-    alloc: Global,
-    begun: &Begun,
-    index: usize,
-    reason: &OpRefusal,
-) -> Result<Stage, AllocError>
-    ensures { IfOk result (λ stage. stage ≡ Stage.Settled (record {
+/// This operation, counted from 0, is refused.
+fn refused(begun: &Begun, index: usize, reason: OpRefusal) -> Stage
+    ensures { result ≡ Stage.Settled (record {
       place = begun.now.newest.number;
-      outcome = Outcome.Refused (Refusal.OfOp index reason.now);
-    })) }
+      outcome = Outcome.Refused (Refusal.OfOp index reason);
+    }) }
 {
-    let refusal = Refusal::OfOp(index, reason.clone()?);
-    settled(alloc, begun.newest.number(), Outcome::Refused(refusal))
+    let refusal = Refusal::OfOp(index, reason);
+    settled(begun.newest.number(), Outcome::Refused(refusal))
 }
 
-/// A batch was committed with the token: this one is a repeat of it, or uses the token for something else. The error is want
-/// of memory.
-fn again(alloc: Global, begun: &Begun, batch: &Batch, kept: &KeptBatch) -> Result<Stage, AllocError>
-    ensures { IfOk result (λ stage. stage ≡ Stage.Settled
-        (reply_with begun.now.newest.number (verdict_again (ops_eq kept.now.ops batch.now.ops) kept.now))) }
+/// A batch was committed with the token: this one is a repeat of it, or uses the token for something else.
+fn again(begun: &Begun, batch: &Batch, kept: KeptBatch) -> Stage
+    ensures { result ≡ Stage.Settled
+        (reply_with begun.now.newest.number (verdict_again (ops_eq kept.ops batch.now.ops) kept)) }
 {
     if kept.has_ops(batch.ops()) {
-        settled(alloc, kept.place, Outcome::Repeated(kept.replies.clone()?))
+        settled(kept.place, Outcome::Repeated(kept.replies))
     } else {
         let place = begun.newest.number();
-        settled(alloc, place, Outcome::Refused(Refusal::TokenReused))
+        settled(place, Outcome::Refused(Refusal::TokenReused))
     }
 }
 
-/// The book that a page asks for isn't there. The error is want of memory.
-fn gone(alloc: Global, begun: &Begun) -> Result<Stage, AllocError>
-    ensures { IfOk result (λ stage. stage ≡ Stage.Settled (record {
+/// The book that a page asks for isn't there.
+fn gone(begun: &Begun) -> Stage
+    ensures { result ≡ Stage.Settled (record {
       place = begun.now.newest.number;
       outcome = Outcome.Refused (Refusal.OfOp 0 OpRefusal.VersionGone);
-    })) }
+    }) }
 {
-    refused(alloc, begun, 0, &OpRefusal::VersionGone)
+    refused(begun, 0, OpRefusal::VersionGone)
 }
 
 /// A copy of these writes is put behind the changes. The error is want of memory, and nothing has changed then.
@@ -132,7 +126,7 @@ fn end_query(
     })) }
 {
     let all = all_replies(alloc, &course.replies, reply)?;
-    settled(alloc, begun.newest.number(), Outcome::Answered(all))
+    Ok(settled(begun.newest.number(), Outcome::Answered(all)))
 }
 
 /// The last operation of a batch that changes the book has ended. The error is want of memory, and nothing has changed then.
@@ -204,13 +198,7 @@ pub(crate) fn take_down(
 {
     match found {
         Found::Op(index, Next::Goes(phase)) => Ok(Stage::At(index, phase)),
-        Found::Op(index, Next::Refused(reason)) => match refused(alloc, begun, index, &reason) {
-            Ok(stage) => {
-                drop(reason);
-                Ok(stage)
-            }
-            Err(_) => Err(Found::Op(index, Next::Refused(reason))),
-        },
+        Found::Op(index, Next::Refused(reason)) => Ok(refused(begun, index, reason)),
         Found::Op(index, Next::Ends(reply, writes)) => {
             match ended(alloc, begun, batch, course, mark, index, &reply, &writes) {
                 Ok(stage) => {
@@ -221,17 +209,8 @@ pub(crate) fn take_down(
                 Err(_) => Err(Found::Op(index, Next::Ends(reply, writes))),
             }
         }
-        Found::Kept(Some(kept)) => match again(alloc, begun, batch, &kept) {
-            Ok(stage) => {
-                drop(kept);
-                Ok(stage)
-            }
-            Err(_) => Err(Found::Kept(Some(kept))),
-        },
+        Found::Kept(Some(kept)) => Ok(again(begun, batch, kept)),
         Found::Kept(None) => Ok(Stage::At(0, Phase::First)),
-        Found::Gone => match gone(alloc, begun) {
-            Ok(stage) => Ok(stage),
-            Err(_) => Err(Found::Gone),
-        },
+        Found::Gone => Ok(gone(begun)),
     }
 }

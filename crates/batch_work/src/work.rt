@@ -144,7 +144,7 @@ impl Work {
     {
         let _ = self.batch.ops();
         let begun = begun_on(&self.batch, window)?;
-        let stage = first_stage(self.alloc, &self.batch, &begun)?;
+        let stage = first_stage(&self.batch, &begun);
         self.begun = Some(begun);
         let_go(replace(&mut self.stage, stage));
         Ok(())
@@ -234,7 +234,7 @@ impl Work {
     }
 
     /// The reply to the batch, where the work is settled.
-    pub fn reply(&self) -> Option<&Shared<Reply>>
+    pub fn reply(&self) -> Option<&Reply>
         ensures settled { IsSome result ↔ (status_of self.now ≡ Status.Settled) }
         ensures answer { IfSome result (λ reply. IsAnswer self.now reply.now) }
     {
@@ -262,7 +262,7 @@ impl Work {
     }
 
     /// The reply to the batch, where the work is settled, to keep; the versions and all else are let go.
-    pub fn into_reply(self) -> Option<Shared<Reply>>
+    pub fn into_reply(self) -> Option<Reply>
         ensures settled { IsSome result ↔ (status_of self ≡ Status.Settled) }
         ensures answer { IfSome result (λ reply. IsAnswer self reply) }
     {

@@ -100,7 +100,7 @@ fn whole_committed_text(alloc: Global, place: u64, replies: &[OpReply]) -> Resul
 /// All that a work has come to, at this place. One that is ready is committed there.
 fn end_text(alloc: Global, work: &Work, place: u64) -> Result<String, Fail> {
     if let Some(reply) = work.reply() {
-        return whole_text(alloc, place, &reply.get().outcome);
+        return whole_text(alloc, place, &reply.outcome);
     }
     match work.replies() {
         Some(replies) => whole_committed_text(alloc, place, replies.get().as_slice()),

@@ -100,7 +100,7 @@ fn wanted(
 /// The place of what the work has come to: its reply's, or this one where it is ready.
 fn place_of(work: &Work, place: u64) -> u64 {
     match work.reply() {
-        Some(reply) => reply.get().place,
+        Some(reply) => reply.place,
         None => place,
     }
 }

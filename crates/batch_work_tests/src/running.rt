@@ -77,7 +77,7 @@ fn answered_text(alloc: Global, window: &Window, batch: &Batch) -> Result<String
     let reply = lent.kept(alloc);
     drop(lent);
     let reply = reply?;
-    let text = reply_text(alloc, reply.get());
+    let text = reply_text(alloc, &reply);
     drop(reply);
     Ok(text?)
 }
@@ -103,7 +103,7 @@ pub fn ended(alloc: Global, window: &Window, text: &str) -> Result<Work, Fail> {
 /// What a work has come to, told as text: it is ready, with these replies, or settled with this reply.
 pub fn end_text(alloc: Global, work: &Work) -> Result<String, Fail> {
     if let Some(reply) = work.reply() {
-        return Ok(reply_text(alloc, reply.get())?);
+        return Ok(reply_text(alloc, reply)?);
     }
     match work.replies() {
         Some(replies) => Ok(replies_text(alloc, "ready", replies.get().as_slice())?),

@@ -1,8 +1,31 @@
 //! What is an event answered?
 
+ghost use Rattle.std.specs.Prelude.{◌≡◌};
+
 use batch_work::Status;
-use entry_book::{Limit, Reply, Shared};
+use entry_book::{Limit, Reply};
+use std::alloc::AllocError;
 use version_book::Mark;
+
+/// What a call is answered. A copy of it shares the answers to the operations.
+#[derive(Drop)]
+pub enum CallAnswer {
+    /// The plain book's reply.
+    Replied(Reply),
+    /// A batch that was committed since the call's begin wrote what the call has read. This was found at this place.
+    Conflict(u64),
+}
+
+impl Clone for CallAnswer {
+    ghost is_clone = { λ original copy. copy ≡ original };
+
+    fn clone(&self) -> Result<CallAnswer, AllocError> {
+        Ok(match self {
+            CallAnswer::Replied(reply) => CallAnswer::Replied(reply.clone()?),
+            CallAnswer::Conflict(place) => CallAnswer::Conflict(*place),
+        })
+    }
+}
 
 /// What a commit comes to.
 #[derive(Clone, Copy, Debug, PartialEq, Eq)]
@@ -13,15 +36,6 @@ pub enum Decision {
     Conflict,
     /// This limit doesn't let the changes in.
     Full(Limit),
-}
-
-/// What a call is answered.
-#[derive(Drop)]
-pub enum Told {
-    /// The plain book's reply.
-    Replied(Shared<Reply>),
-    /// A conflict, found at this place.
-    Conflicted(u64),
 }
 
 /// The answer to an event that was accepted. The first number is the call's.
@@ -36,5 +50,5 @@ pub enum Done {
     /// Its commit came to this, at this place.
     Decided(u64, Decision, u64),
     /// Its answer.
-    Answered(u64, Told),
+    Answered(u64, CallAnswer),
 }

@@ -1,6 +1,7 @@
 //! What is known of a call?
 
-use entry_book::{Batch, Reply};
+use crate::answer::CallAnswer;
+use entry_book::Batch;
 
 /// What is known of a call: its batch, and as far as they came the accepted numbers of its invoke, of the event that decided
 /// it and of its reply, and its answer.
@@ -15,14 +16,5 @@ pub struct KnownCall<'a> {
     /// That of its reply.
     pub replied: Option<u64>,
     /// Its answer, given out or not.
-    pub answer: Option<CallAnswer<'a>>,
-}
-
-/// A call's answer.
-#[derive(Drop)]
-pub enum CallAnswer<'a> {
-    /// The plain book's reply.
-    Replied(&'a Reply),
-    /// A conflict, found at this place.
-    Conflict(u64),
+    pub answer: Option<&'a CallAnswer>,
 }

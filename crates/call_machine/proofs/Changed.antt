@@ -12,10 +12,10 @@ use Rattle.call_events.specs.declared.event.EventRefusal.TheVariants.{NotNow, Un
 use Rattle.call_machine.specs.declared.slot.Slot.{Slot}
 use Rattle.call_machine.specs.Calls.{Call, Stage, State, call_at, with_call}
 use Rattle.call_machine.specs.Machine.{Commits, refusal_at}
-use Rattle.call_machine.specs.Kept.{AllRest, GoesOn, Holds, IsRefusalOr, RestsOn, SlotDecides, SlotRefuses, all_events, call_kept, calls_kept, domain_of, new_work, slot_events, stage_of_slot, state_of}
+use Rattle.call_machine.specs.Kept.{AllRest, GoesOn, Holds, IsRefusalOr, SlotDecides, SlotRefuses, SlotRests, all_events, call_kept, calls_kept, domain_of, new_work, slot_events, stage_of_slot, state_of}
 use Rattle.call_machine.proofs.Counts.{counted_set, events_more, few_set}
 use Rattle.call_machine.proofs.Heads.{stayed}
-use Rattle.call_machine.proofs.Slots.{all_rest_more, lookup_call, rest_set, rests_new, set_call, set_same}
+use Rattle.call_machine.proofs.Slots.{all_rest_more, lookup_call, rest_set, set_call, set_same, slot_rests_new}
 
 -- ---- a call is found, or isn't
 
@@ -53,7 +53,7 @@ state_stays old new count es s = λ i. record { domain = (s.window i).newest.dom
 
 -- ---- one call has changed
 
-pub holds_set : (h : Head) (count n : ℕ) (es entries : List (ℕ × Slot)) (slot later : Slot) → Holds h count es → lookup (nat_eq n) es ≡ Some slot → entries ≡ set_value (nat_eq n) es later → RestsOn (domain_of h) h.kept later.work → slot_events slot + 1 ≤ slot_events later → Holds h (count + 1) entries
+pub holds_set : (h : Head) (count n : ℕ) (es entries : List (ℕ × Slot)) (slot later : Slot) → Holds h count es → lookup (nat_eq n) es ≡ Some slot → entries ≡ set_value (nat_eq n) es later → SlotRests (domain_of h) h.kept later → slot_events slot + 1 ≤ slot_events later → Holds h (count + 1) entries
 holds_set h count n es entries slot later holds found changed rests more = record {
   whole = holds.whole;
   rest = subst (AllRest (domain_of h) h.kept) (sym changed) (rest_set (domain_of h) h.kept n later es holds.rest rests);
@@ -70,7 +70,7 @@ holds_on old new count n es entries slot later batch holds on found changed made
     let all : AllRest (domain_of new) new.kept es = subst (λ own. AllRest own new.kept es) (sym on.domain) (subst (λ l. AllRest (domain_of old) l es) (sym on.kept) (all_rest_more (domain_of old) old.kept on.more es holds.rest)) in
     record {
       whole = on.whole;
-      rest = subst (AllRest (domain_of new) new.kept) (sym changed) (rest_set (domain_of new) new.kept n later es all (rests_new (domain_of new) new.kept later.work batch (subst (λ own. IsMadeFor own batch) (sym on.domain) made) fresh));
+      rest = subst (AllRest (domain_of new) new.kept) (sym changed) (rest_set (domain_of new) new.kept n later es all (slot_rests_new (domain_of new) new.kept later batch (subst (λ own. IsMadeFor own batch) (sym on.domain) made) fresh));
       few = subst (λ l. length l ≤ 4096) (sym changed) (few_set n later es holds.few);
       counted = subst (λ l. count + 1 ≤ all_events l) (sym changed) (counted_set count n es slot later found more holds.counted);
     }
@@ -120,11 +120,11 @@ pub none_found : {X : Type 0} (o : Option X) → is_some o ≡ false → o ≡ N
 none_found None e = refl
 none_found (Some x) e = cc
 
-rest_more : (h : Head) (es : List (ℕ × Slot)) (n : ℕ) (slot : Slot) → AllRest (domain_of h) h.kept es → RestsOn (domain_of h) h.kept slot.work → AllRest (domain_of h) h.kept (es ++ (n, slot) ∷ [])
+rest_more : (h : Head) (es : List (ℕ × Slot)) (n : ℕ) (slot : Slot) → AllRest (domain_of h) h.kept es → SlotRests (domain_of h) h.kept slot → AllRest (domain_of h) h.kept (es ++ (n, slot) ∷ [])
 rest_more h [] n slot a r = (r, tt)
 rest_more h (e ∷ es) n slot a r = (a.0, rest_more h es n slot a.1 r)
 
-pub holds_more : (h : Head) (count n : ℕ) (es entries : List (ℕ × Slot)) (slot : Slot) → Holds h count es → entries ≡ es ++ (n, slot) ∷ [] → RestsOn (domain_of h) h.kept slot.work → length es < 4096 → 1 ≤ slot_events slot → Holds h (count + 1) entries
+pub holds_more : (h : Head) (count n : ℕ) (es entries : List (ℕ × Slot)) (slot : Slot) → Holds h count es → entries ≡ es ++ (n, slot) ∷ [] → SlotRests (domain_of h) h.kept slot → length es < 4096 → 1 ≤ slot_events slot → Holds h (count + 1) entries
 holds_more h count n es entries slot holds e rests few some = record {
   whole = holds.whole;
   rest = subst (AllRest (domain_of h) h.kept) (sym e) (rest_more h es n slot holds.rest rests);

@@ -7,7 +7,7 @@ use Rattle.std.proofs.lemmas.List.{take-append-drop}
 use Rattle.entry_book.specs.Rows.{Bytes}
 use Rattle.entry_book.specs.Book.{Book}
 use Rattle.entry_book.specs.Batches.{Batch, IsMadeFor}
-use Rattle.entry_book.specs.History.{books_of, reply_to}
+use Rattle.entry_book.specs.History.{books_of, is_committed, reply_to}
 use Rattle.version_book.specs.declared.mark.MarkKind.{MarkKind}
 use Rattle.version_book.specs.CommittedRows.{State as Version}
 use Rattle.batch_work.specs.declared.status.Status.{Status}
@@ -19,11 +19,11 @@ use Rattle.commit_head.specs.Journals.{Leads, batches_of, first_state as first_v
 use Rattle.commit_head.proofs.FewReads.{journal_reads_few}
 use Rattle.commit_head.proofs.Journals.{leads_in_parts}
 use Rattle.call_answers.specs.declared.answer.Decision.{Decision}
-use Rattle.call_machine.specs.declared.slot.End.{End}
-use Rattle.call_machine.specs.declared.slot.End.TheVariants as is
+use Rattle.call_answers.specs.declared.answer.CallAnswer.{CallAnswer}
+use Rattle.call_answers.specs.declared.answer.CallAnswer.TheVariants.{Replied, Conflict}
 use Rattle.call_machine.specs.declared.slot.Slot.{Slot}
 use Rattle.call_machine.specs.Calls.{Stage, running, stage_on, stage_settled}
-use Rattle.call_machine.specs.Kept.{AllRest, BeganWithin, Holds, IsWhole, RestsOn, SlotBegins, SlotDecides, SlotSteps, all_events, domain_of, journal_of, reply_events, slot_events, stage_events, stage_from, stage_kept, stage_of_slot}
+use Rattle.call_machine.specs.Kept.{AllRest, BeganWithin, Holds, IsWhole, RestsOn, SlotBegins, SlotDecides, SlotSteps, all_events, domain_of, journal_of, reply_events, slot_events, stage_events, stage_from, stage_kept, stage_of_slot, stage_replied}
 use Rattle.call_machine.proofs.Heads.{first_batches}
 use Rattle.call_machine.proofs.Lists.{get_within}
 
@@ -47,14 +47,13 @@ module _ (own : Bytes) (items : List Item) (s : Version) (leads : Leads (first_v
         | false ↦ λ t. elim (awaits_there batch base) as (λ b. stage_events (stage_settled b base.newest.number (reply_there batch base)) ≤ 3 + 2 ^ 21) [ true ↦ omega arith | false ↦ omega arith ]
       ] refl
 
-  few_kept : (e : Option End) (w : Work) → RestsOn own items w → stage_events (stage_kept e w) ≤ 3 + 2 ^ 21
+  few_kept : (e : Option CallAnswer) (w : Work) → RestsOn own items w → stage_events (stage_kept e w) ≤ 3 + 2 ^ 21
   few_kept None w r = few_from w.batch w.base w.steps r.made r.began
-  few_kept (Some (is.Answered q)) w r = omega arith
-  few_kept (Some (is.Committed q)) w r = omega arith
-  few_kept (Some (is.Conflict n)) w r = omega arith
+  few_kept (Some (Replied q)) w r = elim (is_committed q.outcome) as (λ b. stage_events (stage_replied b q) ≤ 3 + 2 ^ 21) [ true ↦ omega arith | false ↦ omega arith ]
+  few_kept (Some (Conflict n)) w r = omega arith
 
   few_slot : (slot : Slot) → RestsOn own items slot.work → slot_events slot ≤ 2 ^ 22
-  few_slot slot r = let k = few_kept slot.end slot.work r in let q = one_reply slot.replied in omega arith
+  few_slot slot r = let k = few_kept slot.answer slot.work r in let q = one_reply slot.replied in omega arith
     where
       one_reply : (o : Option ℕ) → reply_events o ≤ 1
       one_reply None = omega arith
@@ -62,7 +61,7 @@ module _ (own : Bytes) (items : List Item) (s : Version) (leads : Leads (first_v
 
   few_all : (es : List (ℕ × Slot)) → AllRest own items es → all_events es ≤ 2 ^ 22 * length es
   few_all [] a = omega arith
-  few_all (e ∷ es) a = let k = few_slot e.1 a.0 in let q = few_all es a.1 in omega arith
+  few_all (e ∷ es) a = let k = few_slot e.1 a.0.work in let q = few_all es a.1 in omega arith
 
 -- one event more can be counted
 pub has_room : (h : Head) (count : ℕ) (es : List (ℕ × Slot)) → Holds h count es → count + 1 < 2 ^ 64

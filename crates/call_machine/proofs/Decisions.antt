@@ -12,11 +12,11 @@ use Rattle.commit_head.specs.Heads.{BeganOn, Fits, Head, IsDue as IsDueThere, Is
 use Rattle.commit_head.specs.Journals.{batches_of}
 use Rattle.commit_head.proofs.Journals.{joins_on_books}
 use Rattle.commit_head.proofs.OnBooks.{batches_join}
+use Rattle.call_answers.specs.declared.answer.CallAnswer.{CallAnswer}
+use Rattle.call_answers.specs.declared.answer.CallAnswer.TheVariants.{Replied, Conflict}
 use Rattle.call_answers.specs.declared.answer.Decision.TheVariants as to
-use Rattle.call_machine.specs.declared.slot.End.{End}
-use Rattle.call_machine.specs.declared.slot.End.TheVariants as is
 use Rattle.call_machine.specs.Calls.{answered, committed, conflict}
-use Rattle.call_machine.specs.Kept.{BeganInside, Finishes, GoesOn, IsDecided, IsWhole, RestsOn, domain_of, journal_of, stage_at_end}
+use Rattle.call_machine.specs.Kept.{BeganInside, Finishes, GoesOn, IsDecided, IsWhole, RestsOn, domain_of, journal_of, stage_over}
 use Rattle.call_machine.proofs.Heads.{began_on, due_there, full_there, place_is, stayed, went_on}
 use Rattle.call_machine.proofs.Slots.{IsAwaiting, began_at, ready_is}
 
@@ -37,8 +37,8 @@ goes_from old between new s g = record {
   whole = g.whole;
 }
 
-pub decided_committed : (old between new : Head) (w : Work) (seat call : ℕ) (p : Prepared) (end : End) (place : ℕ) → IsWhole old → status_of w ≡ Ready → Stays old between → Fits between p → IsItemOf seat call w p.item → Finishes between p.item end place new → IsDecided old w end to.Committed place new
-decided_committed old between new w seat call p end place whole s stays fits item done =
+pub decided_committed : (old between new : Head) (w : Work) (seat call : ℕ) (p : Prepared) (answer : CallAnswer) (place : ℕ) → IsWhole old → status_of w ≡ Ready → Stays old between → Fits between p → IsItemOf seat call w p.item → Finishes between p.item answer place new → IsDecided old w answer to.Committed place new
+decided_committed old between new w seat call p answer place whole s stays fits item done =
     let r = ready_is w s in
     let there : IsWhole between = (stayed old between whole stays).whole in
     let joins = fits.goes.joins in
@@ -52,7 +52,7 @@ decided_committed old between new w seat call p end place whole s stays fits ite
       in_turn = r.stage;
       decided = inl (record {
         commits = ap (λ (r : Reply). is_committed r.outcome) reply;
-        stage_is = ap stage_at_end done.end_is ∙ ap committed (sym reply);
+        stage_is = ap stage_over done.answer_is ∙ ap committed (sym reply);
         decision_is = refl;
         place_is = let n = done.place_is in let l = ap length same in omega arith;
         journal_is = ap batches_of done.appended.kept ∙ (batches_join between.kept (p.item ∷ []) ∙ (λ i. same i ++ batch i ∷ []));
@@ -60,8 +60,8 @@ decided_committed old between new w seat call p end place whole s stays fits ite
       goes_on = goes_from old between new stays (went_on between new p.item there joins done.appended);
     }
 
-pub decided_full : (old new : Head) (w : Work) (limit : Limit) (reply : Reply) (place : ℕ) → IsWhole old → RestsOn (domain_of old) old.kept w → status_of w ≡ Ready → Stays old new → place ≡ place_of old → verdict w.batch (place_of old) (Some (book_of (newest_of old).rows)) ≡ refuses (Full limit) → reply ≡ record { place = place; outcome = Refused (Full limit) } → IsDecided old w (is.Answered reply) (to.Full limit) place new
-decided_full old new w limit reply place whole rests s stays n v e =
+pub decided_full : (old new : Head) (w : Work) (limit : Limit) (place : ℕ) → IsWhole old → RestsOn (domain_of old) old.kept w → status_of w ≡ Ready → Stays old new → place ≡ place_of old → verdict w.batch (place_of old) (Some (book_of (newest_of old).rows)) ≡ refuses (Full limit) → IsDecided old w (Replied (record { place = place; outcome = Refused (Full limit) })) (to.Full limit) place new
+decided_full old new w limit place whole rests s stays n v =
     let r = ready_is w s in
     let b = began old w r rests in
     let there = full_there old w.batch _ limit place whole rests.made (sym b.is_on.wait ∙ r.awaits) n v in
@@ -73,7 +73,7 @@ decided_full old new w limit reply place whole rests s stays n v e =
       decided = inr (inl (record {
         limit = limit;
         full = there ∙ ap (λ m. record { place = m; outcome = Refused (Full limit) }) length_is;
-        stage_is = ap answered (e ∙ sym there);
+        stage_is = ap answered (sym there);
         decision_is = refl;
         place_is = length_is;
         journal_is = ap batches_of stays.kept;
@@ -81,7 +81,7 @@ decided_full old new w limit reply place whole rests s stays n v e =
       goes_on = stayed old new whole stays;
     }
 
-pub decided_conflict : (old new : Head) (w : Work) (place : ℕ) → IsWhole old → RestsOn (domain_of old) old.kept w → status_of w ≡ Ready → Stays old new → place ≡ place_of old → IsDueThere w.base w.batch (newest_of old) old.kept → IsDecided old w (is.Conflict place) to.Conflict place new
+pub decided_conflict : (old new : Head) (w : Work) (place : ℕ) → IsWhole old → RestsOn (domain_of old) old.kept w → status_of w ≡ Ready → Stays old new → place ≡ place_of old → IsDueThere w.base w.batch (newest_of old) old.kept → IsDecided old w (Conflict place) to.Conflict place new
 decided_conflict old new w place whole rests s stays n due =
     let r = ready_is w s in
     let length_is : place ≡ length (journal_of old) = n ∙ place_is old whole in

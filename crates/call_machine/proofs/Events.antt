@@ -13,7 +13,7 @@ use Rattle.batch_work.specs.Reads.{footprint_of, awaits_commit}
 use Rattle.call_events.specs.declared.event.Event.{Event}
 use Rattle.call_events.specs.declared.event.Event.TheVariants.{Invoke, Begin, Step, Commit, Reply as ReplyEvent}
 use Rattle.call_answers.specs.declared.answer.Done.{Done}
-use Rattle.call_machine.specs.Calls.{running, ready, answered, committed, conflict, Call, State, first_state, moved, told_of, stage_settled, stage_on}
+use Rattle.call_machine.specs.Calls.{running, ready, answered, committed, conflict, Call, State, first_state, moved, answer_of, stage_settled, stage_on}
 use Rattle.call_machine.specs.Machine.{Invokes, Begins, Steps, CommitsNow, IsFull, Conflicts, Commits, Replies, Accepts}
 use Rattle.call_machine.proofs.Rows.{call_within, call_none}
 use Rattle.call_machine.proofs.Line.{entered, StageFits, is_begun}
@@ -44,8 +44,8 @@ fits_on batch journal base made e = elim (nat_lt made (length (footprint_of batc
 ]
 
 -- a call that has no reply to give has given none
-pub not_replied : (count : ℕ) (c : Call) → Stamped count c → told_of c.stage ≡ None → (n : ℕ) → c.replied ≡ Some n → ⊥
-not_replied count c s e n q = let h : IsSome (told_of c.stage) = (s.over n q).1 in let k : is_some (told_of c.stage) ≡ false = ap is_some e in absurd (both_ways (is_some (told_of c.stage)) k h)
+pub not_replied : (count : ℕ) (c : Call) → Stamped count c → answer_of c.stage ≡ None → (n : ℕ) → c.replied ≡ Some n → ⊥
+not_replied count c s e n q = let h : IsSome (answer_of c.stage) = (s.over n q).1 in let k : is_some (answer_of c.stage) ≡ false = ap is_some e in absurd (both_ways (is_some (answer_of c.stage)) k h)
 
 -- ---- event by event
 
@@ -68,7 +68,7 @@ begins s n d t h i =
     (record {
       invoked = let a = k.invoked in omega arith;
       begun = λ _. let a = k.invoked in (omega arith, omega arith);
-      over = λ m e. absurd (not_replied s.count i.call k (ap told_of i.in_turn) m e);
+      over = λ m e. absurd (not_replied s.count i.call k (ap answer_of i.in_turn) m e);
     }))
 
 steps : (s : State) (n : ℕ) (d : Done) (t : State) → Sound s → Steps s n d t → Sound t
@@ -87,7 +87,7 @@ steps s n d t h i =
     (record {
       invoked = let a = k.invoked in omega arith;
       begun = λ _. let a = k.begun old in (a.0, let c = a.1 in omega arith);
-      over = λ m e. absurd (not_replied s.count i.call k (ap told_of i.in_turn) m e);
+      over = λ m e. absurd (not_replied s.count i.call k (ap answer_of i.in_turn) m e);
     }))
 
 -- a reply that is a refusal isn't a commit
@@ -102,7 +102,7 @@ commits_now s call base d t h w e i =
     (record {
       invoked = let a = k.invoked in omega arith;
       begun = λ _. let a = k.invoked in (omega arith, omega arith);
-      over = λ m q. absurd (not_replied s.count call k (ap told_of e) m q);
+      over = λ m q. absurd (not_replied s.count call k (ap answer_of e) m q);
     }))
 
 is_full : (s : State) (call : Call) (base : ℕ) (d : Done) (t : State) → Sound s → Within s.calls call → call.stage ≡ ready base → IsFull s call d t → Sound t
@@ -114,7 +114,7 @@ is_full s call base d t h w e i =
     (record {
       invoked = let a = k.invoked in omega arith;
       begun = λ _. let a = k.invoked in (omega arith, omega arith);
-      over = λ m q. absurd (not_replied s.count call k (ap told_of e) m q);
+      over = λ m q. absurd (not_replied s.count call k (ap answer_of e) m q);
     }) in
     subst Sound (ap (λ j. record (moved c s) { journal = j }) (append-nil s.journal) ∙ sym i.after) g
 
@@ -125,7 +125,7 @@ conflicts s call base d t h w e i =
     (record {
       invoked = let a = k.invoked in omega arith;
       begun = λ b. cc;
-      over = λ m q. absurd (not_replied s.count call k (ap told_of e) m q);
+      over = λ m q. absurd (not_replied s.count call k (ap answer_of e) m q);
     }))
 
 committing : (s : State) (n : ℕ) (d : Done) (t : State) → Sound s → Commits s n d t → Sound t

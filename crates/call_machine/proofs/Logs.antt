@@ -14,10 +14,10 @@ use Rattle.call_answers.specs.declared.answer.Decision.{Decision}
 use Rattle.call_answers.specs.declared.answer.Decision.TheVariants.{Conflict, Committed, Full}
 use Rattle.call_answers.specs.declared.answer.Done.{Done}
 use Rattle.call_answers.specs.declared.answer.Done.TheVariants.{Invoked, Begun, Stepped, Decided, Answered}
-use Rattle.call_answers.specs.declared.answer.Told.{Told}
+use Rattle.call_answers.specs.declared.answer.CallAnswer.{CallAnswer}
 use Rattle.batch_work.specs.declared.status.Status.{Status}
 use Rattle.call_machine.specs.Schedules.{Happened, At, HandedIn, BatchesOf, BeginsCountCommits, CountsCommits, commit_of, commits_in, IsDueConflict, ConflictsAreDue, Different}
-use Rattle.call_machine.specs.Calls.{Stage, waiting, running, ready, answered, committed, conflict, Call, State, with_call, told_of}
+use Rattle.call_machine.specs.Calls.{Stage, waiting, running, ready, answered, committed, conflict, Call, State, with_call, answer_of}
 use Rattle.call_machine.specs.Laws.{SettledAt, number_of}
 use Rattle.call_machine.proofs.Lists.{get_left, get_last, from_get_snoc, get_within}
 use Rattle.call_machine.proofs.Rows.{from_with_call, within_new, within_other, same_call}
@@ -75,7 +75,7 @@ StageTold log (conflict n) c = At log c.turn (Commit c.number) (Decided c.number
 
 abbrev pub ReplyTold : List Happened → Option ℕ → Call → Type 0
 ReplyTold log None c = ⊤
-ReplyTold log (Some n) c = (t : Told) × (told_of c.stage ≡ Some t) × At log n (ReplyEvent c.number) (Answered c.number t)
+ReplyTold log (Some n) c = (t : CallAnswer) × (answer_of c.stage ≡ Some t) × At log n (ReplyEvent c.number) (Answered c.number t)
 
 pub record IsTold (log : List Happened) (c : Call) : Type 0 where
   pub invoked : (d : Done) × At log c.invoked (Invoke c.number c.batch) d
@@ -131,7 +131,7 @@ abbrev pub KeepsConflict : List Call → ℕ → ℕ → Type 0
 KeepsConflict calls c place = (x : Call) × Within calls x × (x.number ≡ c) × (x.stage ≡ conflict place)
 
 abbrev pub KeepsReply : List Call → ℕ → ℕ → Done → Type 0
-KeepsReply calls n c d = (x : Call) × Within calls x × (x.number ≡ c) × (x.replied ≡ Some n) × (t : Told) × (told_of x.stage ≡ Some t) × (d ≡ Answered c t)
+KeepsReply calls n c d = (x : Call) × Within calls x × (x.number ≡ c) × (x.replied ≡ Some n) × (t : CallAnswer) × (answer_of x.stage ≡ Some t) × (d ≡ Answered c t)
 
 abbrev pub KeepsDecision : List Call → ℕ → ℕ → Decision → ℕ → Type 0
 KeepsDecision calls n c Committed place = KeepsCommit calls n c place
@@ -201,7 +201,7 @@ keeps_more calls later n (Commit c) d a k = done_more calls later n c d a k
 keeps_more calls later n (ReplyEvent c) d a k =
     let y = a k.0 k.1 in
     let s = y.2.replied n k.3 in
-    (y.0, y.1, y.2.number ∙ k.2, s.0, k.4, ap told_of s.1 ∙ k.5, k.6)
+    (y.0, y.1, y.2.number ∙ k.2, s.0, k.4, ap answer_of s.1 ∙ k.5, k.6)
 
 -- ---- the whole
 

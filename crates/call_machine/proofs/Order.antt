@@ -11,9 +11,9 @@ use Rattle.call_events.specs.declared.event.Event.TheVariants.{Commit, Reply as 
 use Rattle.call_answers.specs.declared.answer.Decision.TheVariants.{Committed, Conflict}
 use Rattle.call_answers.specs.declared.answer.Done.{Done}
 use Rattle.call_answers.specs.declared.answer.Done.TheVariants.{Decided, Answered}
-use Rattle.call_answers.specs.declared.answer.Told.TheVariants.{Conflicted, Replied}
+use Rattle.call_answers.specs.declared.answer.CallAnswer.TheVariants.{Conflict as Conflicted, Replied}
 use Rattle.call_machine.specs.Schedules.{ConflictsAreOver, ConflictsWereMet, Happened, At, IsListed, Different, IsSerial, IsReplyOf, RunsFrom, IsLegal, StandsBefore, IsStrict, OneBatch, Headline}
-use Rattle.call_machine.specs.Calls.{Stage, waiting, running, ready, answered, committed, conflict, Call, State, told_of}
+use Rattle.call_machine.specs.Calls.{Stage, waiting, running, ready, answered, committed, conflict, Call, State, answer_of}
 use Rattle.call_machine.specs.Laws.{is_listed_at, is_listed, AscendingTurns, number_of, number_in, HoldReplies, IsOrder}
 use Rattle.call_machine.proofs.Turns.{turns_are, numbers_are}
 use Rattle.call_machine.proofs.Rows.{call_found, same_call, from_within_map}
@@ -89,7 +89,7 @@ passes_by (answered r) o batch e = refl
 passes_by (committed r) o batch e = cc
 passes_by (conflict n) o batch e = refl
 
-given_is : (g : Stage) (batch : Batch) (journal : List Batch) (out : Reply) → StageFits g batch journal → told_of g ≡ Some (Replied out) → out ≡ reply_to batch (books_of journal)
+given_is : (g : Stage) (batch : Batch) (journal : List Batch) (out : Reply) → StageFits g batch journal → answer_of g ≡ Some (Replied out) → out ≡ reply_to batch (books_of journal)
 given_is waiting batch journal out f e = absurd f
 given_is (running base made) batch journal out f e = cc
 given_is (ready base) batch journal out f e = cc
@@ -97,7 +97,7 @@ given_is (answered r) batch journal out f e = let q : r ≡ out = cc in sym (f.0
 given_is (committed r) batch journal out f e = let q : r ≡ out = cc in sym (f.0 ∙ q)
 given_is (conflict n) batch journal out f e = absurd f
 
-held_is : (g : Stage) (o : Option ℕ) (batch : Batch) (journal : List Batch) → is_listed_at g o ≡ true → StageFits g batch journal → told_of g ≡ Some (Replied (reply_to batch (books_of journal)))
+held_is : (g : Stage) (o : Option ℕ) (batch : Batch) (journal : List Batch) → is_listed_at g o ≡ true → StageFits g batch journal → answer_of g ≡ Some (Replied (reply_to batch (books_of journal)))
 held_is waiting o batch journal e f = absurd f
 held_is (running base made) o batch journal e f = cc
 held_is (ready base) o batch journal e f = cc
@@ -123,7 +123,7 @@ module _ (log : List Happened) (s : State) (sound : Sound s) (tied : Tied log s)
         let k = reply_kept g.0 c.number (Answered c.number (Replied out)) g.1 in
         let x : k.0 ≡ c = same_call s.calls k.0 c sound.numbers k.1 w k.2 in
         let t : k.4 ≡ Replied out = (let e = k.6 in cc) in
-        given_is c.stage c.batch journal out f (ap (λ (d : Call). told_of d.stage) (sym x) ∙ (k.5 ∙ ap Some t));
+        given_is c.stage c.batch journal out f (ap (λ (d : Call). answer_of d.stage) (sym x) ∙ (k.5 ∙ ap Some t));
     committed = λ place g.
         let k = commit_kept g.0 c.number place g.1 in
         let x : k.0 ≡ c = same_call s.calls k.0 c sound.numbers k.1 w k.2 in
@@ -155,7 +155,7 @@ module _ (log : List Happened) (s : State) (sound : Sound s) (tied : Tied log s)
 
   -- ---- which calls are listed
 
-  listed_told : (g : Stage) (o : Option ℕ) (c : Call) → is_listed_at g o ≡ true → told_of c.stage ≡ told_of g → StageTold log g c → ReplyTold log o c → IsListed log c.number
+  listed_told : (g : Stage) (o : Option ℕ) (c : Call) → is_listed_at g o ≡ true → answer_of c.stage ≡ answer_of g → StageTold log g c → ReplyTold log o c → IsListed log c.number
   listed_told waiting o c e q t r = cc
   listed_told (running base made) o c e q t r = cc
   listed_told (ready base) o c e q t r = cc
@@ -164,7 +164,7 @@ module _ (log : List Happened) (s : State) (sound : Sound s) (tied : Tied log s)
   listed_told (committed y) o c e q t r = inl (y.place, (c.turn, t))
   listed_told (conflict n) o c e q t r = cc
 
-  told_listed : (g : Stage) (o : Option ℕ) (n : ℕ) (y : Reply) → told_of g ≡ Some (Replied y) → o ≡ Some n → is_listed_at g o ≡ true
+  told_listed : (g : Stage) (o : Option ℕ) (n : ℕ) (y : Reply) → answer_of g ≡ Some (Replied y) → o ≡ Some n → is_listed_at g o ≡ true
   told_listed waiting o n y e q = cc
   told_listed (running base made) o n y e q = cc
   told_listed (ready base) o n y e q = cc
@@ -193,7 +193,7 @@ module _ (log : List Happened) (s : State) (sound : Sound s) (tied : Tied log s)
       let g : x.0.stage ≡ conflict place = ap (λ (d : Call). d.stage) (sym same) ∙ k.3 in
       both_ways (is_listed x.0) (ap (λ g. is_listed_at g x.0.replied) g) x.3
 
-  conflict_told : (g : Stage) (c : Call) (place : ℕ) → told_of g ≡ Some (Conflicted place) → StageTold log g c → At log c.turn (Commit c.number) (Decided c.number Conflict place)
+  conflict_told : (g : Stage) (c : Call) (place : ℕ) → answer_of g ≡ Some (Conflicted place) → StageTold log g c → At log c.turn (Commit c.number) (Decided c.number Conflict place)
   conflict_told waiting c place e t = cc
   conflict_told (running base made) c place e t = cc
   conflict_told (ready base) c place e t = cc

@@ -8,7 +8,7 @@ use Rattle.entry_book.specs.Order.{Within}
 use Rattle.entry_book.specs.Batches.{Batch}
 use Rattle.entry_book.proofs.Sets.{within_left, within_right, from_within_append}
 use Rattle.call_machine.specs.Schedules.{Different}
-use Rattle.call_machine.specs.Calls.{Call, State, with_call, moved, told_of}
+use Rattle.call_machine.specs.Calls.{Call, State, with_call, moved, answer_of}
 use Rattle.call_machine.specs.Laws.{AscendingTurns, number_of}
 use Rattle.call_machine.proofs.Lists.{split_at}
 use Rattle.call_machine.proofs.Rows.{same_call, within_new, within_other, from_with_call, numbers-with_call, one_number_more}
@@ -19,7 +19,7 @@ use Rattle.call_machine.proofs.Line.{entered, journal_in, journal-append, StageF
 pub record Stamped (count : ℕ) (c : Call) : Type 0 where
   pub invoked : c.invoked ≤ count
   pub begun : is_begun c.stage ≡ true → (c.invoked < c.turn) × (c.turn ≤ count)
-  pub over : (n : ℕ) → c.replied ≡ Some n → (n ≤ count) × IsSome (told_of c.stage) × (is_begun c.stage ≡ true → c.turn < n)
+  pub over : (n : ℕ) → c.replied ≡ Some n → (n ≤ count) × IsSome (answer_of c.stage) × (is_begun c.stage ≡ true → c.turn < n)
 
 pub stamped_more : (count : ℕ) (c : Call) → Stamped count c → Stamped (count + 1) c
 stamped_more count c s = record {

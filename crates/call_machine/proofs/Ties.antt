@@ -18,11 +18,11 @@ use Rattle.call_answers.specs.declared.answer.Decision.{Decision}
 use Rattle.call_answers.specs.declared.answer.Decision.TheVariants.{Conflict, Committed, Full}
 use Rattle.call_answers.specs.declared.answer.Done.{Done}
 use Rattle.call_answers.specs.declared.answer.Done.TheVariants.{Invoked, Begun, Stepped, Decided, Answered}
-use Rattle.call_answers.specs.declared.answer.Told.{Told}
-use Rattle.call_answers.specs.declared.answer.Told.TheVariants.{Conflicted, Replied}
+use Rattle.call_answers.specs.declared.answer.CallAnswer.{CallAnswer}
+use Rattle.call_answers.specs.declared.answer.CallAnswer.TheVariants.{Conflict as Conflicted, Replied}
 use Rattle.batch_work.specs.declared.status.Status.{Status}
 use Rattle.call_machine.specs.Schedules.{Happened, At, HandedIn, BatchesOf, commit_of, commits_in, IsDueConflict}
-use Rattle.call_machine.specs.Calls.{Stage, waiting, running, ready, answered, committed, conflict, Call, State, first_state, with_call, told_of, stage_settled, stage_on, status_at}
+use Rattle.call_machine.specs.Calls.{Stage, waiting, running, ready, answered, committed, conflict, Call, State, first_state, with_call, answer_of, stage_settled, stage_on, status_at}
 use Rattle.call_machine.specs.Machine.{Invokes, Begins, Steps, CommitsNow, IsFull, Conflicts, Commits, Replies, Accepts}
 use Rattle.call_machine.proofs.Rows.{call_within, within_new}
 use Rattle.call_machine.proofs.Sound.{Sound, Stamped}
@@ -54,19 +54,19 @@ turn_on batch books base made turn = elim (nat_lt made (length (footprint_of bat
 ]
 
 -- a call that had no reply to give carries on where it stands next
-carries_on : (count : ℕ) (r : Call) (stage : Stage) (turn : ℕ) → Stamped count r → told_of r.stage ≡ None → ((n : ℕ) → HasTurn r.stage r.turn n → HasTurn stage turn n) → Carries r (record r { stage = stage; turn = turn })
+carries_on : (count : ℕ) (r : Call) (stage : Stage) (turn : ℕ) → Stamped count r → answer_of r.stage ≡ None → ((n : ℕ) → HasTurn r.stage r.turn n → HasTurn stage turn n) → Carries r (record r { stage = stage; turn = turn })
 carries_on count r stage turn k e begun = record {
   number = refl;
   batch = refl;
   invoked = refl;
   replied = λ n q. absurd (not_replied count r k e n q);
-  committed = λ q i. let z : told_of r.stage ≡ Some (Replied q) = ap told_of i in absurd (no_reply e z);
-  answered = λ q i. let z : told_of r.stage ≡ Some (Replied q) = ap told_of i in absurd (no_reply e z);
-  conflict = λ n i. let z : told_of r.stage ≡ Some (Conflicted n) = ap told_of i in absurd (no_reply e z);
+  committed = λ q i. let z : answer_of r.stage ≡ Some (Replied q) = ap answer_of i in absurd (no_reply e z);
+  answered = λ q i. let z : answer_of r.stage ≡ Some (Replied q) = ap answer_of i in absurd (no_reply e z);
+  conflict = λ n i. let z : answer_of r.stage ≡ Some (Conflicted n) = ap answer_of i in absurd (no_reply e z);
   begun = begun;
 }
   where
-    no_reply : {o : Option Told} {t : Told} → o ≡ None → o ≡ Some t → ⊥
+    no_reply : {o : Option CallAnswer} {t : CallAnswer} → o ≡ None → o ≡ Some t → ⊥
     no_reply e z = cc
 
 invokes : (log : List Happened) (s : State) (n : ℕ) (batch : Batch) (d : Done) (t : State) → Tied log s → Invokes s n batch d t → Tied (log ++ record { event = Invoke n batch; done = d } ∷ []) t
@@ -93,7 +93,7 @@ begins log s n d t g h i =
     let w = call_within n s.calls i.call i.found in
     let k = g.stamped i.call w.0 in
     let o = h.told i.call w.0 in
-    let none : told_of i.call.stage ≡ None = ap told_of i.in_turn in
+    let none : answer_of i.call.stage ≡ None = ap answer_of i.in_turn in
     let c : Call = record i.call { stage = i.stage; turn = s.count + 1 } in
     let done : Done = Begun n (length s.journal) (status_at i.stage) in
     let tl : t.calls ≡ with_call c s.calls = ap (λ (s : State). s.calls) i.after in
@@ -120,7 +120,7 @@ steps log s n d t g h i =
     let w = call_within n s.calls i.call i.found in
     let k = g.stamped i.call w.0 in
     let o = h.told i.call w.0 in
-    let none : told_of i.call.stage ≡ None = ap told_of i.in_turn in
+    let none : answer_of i.call.stage ≡ None = ap answer_of i.in_turn in
     let c : Call = record i.call { stage = i.stage } in
     let done : Done = Stepped n i.mark (status_at i.stage) in
     let f : Happened = record { event = Step n; done = done } in
@@ -142,7 +142,7 @@ decides : (log : List Happened) (s : State) (n : ℕ) (t : State) (r : Call) (ba
 decides log s n t r base stage decision place entry g h w e q tc tl tj turn told keeps batches now =
     let k = g.stamped r w in
     let o = h.told r w in
-    let none : told_of r.stage ≡ None = ap told_of q in
+    let none : answer_of r.stage ≡ None = ap answer_of q in
     let c : Call = record r { stage = stage; turn = s.count + 1 } in
     let f : Happened = record { event = Commit n; done = Decided n decision place } in
     tied_moved log s t r c (Commit n) (Decided n decision place) entry h g.numbers w (carries_on s.count r stage (s.count + 1) k none (λ m b. turn m)) tc tl tj
@@ -231,7 +231,7 @@ replies log s n d t g h i =
     let w = call_within n s.calls i.call i.found in
     let o = h.told i.call w.0 in
     let c : Call = record i.call { replied = Some (s.count + 1) } in
-    let done : Done = Answered n i.told in
+    let done : Done = Answered n i.given in
     let f : Happened = record { event = ReplyEvent n; done = done } in
     let tl : t.calls ≡ with_call c s.calls = ap (λ (s : State). s.calls) i.after in
     subst (λ d. Tied (log ++ record { event = ReplyEvent n; done = d } ∷ []) t) (sym i.answer)
@@ -241,9 +241,9 @@ replies log s n d t g h i =
     (record {
       invoked = (o.invoked.0, at_more log f i.call.invoked _ _ o.invoked.1);
       stage = stage_same log f i.call.stage i.call (Some (s.count + 1)) o.stage;
-      replied = (i.told, i.in_turn, subst (λ m. At (log ++ f ∷ []) (s.count + 1) (ReplyEvent m) (Answered m i.told)) (sym w.1) (at_last log f s.count h.count));
+      replied = (i.given, i.in_turn, subst (λ m. At (log ++ f ∷ []) (s.count + 1) (ReplyEvent m) (Answered m i.given)) (sym w.1) (at_last log f s.count h.count));
     })
-    (c, subst (λ l. Within l c) (sym tl) (within_new c s.calls i.call w.0 refl), w.1, refl, i.told, i.in_turn, refl)
+    (c, subst (λ l. Within l c) (sym tl) (within_new c s.calls i.call w.0 refl), w.1, refl, i.given, i.in_turn, refl)
     (none_entered log f (commits_in log) s.journal h.journal) (record { begins = λ c q. cc; due = λ c place q. cc }))
   where
     stage_same : (log : List Happened) (f : Happened) (z : Stage) (r : Call) (m : Option ℕ) → StageTold log z r → StageTold (log ++ f ∷ []) z (record r { replied = m })

@@ -8,9 +8,9 @@ use Rattle.call_events.specs.declared.event.Event.TheVariants.{Begin, Commit, In
 use Rattle.call_answers.specs.declared.answer.Decision.TheVariants.{Committed, Full}
 use Rattle.call_answers.specs.declared.answer.Done.{Done}
 use Rattle.call_answers.specs.declared.answer.Done.TheVariants.{Answered, Begun, Decided}
-use Rattle.call_answers.specs.declared.answer.Told.{Told}
+use Rattle.call_answers.specs.declared.answer.CallAnswer.{CallAnswer}
 use Rattle.call_machine.specs.Schedules.{Answer, At, Happened, accepted}
-use Rattle.call_machine.specs.Calls.{Stage, waiting, running, ready, answered, committed, conflict, Call, State, first_state, told_of}
+use Rattle.call_machine.specs.Calls.{Stage, waiting, running, ready, answered, committed, conflict, Call, State, first_state, answer_of}
 use Rattle.call_machine.specs.Known.{decided_of}
 use Rattle.call_machine.specs.Machine.{Runs}
 use Rattle.call_machine.specs.Laws.{CallsAreStamped, DecidedAt, HeadlineHolds, IsStamped, RepliesHeld, SettledAt}
@@ -85,10 +85,10 @@ module _ (log : List Happened) (s : State) (h : Stands log s) (call : Call) (w :
         ap (λ (c : Call). c.replied) (sym (this k.0 k.1 k.2)) ∙ k.3,
   )
 
-  told_stamped : (n : ℕ) (done : Done) → At log n (ReplyEvent call.number) done → (told : Told) × (told_of call.stage ≡ Some told) × (done ≡ Answered call.number told)
+  told_stamped : (n : ℕ) (done : Done) → At log n (ReplyEvent call.number) done → (told : CallAnswer) × (answer_of call.stage ≡ Some told) × (done ≡ Answered call.number told)
   told_stamped n done a =
       let k : KeepsReply s.calls n call.number done = kept_at n (ReplyEvent call.number) done a in
-      (k.4, ap (λ (c : Call). told_of c.stage) (sym (this k.0 k.1 k.2)) ∙ k.5, k.6)
+      (k.4, ap (λ (c : Call). answer_of c.stage) (sym (this k.0 k.1 k.2)) ∙ k.5, k.6)
 
   turn_is : (g : Stage) (n : ℕ) → call.stage ≡ g → DecidedAt log n call.number g → decided_of g call.turn ≡ Some n
   turn_is waiting n e d = absurd d

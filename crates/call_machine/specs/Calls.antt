@@ -8,8 +8,8 @@ use Rattle.entry_book.specs.History.{books_of, reply_to}
 use Rattle.batch_work.specs.Reads.{footprint_of, awaits_commit}
 use Rattle.batch_work.specs.declared.status.Status.{Status}
 use Rattle.batch_work.specs.declared.status.Status.TheVariants.{New, Running, Ready, Settled}
-use Rattle.call_answers.specs.declared.answer.Told.{Told}
-use Rattle.call_answers.specs.declared.answer.Told.TheVariants.{Replied, Conflicted}
+use Rattle.call_answers.specs.declared.answer.CallAnswer.{CallAnswer}
+use Rattle.call_answers.specs.declared.answer.CallAnswer.TheVariants.{Replied, Conflict}
 
 -- Where a call stands. Its base is the place that its begin found.
 pub data Stage : Type 0 where
@@ -61,14 +61,14 @@ moved c s = record s { count = s.count + 1; calls = with_call c s.calls }
 
 -- ---- stages
 
--- what its reply tells, once it has one
-abbrev pub told_of : Stage → Option Told
-told_of waiting = None
-told_of (running base made) = None
-told_of (ready base) = None
-told_of (answered r) = Some (Replied r)
-told_of (committed r) = Some (Replied r)
-told_of (conflict n) = Some (Conflicted n)
+-- its answer, once it has one
+abbrev pub answer_of : Stage → Option CallAnswer
+answer_of waiting = None
+answer_of (running base made) = None
+answer_of (ready base) = None
+answer_of (answered r) = Some (Replied r)
+answer_of (committed r) = Some (Replied r)
+answer_of (conflict n) = Some (Conflict n)
 
 abbrev pub status_at : Stage → Status
 status_at waiting = New

@@ -1,5 +1,5 @@
 -- What a machine's fields stand for, and what an event does to one call. For this crate's own contracts.
-use Rattle.std.specs.Prelude.{◌≡◌, ℕ, ◌+◌, ◌≤◌, ◌^◌, Bool, true, false, ◌&&◌, ◌⊎◌, List, ◌∷◌, ◌++◌, [], map, length, take, slice_get, nat_lt, Option, Some, None, Result, Ok, Err, is_none, if◌then◌else◌}
+use Rattle.std.specs.Prelude.{◌≡◌, ℕ, ◌+◌, ◌≤◌, ◌^◌, Bool, true, false, ◌&&◌, ◌||◌, ⊤, ◌⊎◌, List, ◌∷◌, ◌++◌, [], map, length, take, slice_get, nat_lt, Option, Some, None, Result, Ok, Err, is_none, is_some, if◌then◌else◌}
 use Rattle.std.specs.List.{AllByRecursion}
 use Rattle.entry_book.specs.declared.limit.Limit.{Limit}
 use Rattle.entry_book.specs.declared.reply.Outcome.TheVariants.{Committed, Refused}
@@ -7,22 +7,24 @@ use Rattle.entry_book.specs.declared.reply.Refusal.TheVariants.{Full}
 use Rattle.entry_book.specs.Rows.{Bytes}
 use Rattle.entry_book.specs.Book.{Book}
 use Rattle.entry_book.specs.Batches.{Batch, IsMadeFor}
-use Rattle.entry_book.specs.History.{books_of, commits, reply_to}
+use Rattle.entry_book.specs.declared.reply.Reply.{Reply}
+use Rattle.entry_book.specs.History.{books_of, commits, is_committed, reply_to}
 use Rattle.version_book.specs.declared.mark.MarkKind.{MarkKind}
 use Rattle.batch_work.specs.declared.status.Status.{Status}
+use Rattle.batch_work.specs.declared.status.Status.TheVariants.{Settled}
 use Rattle.batch_work.specs.Reads.{footprint_of, awaits_commit}
-use Rattle.batch_work.specs.Working.{Base, Work, footprint_there, awaits_there, reply_there}
+use Rattle.batch_work.specs.Working.{Base, Work, footprint_there, awaits_there, reply_there, status_of}
 use Rattle.commit_head.specs.declared.item.Item.{Item}
 use Rattle.commit_head.specs.Heads.{Head, IsAppended, IsJournal, place_of}
 use Rattle.commit_head.specs.Journals.{Leads, batches_of, first_state}
+use Rattle.call_answers.specs.declared.answer.CallAnswer.{CallAnswer}
+use Rattle.call_answers.specs.declared.answer.CallAnswer.TheVariants.{Replied, Conflict}
 use Rattle.call_answers.specs.declared.answer.Decision.{Decision}
 use Rattle.call_answers.specs.declared.answer.Decision.TheVariants as to
 use Rattle.call_answers.specs.declared.answer.Done.{Done}
 use Rattle.call_events.specs.declared.event.Event.{Event}
 use Rattle.call_events.specs.declared.event.EventRefusal.{EventRefusal}
 use Rattle.call_events.specs.declared.event.EventRefusal.TheVariants.{NotNow, NoMemory}
-use Rattle.call_machine.specs.declared.slot.End.{End}
-use Rattle.call_machine.specs.declared.slot.End.TheVariants as is
 use Rattle.call_machine.specs.declared.slot.Slot.{Slot}
 use Rattle.call_machine.specs.Schedules.{Answer, IsDue}
 use Rattle.call_machine.specs.Calls.{Stage, waiting, running, ready, answered, committed, conflict, Call, State, stage_settled, stage_after, status_at}
@@ -35,29 +37,53 @@ abbrev pub stage_from : Option Base → Batch → ℕ → Stage
 stage_from None batch n = waiting
 stage_from (Some base) batch n = if nat_lt n (length (footprint_there batch base)) then running base.newest.number n else stage_settled (awaits_there batch base) base.newest.number (reply_there batch base)
 
-abbrev pub stage_at_end : End → Stage
-stage_at_end (is.Answered r) = answered r
-stage_at_end (is.Committed r) = committed r
-stage_at_end (is.Conflict n) = conflict n
+abbrev pub stage_replied : Bool → Reply → Stage
+stage_replied true r = committed r
+stage_replied false r = answered r
 
-abbrev pub stage_kept : Option End → Work → Stage
+-- where a call stands that has this answer
+abbrev pub stage_over : CallAnswer → Stage
+stage_over (Replied r) = stage_replied (is_committed r.outcome) r
+stage_over (Conflict n) = conflict n
+
+abbrev pub stage_kept : Option CallAnswer → Work → Stage
 stage_kept None w = stage_from w.base w.batch w.steps
-stage_kept (Some e) w = stage_at_end e
+stage_kept (Some a) w = stage_over a
 
 abbrev pub stage_of_slot : Slot → Stage
-stage_of_slot slot = stage_kept slot.end slot.work
+stage_of_slot slot = stage_kept slot.answer slot.work
+
+-- a call whose work is settled has its answer
+abbrev pub AnsweredWhenSettled : Option CallAnswer → Work → Type 0
+AnsweredWhenSettled None w = status_of w ≡ Settled → ⊥
+AnsweredWhenSettled (Some a) w = ⊤
 
 abbrev pub new_work : Batch → Work
 new_work batch = record { batch = batch; base = None; steps = 0 }
 
 abbrev pub new_slot : Batch → ℕ → Slot
-new_slot batch invoked = record { work = new_work batch; end = None; invoked = invoked; turn = 0; replied = None }
+new_slot batch invoked = record { work = new_work batch; answer = None; invoked = invoked; turn = 0; replied = None }
 
 abbrev pub call_kept : ℕ → Slot → Call
 call_kept n slot = record { number = n; batch = slot.work.batch; stage = stage_of_slot slot; invoked = slot.invoked; turn = slot.turn; replied = slot.replied }
 
 abbrev pub calls_kept : List (ℕ × Slot) → List Call
 calls_kept es = map (λ e. call_kept e.0 e.1) es
+
+-- it is committed, or has replied otherwise than by a conflict
+abbrev pub is_listed_answer : Option CallAnswer → Option ℕ → Bool
+is_listed_answer None replied = false
+is_listed_answer (Some (Replied r)) replied = is_committed r.outcome || is_some replied
+is_listed_answer (Some (Conflict n)) replied = false
+
+abbrev pub is_listed_slot : Slot → Bool
+is_listed_slot slot = is_listed_answer slot.answer slot.replied
+
+abbrev pub is_listed_entry : ℕ × Slot → Bool
+is_listed_entry e = is_listed_slot e.1
+
+abbrev pub turn_of_entry : ℕ × Slot → ℕ × ℕ
+turn_of_entry e = (e.1.turn, e.0)
 
 -- ---- what a work has to do with the journal
 
@@ -82,8 +108,12 @@ pub record RestsOn (own : Bytes) (items : List Item) (w : Work) : Type 0 where
   pub made : IsMadeFor own w.batch
   pub began : BeganWithin own items w.batch w.steps w.base
 
+pub record SlotRests (own : Bytes) (items : List Item) (slot : Slot) : Type 0 where
+  pub work : RestsOn own items slot.work
+  pub answered : AnsweredWhenSettled slot.answer slot.work
+
 abbrev pub AllRest : Bytes → List Item → List (ℕ × Slot) → Type 0
-AllRest own items es = AllByRecursion (λ e. RestsOn own items e.1.work) es
+AllRest own items es = AllByRecursion (λ e. SlotRests own items e.1) es
 
 -- the head keeps its whole journal
 abbrev pub IsWhole : Head → Type 0
@@ -154,7 +184,7 @@ pub record SlotBegins (h : Head) (old : Slot) (turn : ℕ) (status : Status) (la
   pub invoked : later.invoked ≡ old.invoked
   pub turn_is : later.turn ≡ turn
   pub replied : later.replied ≡ old.replied
-  pub rests : RestsOn (domain_of h) h.kept later.work
+  pub rests : SlotRests (domain_of h) h.kept later
 
 pub record SlotSteps (own : Bytes) (items : List Item) (old : Slot) (mark : MarkKind) (status : Status) (later : Slot) : Type 0 where
   pub base : ℕ
@@ -167,7 +197,7 @@ pub record SlotSteps (own : Bytes) (items : List Item) (old : Slot) (mark : Mark
   pub invoked : later.invoked ≡ old.invoked
   pub turn : later.turn ≡ old.turn
   pub replied : later.replied ≡ old.replied
-  pub rests : RestsOn own items later.work
+  pub rests : SlotRests own items later
 
 -- ---- a commit
 
@@ -204,16 +234,16 @@ pub record GoesOn (old new : Head) : Type 0 where
   pub kept : new.kept ≡ old.kept ++ more
   pub whole : IsWhole new
 
--- A commit that was prepared is finished: the call's end has its reply, and the head its item.
-pub record Finishes (old : Head) (item : Item) (end : End) (place : ℕ) (new : Head) : Type 0 where
-  pub end_is : end ≡ is.Committed (record { place = place_of old + 1; outcome = Committed item.replies })
+-- A commit that was prepared is finished: the call has its answer, and the head its item.
+pub record Finishes (old : Head) (item : Item) (answer : CallAnswer) (place : ℕ) (new : Head) : Type 0 where
+  pub answer_is : answer ≡ Replied (record { place = place_of old + 1; outcome = Committed item.replies })
   pub place_is : place ≡ place_of old + 1
   pub appended : IsAppended old item new
 
-pub record IsDecided (old : Head) (w : Work) (end : End) (decision : Decision) (place : ℕ) (new : Head) : Type 0 where
+pub record IsDecided (old : Head) (w : Work) (answer : CallAnswer) (decision : Decision) (place : ℕ) (new : Head) : Type 0 where
   pub base : ℕ
   pub in_turn : stage_kept None w ≡ ready base
-  pub decided : Decides (journal_of old) w.batch base decision place (stage_at_end end) (journal_of new)
+  pub decided : Decides (journal_of old) w.batch base decision place (stage_over answer) (journal_of new)
   pub goes_on : GoesOn old new
 
 pub record SlotDecides (old_head : Head) (old : Slot) (turn : ℕ) (decision : Decision) (place : ℕ) (later : Slot) (head : Head) : Type 0 where

@@ -19,10 +19,10 @@ use Rattle.batch_work.specs.declared.status.Status.{Status}
 use Rattle.call_answers.specs.declared.answer.Decision.TheVariants as is
 use Rattle.call_answers.specs.declared.answer.Done.{Done}
 use Rattle.call_answers.specs.declared.answer.Done.TheVariants.{Begun, Decided, Answered}
-use Rattle.call_answers.specs.declared.answer.Told.{Told}
-use Rattle.call_answers.specs.declared.answer.Told.TheVariants.{Replied}
+use Rattle.call_answers.specs.declared.answer.CallAnswer.{CallAnswer}
+use Rattle.call_answers.specs.declared.answer.CallAnswer.TheVariants.{Replied}
 use Rattle.call_machine.specs.Schedules.{Answer, At, Happened, Headline, accepted}
-use Rattle.call_machine.specs.Calls.{Stage, waiting, running, ready, answered, committed, conflict, Call, State, call_at, first_state, told_of}
+use Rattle.call_machine.specs.Calls.{Stage, waiting, running, ready, answered, committed, conflict, Call, State, answer_of, call_at, first_state}
 use Rattle.call_machine.specs.Known.{decided_of}
 use Rattle.call_machine.specs.Machine.{Accepts, Applies, Runs, refusal_of}
 
@@ -83,7 +83,7 @@ pub record IsStamped (log : List Happened) (call : Call) : Type 0 where
   pub invoked : (n : ℕ) (batch : Batch) → ((n ≡ call.invoked) × (batch ≡ call.batch)) ↔ ((done : Done) × At log n (Invoke call.number batch) done)
   pub decided : (n : ℕ) → (decided_of call.stage call.turn ≡ Some n) ↔ DecidedAt log n call.number call.stage
   pub replied : (n : ℕ) → (call.replied ≡ Some n) ↔ ((done : Done) × At log n (on.Reply call.number) done)
-  pub told : (n : ℕ) (done : Done) → At log n (on.Reply call.number) done → (told : Told) × (told_of call.stage ≡ Some told) × (done ≡ Answered call.number told)
+  pub told : (n : ℕ) (done : Done) → At log n (on.Reply call.number) done → (answer : CallAnswer) × (answer_of call.stage ≡ Some answer) × (done ≡ Answered call.number answer)
 
 abbrev pub CallsAreStamped : Type 0
 CallsAreStamped = (own : Bytes) (events : List Event) (answers : List Answer) (s : State) (c : ℕ) (call : Call) → Runs (first_state own) events answers s → call_at c s.calls ≡ Some call → IsStamped (accepted events answers) call
@@ -117,7 +117,7 @@ RefusedWhereDue = (s : State) (event : Event) (answer : Answer) (t : State) (r :
 -- running the plain book through these calls' batches gives each of them the reply that the machine holds of it, given out or not
 abbrev pub HoldReplies : List Call → List Book → List ℕ → Type 0
 HoldReplies calls books [] = ⊤
-HoldReplies calls books (c ∷ cs) = (call : Call) × (call_at c calls ≡ Some call) × (told_of call.stage ≡ Some (Replied (reply_to call.batch books))) × HoldReplies calls (books_after call.batch books) cs
+HoldReplies calls books (c ∷ cs) = (call : Call) × (call_at c calls ≡ Some call) × (answer_of call.stage ≡ Some (Replied (reply_to call.batch books))) × HoldReplies calls (books_after call.batch books) cs
 
 abbrev pub RepliesHeld : Type 0
 RepliesHeld = (own : Bytes) (events : List Event) (answers : List Answer) (s : State) (order : List ℕ) → Runs (first_state own) events answers s → IsOrder s order → HoldReplies s.calls first_books order

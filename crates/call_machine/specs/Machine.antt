@@ -16,12 +16,12 @@ use Rattle.call_events.specs.declared.event.Event.TheVariants as on
 use Rattle.call_answers.specs.declared.answer.Decision.TheVariants as is
 use Rattle.call_answers.specs.declared.answer.Done.{Done}
 use Rattle.call_answers.specs.declared.answer.Done.TheVariants.{Invoked, Begun, Stepped, Decided, Answered}
-use Rattle.call_answers.specs.declared.answer.Told.{Told}
+use Rattle.call_answers.specs.declared.answer.CallAnswer.{CallAnswer}
 use Rattle.call_events.specs.declared.event.EventRefusal.{EventRefusal}
 use Rattle.call_events.specs.declared.event.EventRefusal.TheVariants.{CallTaken, UnknownCall, NotNow, TooManyCalls, NoMemory}
 use Rattle.call_events.specs.declared.event.RefusedEvent.{RefusedEvent}
 use Rattle.call_machine.specs.Schedules.{Answer, IsDue}
-use Rattle.call_machine.specs.Calls.{Stage, waiting, running, ready, answered, committed, conflict, Call, State, call_at, moved, told_of, status_at, stage_after}
+use Rattle.call_machine.specs.Calls.{Stage, waiting, running, ready, answered, committed, conflict, Call, State, answer_of, call_at, moved, status_at, stage_after}
 
 abbrev pub AreFor : Bytes → List Event → Type 0
 AreFor own events = AllByRecursion (IsFor own) events
@@ -85,9 +85,9 @@ pub record Replies (s : State) (n : ℕ) (done : Done) (t : State) : Type 0 wher
   pub call : Call
   pub found : call_at n s.calls ≡ Some call
   pub once : call.replied ≡ None
-  pub told : Told
-  pub in_turn : told_of call.stage ≡ Some told
-  pub answer : done ≡ Answered n told
+  pub given : CallAnswer
+  pub in_turn : answer_of call.stage ≡ Some given
+  pub answer : done ≡ Answered n given
   pub after : t ≡ moved (record call { replied = Some (s.count + 1) }) s
 
 -- in state s the event may be answered so, and the state then is t
@@ -101,7 +101,7 @@ Accepts s (on.Reply n) done t = Replies s n done t
 -- ---- refused events
 
 abbrev pub is_over : Stage → Bool
-is_over stage = is_some (told_of stage)
+is_over stage = is_some (answer_of stage)
 
 abbrev pub is_waiting : Stage → Bool
 is_waiting waiting = true

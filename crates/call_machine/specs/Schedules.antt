@@ -18,7 +18,7 @@ use Rattle.call_events.specs.declared.event.Event.TheVariants as on
 use Rattle.call_answers.specs.declared.answer.Decision.TheVariants as is
 use Rattle.call_answers.specs.declared.answer.Done.{Done}
 use Rattle.call_answers.specs.declared.answer.Done.TheVariants.{Invoked, Begun, Stepped, Decided, Answered}
-use Rattle.call_answers.specs.declared.answer.Told.TheVariants.{Replied, Conflicted}
+use Rattle.call_answers.specs.declared.answer.CallAnswer.TheVariants.{Replied, Conflict}
 use Rattle.call_events.specs.declared.event.RefusedEvent.{RefusedEvent}
 
 -- ---- a schedule
@@ -120,7 +120,7 @@ commit_of (Stepped c mark status) = []
 commit_of (Decided c is.Committed place) = c ∷ []
 commit_of (Decided c is.Conflict place) = []
 commit_of (Decided c (is.Full limit) place) = []
-commit_of (Answered c told) = []
+commit_of (Answered c answer) = []
 
 -- the calls whose commit was answered committed, in the order of their commits
 abbrev pub commits_in : List Happened → List ℕ
@@ -177,7 +177,7 @@ ConflictsAreOver log = (n c place : ℕ) → At log n (Commit c) (Decided c is.C
 
 -- a conflict is given out by a call whose commit was answered so, and by no other
 abbrev pub ConflictsWereMet : List Happened → Type 0
-ConflictsWereMet log = (n c place : ℕ) → At log n (on.Reply c) (Answered c (Conflicted place)) → (m : ℕ) × At log m (Commit c) (Decided c is.Conflict place)
+ConflictsWereMet log = (n c place : ℕ) → At log n (on.Reply c) (Answered c (Conflict place)) → (m : ℕ) × At log m (Commit c) (Decided c is.Conflict place)
 
 -- ---- the headline
 

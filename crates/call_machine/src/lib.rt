@@ -8,7 +8,7 @@
 //!
 //! - [`Machine`]: the calls over one book. It applies an [`Event`] and answers [`Done`], or hands it back as a
 //!   [`RefusedEvent`] with its [`EventRefusal`]; it tells the order, and of each call what is known: a [`KnownCall`].
-//! - [`Decision`]: what a commit comes to. [`Told`]: what a call is answered; [`CallAnswer`]: the same, lent.
+//! - [`CallAnswer`]: what a call is answered. [`Decision`]: what a commit comes to.
 //! - [`laws`]: the headline.
 //!
 //! The definitions stand in `specs/`: what is promised of a schedule, in the words of whoever handed it in, in `Schedules`;
@@ -22,6 +22,6 @@ pub mod laws;
 mod machine;
 mod slot;
 
-pub use call_answers::{CallAnswer, Decision, Done, KnownCall, Told};
+pub use call_answers::{CallAnswer, Decision, Done, KnownCall};
 pub use call_events::{Event, EventRefusal, RefusedEvent};
 pub use machine::Machine;

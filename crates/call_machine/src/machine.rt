@@ -1,8 +1,8 @@
 //! Which calls does a machine have, and what does an event do to them?
 
 ghost use Rattle.std.specs.Prelude.{◌≡◌, IfOk, filter, map};
-ghost use Rattle.call_machine.specs.Kept.{calls_kept, with_event};
-ghost use Rattle.call_machine.specs.Laws.{is_listed, number_in, turn_of};
+ghost use Rattle.call_machine.specs.Kept.{is_listed_entry, turn_of_entry, with_event};
+ghost use Rattle.call_machine.specs.Laws.{number_in};
 
 use crate::slot::Slot;
 use call_answers::{Done, KnownCall};
@@ -215,18 +215,18 @@ impl Machine {
         let Some(slot) = self.calls.get_mut(&number) else {
             return Err(EventRefusal::UnknownCall);
         };
-        let told = match slot.reply(turn) {
-            Ok(told) => told,
+        let answer = match slot.reply(turn) {
+            Ok(answer) => answer,
             Err(refusal) => return Err(refusal),
         };
         self.count = turn;
-        Ok(Done::Answered(number, told))
+        Ok(Done::Answered(number, answer))
     }
 }
 
 /// The turns of the listed calls, with their numbers.
 fn turns_of(alloc: Global, calls: &IndexMap<u64, Slot>) -> Result<Vec<(u64, u64)>, AllocError>
-    ensures { IfOk result (λ turns. turns.items ≡ map turn_of (filter is_listed (calls_kept calls.now.entries))) }
+    ensures { IfOk result (λ turns. turns.items ≡ map turn_of_entry (filter is_listed_entry calls.now.entries)) }
 {
     let mut turns = Vec::new(alloc);
     for (number, slot) in calls.iter() {

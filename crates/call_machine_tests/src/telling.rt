@@ -2,8 +2,7 @@
 
 use batch_texts::{Failed, mark_text, placed, reply_text};
 use batch_work::Status;
-use call_machine::{CallAnswer, Decision, Done, KnownCall, RefusedEvent, Told};
-use entry_book::Reply;
+use call_machine::{CallAnswer, Decision, Done, KnownCall, RefusedEvent};
 use std::alloc::Global;
 use version_book::Mark;
 
@@ -19,10 +18,10 @@ fn decided_text(alloc: Global, decision: &Decision, place: u64) -> Result<String
     }
 }
 
-pub fn told_text(alloc: Global, told: &Told) -> Result<String, Failed> {
-    match told {
-        Told::Replied(reply) => reply_text(alloc, reply.get()),
-        Told::Conflicted(place) => conflict_text(alloc, *place),
+pub fn answer_of_call(alloc: Global, answer: &CallAnswer) -> Result<String, Failed> {
+    match answer {
+        CallAnswer::Replied(reply) => reply_text(alloc, reply),
+        CallAnswer::Conflict(place) => conflict_text(alloc, *place),
     }
 }
 
@@ -63,7 +62,9 @@ pub fn done_text(alloc: Global, done: &Done) -> Result<String, Failed> {
                 decided_text(alloc, decision, *place)?.as_str(),
             )
         }
-        Done::Answered(call, told) => of_call(alloc, *call, told_text(alloc, told)?.as_str()),
+        Done::Answered(call, answer) => {
+            of_call(alloc, *call, answer_of_call(alloc, answer)?.as_str())
+        }
     }
 }
 
@@ -93,10 +94,9 @@ fn stamp_text(alloc: Global, kind: &str, stamp: Option<u64>) -> Result<String, F
 }
 
 /// A call's answer, where it has one.
-fn call_answer_text(alloc: Global, answer: Option<CallAnswer<'_>>) -> Result<String, Failed> {
+fn call_answer_text(alloc: Global, answer: Option<&CallAnswer>) -> Result<String, Failed> {
     match answer {
-        Some(CallAnswer::Replied(reply)) => reply_text(alloc, reply),
-        Some(CallAnswer::Conflict(place)) => conflict_text(alloc, place),
+        Some(answer) => answer_of_call(alloc, answer),
         None => Ok(String::from_str(alloc, "no answer")?),
     }
 }

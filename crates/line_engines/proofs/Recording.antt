@@ -12,28 +12,26 @@ use Rattle.entry_book.specs.Batches.{Batch}
 use Rattle.entry_book.specs.History.{books_after, first_books, is_committed, reply_to}
 use Rattle.entry_book.specs.Order.{Within}
 use Rattle.entry_book.proofs.Sets.{All-more, All-within}
-use Rattle.call_machine.specs.Calls.{Call, Stage, State, waiting, running, ready, answered, committed, conflict, call_at, first_state, told_of}
-use Rattle.call_machine.specs.Known.{Tells, TellsAnswer, TellsCall}
+use Rattle.call_machine.specs.Calls.{Call, Stage, State, waiting, running, ready, answered, committed, conflict, call_at, first_state, answer_of}
+use Rattle.call_machine.specs.Known.{Tells, TellsCall}
 use Rattle.call_machine.specs.Laws.{HoldReplies, IsOrder, IsStamped}
 use Rattle.call_events.specs.Events.{IsFor}
 use Rattle.call_machine.specs.Machine.{AreFor, Runs}
 use Rattle.call_machine.specs.Schedules.{Answer, At, Different, EndedBefore, GaveOut, HandedIn, Happened, Headline, IsListed, IsReplyOf, OneBatch, RunsFrom, StandsBefore, accepted}
-use Rattle.call_answers.specs.declared.call.CallAnswer.{CallAnswer}
-use Rattle.call_answers.specs.declared.call.CallAnswer.TheVariants as is
 use Rattle.call_answers.specs.declared.call.KnownCall.{KnownCall}
 use Rattle.call_answers.specs.declared.answer.Done.TheVariants.{Answered}
 use Rattle.call_events.specs.declared.event.Event.{Event}
 use Rattle.call_events.specs.declared.event.Event.TheVariants.{Invoke}
 use Rattle.call_events.specs.declared.event.Event.TheVariants as on
-use Rattle.call_answers.specs.declared.answer.Told.{Told}
-use Rattle.call_answers.specs.declared.answer.Told.TheVariants.{Replied}
+use Rattle.call_answers.specs.declared.answer.CallAnswer.{CallAnswer}
+use Rattle.call_answers.specs.declared.answer.CallAnswer.TheVariants.{Replied}
 use Rattle.call_machine.proofs.Events.{first_sound}
 use Rattle.call_machine.proofs.Line.{is_begun}
 use Rattle.call_machine.proofs.Runs.{runs_go_on}
 use Rattle.call_machine.proofs.Rows.{call_within, same_call}
 use Rattle.call_machine.proofs.Ties.{first_tied}
 use Rattle.call_machine.proofs.Whole.{Stands, calls_are_stamped, runs_stand}
-use Rattle.reg_lines.specs.CallRecords.{record_of, record_with}
+use Rattle.reg_lines.specs.CallRecords.{HasRecord, HasRecordWith, Records}
 use Rattle.reg_lines.specs.RecordLines.{record_json}
 use Rattle.reg_lines.specs.Runs.{IsRun, first_lines}
 use Rattle.reg_lines.specs.Spelled.{IsWrittenBatch, IsWrittenCall}
@@ -83,19 +81,6 @@ made batch call invoked replied reply = record { batch = batch; call = call; inv
 abbrev recorded_as : CallRecord → Recorded
 recorded_as x = made x.batch.now x.call x.invoked x.replied x.reply.now
 
--- the answer that is told is the reply
-replied_answer : (stage : Stage) (answer : Option CallAnswer) (reply : Reply) → told_of stage ≡ Some (Replied reply) → TellsAnswer stage answer → (b : Bor Reply) × (answer ≡ Some (is.Replied b)) × (b.now ≡ reply)
-replied_answer waiting answer reply e t = absurd (cc)
-replied_answer (running base made) answer reply e t = absurd (cc)
-replied_answer (ready base) answer reply e t = absurd (cc)
-replied_answer (conflict n) answer reply e t = absurd (cc)
-replied_answer (answered r) None reply e t = absurd t
-replied_answer (answered r) (Some (is.Conflict place)) reply e t = absurd t
-replied_answer (answered r) (Some (is.Replied b)) reply e t = (b, refl, t ∙ (cc))
-replied_answer (committed r) None reply e t = absurd t
-replied_answer (committed r) (Some (is.Conflict place)) reply e t = absurd t
-replied_answer (committed r) (Some (is.Replied b)) reply e t = (b, refl, t ∙ (cc))
-
 same_record : (r : Recorded) (batch : Batch) (call invoked : ℕ) (replied : Option ℕ) (reply : Reply) → r.batch ≡ batch → r.call ≡ call → r.invoked ≡ invoked → r.replied ≡ replied → r.reply ≡ reply → r ≡ made batch call invoked replied reply
 same_record r batch call invoked replied reply a b c d e =
     ap (λ x. made x r.call r.invoked r.replied r.reply) a
@@ -104,29 +89,32 @@ same_record r batch call invoked replied reply a b c d e =
     ∙ (ap (λ x. made batch call invoked x r.reply) d
     ∙ ap (λ x. made batch call invoked replied x) e)))
 
--- what is told of a call is its record
-record_told : (calls : List Call) (n : ℕ) (r : Recorded) (known : KnownCall) → IsRecordOf calls n r → Tells (call_at n calls) (Some known) → (x : CallRecord) × (record_of n known ≡ Some x) × (r ≡ recorded_as x)
-record_told calls n r known of t =
+-- what is known of a call is its record
+known_answer : (calls : List Call) (n : ℕ) (r : Recorded) (known : KnownCall) → IsRecordOf calls n r → Tells (call_at n calls) (Some known) → (c : Option CallRecord) → HasRecord n known c → HasRecordWith n known (Some (Replied r.reply)) c
+known_answer calls n r known of t c has =
     let told : TellsCall of.call known = subst (λ o. Tells o (Some known)) of.found t in
-    let answer = replied_answer of.call.stage known.answer r.reply of.holds told.answer in (
-      record { batch = known.batch; call = n; invoked = known.invoked; replied = known.replied; reply = answer.0 },
-      ap (λ a. record_with n known a) answer.1,
-      same_record r known.batch.now n known.invoked known.replied answer.0.now (of.batch_is ∙ sym told.batch) of.number_is (of.invoked_is ∙ sym told.invoked) (of.replied_is ∙ sym told.replied) (sym answer.2),
-    )
+    subst (λ a. HasRecordWith n known a c) (told.answer ∙ of.holds) has
 
-some_same : (a b : CallRecord) → Some a ≡ Some b → a ≡ b
-some_same a b e = cc
+told_same_record : (calls : List Call) (n : ℕ) (r : Recorded) (known : KnownCall) (x : CallRecord) → IsRecordOf calls n r → Tells (call_at n calls) (Some known) → HasRecord n known (Some x) → recorded_as x ≡ r
+told_same_record calls n r known x of t has =
+    let told : TellsCall of.call known = subst (λ o. Tells o (Some known)) of.found t in
+    let is : Records n known r.reply x = known_answer calls n r known of t (Some x) has in
+    sym (same_record r x.batch.now x.call x.invoked x.replied x.reply.now
+    (of.batch_is ∙ (sym told.batch ∙ ap (λ (b : Bor Batch). b.now) (sym is.batch)))
+    (of.number_is ∙ sym is.call_is)
+    (of.invoked_is ∙ (sym told.invoked ∙ sym is.invoked))
+    (of.replied_is ∙ (sym told.replied ∙ sym is.replied))
+    (sym is.reply_is))
 
-told_same_record : (calls : List Call) (n : ℕ) (r : Recorded) (known : KnownCall) (x : CallRecord) → IsRecordOf calls n r → Tells (call_at n calls) (Some known) → Some x ≡ record_of n known → recorded_as x ≡ r
-told_same_record calls n r known x of t e =
-    let told = record_told calls n r known of t in
-    sym (told.2 ∙ ap recorded_as (some_same told.0 x (sym told.1 ∙ sym e)))
+pub told_line : (calls : List Call) (n : ℕ) (r : Recorded) (known : KnownCall) (x : CallRecord) → IsRecordOf calls n r → Tells (call_at n calls) (Some known) → HasRecord n known (Some x) → as_line (record_json x.batch.now x.call x.invoked x.replied x.reply.now) ≡ record_line r
+told_line calls n r known x of t has = ap record_line (told_same_record calls n r known x of t has)
 
-pub told_line : (calls : List Call) (n : ℕ) (r : Recorded) (known : KnownCall) (x : CallRecord) → IsRecordOf calls n r → Tells (call_at n calls) (Some known) → Some x ≡ record_of n known → as_line (record_json x.batch.now x.call x.invoked x.replied x.reply.now) ≡ record_line r
-told_line calls n r known x of t e = ap record_line (told_same_record calls n r known x of t e)
+pub told_written : (calls : List Call) (n : ℕ) (r : Recorded) (known : KnownCall) (x : CallRecord) → IsRecordOf calls n r → Tells (call_at n calls) (Some known) → HasRecord n known (Some x) → IsWrittenBatch x.batch.now → IsWrittenCall x.call x.invoked x.replied x.reply.now → IsWritten r
+told_written calls n r known x of t has batch call = subst IsWritten (told_same_record calls n r known x of t has) (batch, call)
 
-pub told_written : (calls : List Call) (n : ℕ) (r : Recorded) (known : KnownCall) (x : CallRecord) → IsRecordOf calls n r → Tells (call_at n calls) (Some known) → Some x ≡ record_of n known → IsWrittenBatch x.batch.now → IsWrittenCall x.call x.invoked x.replied x.reply.now → IsWritten r
-told_written calls n r known x of t e batch call = subst IsWritten (told_same_record calls n r known x of t e) (batch, call)
+-- a call with a reply has a record
+pub told_there : (calls : List Call) (n : ℕ) (r : Recorded) (known : KnownCall) → IsRecordOf calls n r → Tells (call_at n calls) (Some known) → HasRecord n known None → ⊥
+told_there calls n r known of t has = known_answer calls n r known of t None has
 
 -- ---- the records of an order
 
@@ -144,7 +132,7 @@ records_of calls books (n ∷ ns) h =
 
 -- ---- their stamps
 
-told_same : (a b : Told) → Some a ≡ Some b → a ≡ b
+told_same : (a b : CallAnswer) → Some a ≡ Some b → a ≡ b
 told_same a b e = cc
 
 has_stamps : (log : List Happened) (calls : List Call) (n : ℕ) (r : Recorded) (of : IsRecordOf calls n r) → IsStamped log of.call → HasStamps log r
@@ -223,7 +211,7 @@ in_order log calls (n ∷ ns) (r ∷ rs) a s d strict =
 -- ---- their ends
 
 -- with the plain book's reply it has begun
-begun_told : (stage : Stage) (reply : Reply) → told_of stage ≡ Some (Replied reply) → is_begun stage ≡ true
+begun_told : (stage : Stage) (reply : Reply) → answer_of stage ≡ Some (Replied reply) → is_begun stage ≡ true
 begun_told waiting reply e = absurd (cc)
 begun_told (running base made) reply e = absurd (cc)
 begun_told (ready base) reply e = absurd (cc)

@@ -7,7 +7,7 @@ use Rattle.entry_book.specs.declared.reply.Reply.{Reply}
 use Rattle.entry_book.specs.Batches.{Batch}
 use Rattle.entry_book.specs.Book.{Book}
 use Rattle.entry_book.specs.History.{books_after, first_books, is_committed, reply_to}
-use Rattle.call_machine.specs.Calls.{Call, call_at, first_state, told_of}
+use Rattle.call_machine.specs.Calls.{Call, call_at, first_state, answer_of}
 use Rattle.call_machine.specs.Laws.{IsOrder}
 use Rattle.call_machine.specs.Machine.{Runs}
 use Rattle.call_machine.specs.Schedules.{At, Happened, Headline, accepted}
@@ -16,7 +16,7 @@ use Rattle.call_answers.specs.declared.answer.Done.TheVariants.{Answered}
 use Rattle.call_events.specs.declared.event.Event.{Event}
 use Rattle.call_events.specs.declared.event.Event.TheVariants.{Invoke}
 use Rattle.call_events.specs.declared.event.Event.TheVariants as on
-use Rattle.call_answers.specs.declared.answer.Told.TheVariants.{Replied}
+use Rattle.call_answers.specs.declared.answer.CallAnswer.TheVariants.{Replied}
 use Rattle.line_reading.specs.declared.fault.Fault.{Fault}
 use Rattle.reg_lines.specs.Events.{spelled_event}
 use Rattle.reg_lines.specs.Ids.{first_ids}
@@ -84,7 +84,7 @@ pub record IsRecordOf (calls : List Call) (number : ℕ) (r : Recorded) : Type 0
   pub batch_is : r.batch ≡ call.batch
   pub invoked_is : r.invoked ≡ call.invoked
   pub replied_is : r.replied ≡ call.replied
-  pub holds : told_of call.stage ≡ Some (Replied r.reply)
+  pub holds : answer_of call.stage ≡ Some (Replied r.reply)
 
 -- the calls of these numbers have these records, one each, in the same order
 abbrev pub AreRecords : List Call → List ℕ → List Recorded → Type 0

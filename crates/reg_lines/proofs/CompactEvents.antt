@@ -11,10 +11,11 @@ use Rattle.call_events.specs.Events.{event_code}
 use Rattle.call_answers.specs.declared.answer.Decision.{Decision}
 use Rattle.call_answers.specs.declared.answer.Decision.TheVariants as is
 use Rattle.call_answers.specs.declared.answer.Done.TheVariants.{Invoked, Begun, Stepped, Decided, Answered}
-use Rattle.call_answers.specs.declared.answer.Told.{Told}
-use Rattle.call_answers.specs.declared.answer.Told.TheVariants.{Replied, Conflicted}
-use Rattle.reg_lines.specs.EventAnswers.{begun_json, commit_json, decided_json, event_refusal_json, full_json, invoked_json, mark_json, order_json, status_json, stepped_json, told_json}
-use Rattle.reg_lines.specs.EventValues.{begun_data, commit_data, decided_data, full_data, invoked_data, stepped_data, told_data}
+use Rattle.call_answers.specs.declared.answer.CallAnswer.{CallAnswer}
+use Rattle.call_answers.specs.declared.answer.CallAnswer.TheVariants.{Replied, Conflict}
+use Rattle.reg_lines.specs.Replies.{answer_json}
+use Rattle.reg_lines.specs.EventAnswers.{begun_json, commit_json, decided_json, event_refusal_json, full_json, invoked_json, mark_json, order_json, status_json, stepped_json}
+use Rattle.reg_lines.specs.EventValues.{answer_data, begun_data, commit_data, decided_data, full_data, invoked_data, stepped_data}
 use Rattle.reg_lines.specs.EventValues.{EventsAreCompact, EventsHaveNoFloat, EventRefusalsAreCompact, EventRefusalsHaveNoFloat, OrdersAreCompact, OrdersHaveNoFloat}
 use Rattle.reg_lines.specs.Json.{list_json, text_json}
 use Rattle.reg_lines.specs.Values.{list_data, whole}
@@ -71,16 +72,16 @@ decided_json-is call is.Committed place = commit_json-is call (codes "committed"
 decided_json-is call is.Conflict place = commit_json-is call (codes "conflict") place
 decided_json-is call (is.Full limit) place = full_json-is call limit place
 
-told_json-is : (call : ℕ) (told : Told) → told_json call told ≡ compact_text (told_data call told)
-told_json-is call (Replied reply) = reply_json-is call reply
-told_json-is call (Conflicted place) = conflict_json-is call place
+answer_json-is : (call : ℕ) (answer : CallAnswer) → answer_json call answer ≡ compact_text (answer_data call answer)
+answer_json-is call (Replied reply) = reply_json-is call reply
+answer_json-is call (Conflict place) = conflict_json-is call place
 
 pub event_json-is : EventsAreCompact
 event_json-is (Invoked call) = invoked_json-is call
 event_json-is (Begun call place status) = begun_json-is call place status
 event_json-is (Stepped call read status) = stepped_json-is call read status
 event_json-is (Decided call decision place) = decided_json-is call decision place
-event_json-is (Answered call told) = told_json-is call told
+event_json-is (Answered call answer) = answer_json-is call answer
 
 -- ---- refused events, and the order
 
@@ -105,16 +106,16 @@ decided-no_float call is.Committed place = refl
 decided-no_float call is.Conflict place = refl
 decided-no_float call (is.Full limit) place = refl
 
-told-no_float : (call : ℕ) (told : Told) → has_float (told_data call told) ≡ false
-told-no_float call (Replied reply) = reply-no_float call reply
-told-no_float call (Conflicted place) = conflict-no_float call place
+answer-no_float : (call : ℕ) (answer : CallAnswer) → has_float (answer_data call answer) ≡ false
+answer-no_float call (Replied reply) = reply-no_float call reply
+answer-no_float call (Conflict place) = conflict-no_float call place
 
 pub event-no_float : EventsHaveNoFloat
 event-no_float (Invoked call) = refl
 event-no_float (Begun call place status) = refl
 event-no_float (Stepped call read status) = refl
 event-no_float (Decided call decision place) = decided-no_float call decision place
-event-no_float (Answered call told) = told-no_float call told
+event-no_float (Answered call answer) = answer-no_float call answer
 
 pub event_refusal-no_float : EventRefusalsHaveNoFloat
 event_refusal-no_float line r = refl

@@ -12,10 +12,8 @@ use Rattle.call_answers.specs.declared.answer.Decision.TheVariants as is
 use Rattle.call_answers.specs.declared.answer.Done.{Done}
 use Rattle.call_answers.specs.declared.answer.Done.TheVariants.{Invoked, Begun, Stepped, Decided, Answered}
 use Rattle.call_events.specs.declared.event.EventRefusal.{EventRefusal}
-use Rattle.call_answers.specs.declared.answer.Told.{Told}
-use Rattle.call_answers.specs.declared.answer.Told.TheVariants.{Replied, Conflicted}
 use Rattle.reg_lines.specs.Json.{list_json, text_json}
-use Rattle.reg_lines.specs.Replies.{conflict_json, reply_json, uuid_text}
+use Rattle.reg_lines.specs.Replies.{answer_json, uuid_text}
 
 -- ---- what was read, and what a call waits for
 
@@ -82,16 +80,12 @@ decided_json call is.Committed place = commit_json call (codes "committed") plac
 decided_json call is.Conflict place = commit_json call (codes "conflict") place
 decided_json call (is.Full limit) place = full_json call limit place
 
-abbrev pub told_json : ℕ → Told → List ℕ
-told_json call (Replied reply) = reply_json call reply
-told_json call (Conflicted place) = conflict_json call place
-
 abbrev pub event_json : Done → List ℕ
 event_json (Invoked call) = invoked_json call
 event_json (Begun call place status) = begun_json call place status
 event_json (Stepped call read status) = stepped_json call read status
 event_json (Decided call decision place) = decided_json call decision place
-event_json (Answered call told) = told_json call told
+event_json (Answered call answer) = answer_json call answer
 
 -- ---- refused events, and the order
 

@@ -13,8 +13,8 @@ use Rattle.call_answers.specs.declared.answer.Decision.TheVariants as is
 use Rattle.call_answers.specs.declared.answer.Done.{Done}
 use Rattle.call_answers.specs.declared.answer.Done.TheVariants.{Invoked, Begun, Stepped, Decided, Answered}
 use Rattle.call_events.specs.declared.event.EventRefusal.{EventRefusal}
-use Rattle.call_answers.specs.declared.answer.Told.{Told}
-use Rattle.call_answers.specs.declared.answer.Told.TheVariants.{Replied, Conflicted}
+use Rattle.call_answers.specs.declared.answer.CallAnswer.{CallAnswer}
+use Rattle.call_answers.specs.declared.answer.CallAnswer.TheVariants.{Replied, Conflict}
 use Rattle.reg_lines.specs.EventAnswers.{event_json, event_refusal_json, mark_text, order_json, status_text}
 use Rattle.reg_lines.specs.Values.{conflict_data, list_data, reply_data, whole}
 
@@ -66,16 +66,16 @@ decided_data call is.Committed place = commit_data call (codes "committed") plac
 decided_data call is.Conflict place = commit_data call (codes "conflict") place
 decided_data call (is.Full limit) place = full_data call limit place
 
-abbrev pub told_data : ℕ → Told → Data
-told_data call (Replied reply) = reply_data call reply
-told_data call (Conflicted place) = conflict_data call place
+abbrev pub answer_data : ℕ → CallAnswer → Data
+answer_data call (Replied reply) = reply_data call reply
+answer_data call (Conflict place) = conflict_data call place
 
 abbrev pub event_data : Done → Data
 event_data (Invoked call) = invoked_data call
 event_data (Begun call place status) = begun_data call place status
 event_data (Stepped call read status) = stepped_data call read status
 event_data (Decided call decision place) = decided_data call decision place
-event_data (Answered call told) = told_data call told
+event_data (Answered call answer) = answer_data call answer
 
 -- ---- refused events, and the order
 

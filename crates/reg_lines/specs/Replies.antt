@@ -15,6 +15,8 @@ use Rattle.entry_book.specs.declared.reply.Outcome.TheVariants as outcome
 use Rattle.entry_book.specs.declared.reply.Refusal.{Refusal}
 use Rattle.entry_book.specs.declared.reply.Refusal.TheVariants.{Full, NotYet, OfOp, TokenReused}
 use Rattle.entry_book.specs.declared.reply.Reply.{Reply}
+use Rattle.call_answers.specs.declared.answer.CallAnswer.{CallAnswer}
+use Rattle.call_answers.specs.declared.answer.CallAnswer.TheVariants.{Replied, Conflict}
 use Rattle.reg_lines.specs.Json.{list_json, option_json, text_json}
 use Rattle.reg_lines.specs.Refusals.{op_member}
 
@@ -159,3 +161,8 @@ conflict_json call place =
     codes "{\"call\":" ++ decimal call
     ++ codes ",\"place\":" ++ decimal place
     ++ codes ",\"result\":\"conflict\"}"
+
+-- what a call is answered
+abbrev pub answer_json : ℕ → CallAnswer → List ℕ
+answer_json call (Replied reply) = reply_json call reply
+answer_json call (Conflict place) = conflict_json call place

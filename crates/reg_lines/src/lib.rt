@@ -6,7 +6,7 @@
 //! - [`PrintJson`] is a value with one compact JSON text, which it puts piece by piece on an [`Output`] without
 //!   taking memory: [`print_text`], [`print_number`], [`print_list`], [`print_line`].
 //! - A [`LineRefusal`], and a book's reply with its call number, a [`CallReply`], or where the rows are lent a [`LentCallReply`], are
-//!   printed as lines, and so is a [`CallConflict`]; [`printed_law`] says which JSON values these lines are.
+//!   printed as lines, and so is what a call is answered, an [`AnsweredCall`]; [`printed_law`] says which JSON values these lines are.
 //! - A [`SeatRefused`] is printed as a line, too: that a seat of a shared registry has no answer to a request, for one
 //!   [`SeatRefusal`] or the other; [`printed_seats_law`] says which values these lines are.
 //! - The answer to an event, an [`EventRefused`] and a [`CallOrder`] are printed as the lines of a schedule;
@@ -33,7 +33,7 @@ pub use line_reading::{
     read_event, read_record, read_request, unknown_keys_law,
 };
 pub use printing::{
-    CallConflict, CallOrder, CallRecord, CallReply, EventRefused, LentCallReply, PrintJson,
+    AnsweredCall, CallOrder, CallRecord, CallReply, EventRefused, LentCallReply, PrintJson,
     SeatRefusal, SeatRefused, print_line, print_list, print_number, print_text, printed_events_law,
     printed_law, printed_records_law, printed_seats_law,
 };

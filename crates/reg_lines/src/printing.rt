@@ -25,7 +25,7 @@ pub use events::{CallOrder, EventRefused};
 pub use lent_replies::LentCallReply;
 pub use print_json::{PrintJson, print_line, print_list, print_number};
 pub use records::CallRecord;
-pub use replies::{CallConflict, CallReply};
+pub use replies::{AnsweredCall, CallReply};
 pub use seats::{SeatRefusal, SeatRefused};
 pub use text::print_text;
 pub use values::{printed_events_law, printed_law, printed_records_law, printed_seats_law};

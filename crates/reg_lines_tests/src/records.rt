@@ -54,7 +54,7 @@ fn add_record(
     alloc: Global,
     text: &mut String,
     batch: &Batch,
-    answer: Option<CallAnswer<'_>>,
+    answer: Option<&CallAnswer>,
 ) -> Result<(), Fail> {
     let known = KnownCall {
         batch,
@@ -76,10 +76,10 @@ fn add_records(
     book: &mut PlainBook,
     batch: &Batch,
 ) -> Result<(), Fail> {
-    let reply = reply_of(book, batch)?;
-    add_record(alloc, text, batch, Some(CallAnswer::Replied(&reply)))?;
+    let reply = CallAnswer::Replied(reply_of(book, batch)?);
+    add_record(alloc, text, batch, Some(&reply))?;
     add_record(alloc, text, batch, None)?;
-    add_record(alloc, text, batch, Some(CallAnswer::Conflict(0)))
+    add_record(alloc, text, batch, Some(&CallAnswer::Conflict(0)))
 }
 
 /// The same on a book with nothing in it.

@@ -3,8 +3,8 @@
 use crate::printed::add;
 use crate::tables::{Asked, reply_of, tells, tells_in_a_row};
 use batch_work::Status;
-use call_machine::{Done, Event, Told};
-use entry_book::{Batch, Shared};
+use call_machine::{CallAnswer, Done, Event};
+use entry_book::Batch;
 use plain_book::PlainBook;
 use reg_lines::printed_events_law;
 use std::alloc::Global;
@@ -96,11 +96,15 @@ fn an_order_lists_its_calls(rt: HostRuntime) -> Result<(), Fail> {
 }
 
 /// What the book replies to the batch that was handed in.
-fn told(alloc: Global, book: &mut PlainBook, handed_in: &Option<Batch>) -> Result<Told, Fail> {
+fn answer(
+    alloc: Global,
+    book: &mut PlainBook,
+    handed_in: &Option<Batch>,
+) -> Result<CallAnswer, Fail> {
     let Some(batch) = handed_in else {
         return Err(Fail::from("no batch"));
     };
-    Ok(Told::Replied(Shared::of(alloc, reply_of(book, batch)?)?))
+    Ok(CallAnswer::Replied(reply_of(book, batch)?))
 }
 
 /// Adds what an event is answered in the small schedule, where a call is one step.
@@ -119,7 +123,7 @@ pub(crate) fn add_scheduled(
         Event::Begin(call) => Done::Begun(call, 0, Status::Running),
         Event::Step(call) => Done::Stepped(call, Mark::entry(Uuid::from_u128(1)), Status::Settled),
         Event::Commit(_) => return Err(Fail::from("a question isn't committed")),
-        Event::Reply(call) => Done::Answered(call, told(alloc, book, handed_in)?),
+        Event::Reply(call) => Done::Answered(call, answer(alloc, book, handed_in)?),
     };
     add(alloc, text, "", &done)
 }

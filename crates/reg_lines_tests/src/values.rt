@@ -3,10 +3,10 @@
 use crate::printed::add;
 use batch_texts::{number, trust_domain, word, words};
 use batch_work::Status;
-use call_machine::{Decision, Done, EventRefusal, Told};
+use call_machine::{CallAnswer, Decision, Done, EventRefusal};
 use entry_book::{DomainSet, Limit, OpRefusal, Outcome, Refusal, Reply, Shared};
 use reg_lines::{
-    CallConflict, CallOrder, CallReply, EventRefused, LineRefusal, SeatRefusal, SeatRefused,
+    AnsweredCall, CallOrder, CallReply, EventRefused, LineRefusal, SeatRefusal, SeatRefused,
 };
 use spiffe_name::{Failure, SpiffeId, TrustDomain};
 use std::alloc::Global;
@@ -93,7 +93,7 @@ fn done(alloc: Global, words: &[&str]) -> Result<Done, Fail> {
             Ok(Done::Stepped(call, mark(alloc, words, 3)?, status))
         }
         "decided" => Ok(Done::Decided(call, decision(word(words, 3))?, number(words, 2)?)),
-        "conflicted" => Ok(Done::Answered(call, Told::Conflicted(number(words, 2)?))),
+        "conflicted" => Ok(Done::Answered(call, CallAnswer::Conflict(number(words, 2)?))),
         _ => Err(Fail::from("no such value")),
     }
 }
@@ -158,11 +158,13 @@ fn add_refused(alloc: Global, text: &mut String, words: &[&str]) -> Result<(), F
 }
 
 fn add_conflict(alloc: Global, text: &mut String, words: &[&str]) -> Result<(), Fail> {
-    let conflict = CallConflict {
-        call: number(words, 1)?,
-        place: number(words, 2)?,
+    let call = number(words, 1)?;
+    let answer = CallAnswer::Conflict(number(words, 2)?);
+    let answered = AnsweredCall {
+        call,
+        answer: &answer,
     };
-    add(alloc, text, "", &conflict)
+    add(alloc, text, "", &answered)
 }
 
 /// Adds a refusal for want of memory.

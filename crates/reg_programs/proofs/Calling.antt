@@ -21,7 +21,9 @@ use Rattle.shared_registry.specs.Seated.{Entered, MaySee, Seated, Stays}
 use Rattle.commit_head.specs.declared.item.Item.{Item}
 use Rattle.line_engines.specs.Answers.{as_line}
 use Rattle.line_engines.specs.Driver.{AnswersKept}
-use Rattle.reg_programs.specs.Sessions.{AnswersCall, AnswersRequest, Session, TakesRequestLine, answered, asked, not_read, passed, refused, spent}
+use Rattle.reg_programs.specs.declared.session_engine.Taken.{Taken}
+use Rattle.reg_programs.specs.declared.session_engine.Taken.TheVariants.{Answered, Asked, NotAnswered, NotRead}
+use Rattle.reg_programs.specs.Sessions.{AnswersCall, AnswersRequest, HasText, IsPrinted, IsToAnswer, Session, TakesRequestLine, answered, asked, not_read, passed, refused, spent}
 
 -- ---- a seat that has seen what it found
 
@@ -42,6 +44,21 @@ entered domain s u t stays may is =
       };
       heard = told;
     })
+
+-- ---- a line that has its answer
+
+pub to_answer : (domain : Bytes) (s : Seated) (taken : Taken) (told : List ℕ) → HasText taken told → IsToAnswer domain s taken
+to_answer domain s (Answered call answer) told h = tt
+to_answer domain s (Asked line batch) told h = absurd h
+to_answer domain s (NotAnswered r) told h = tt
+to_answer domain s (NotRead r) told h = tt
+
+-- it is printed so, and the seat stays as it is
+pub printed_as : (s t : Seated) (taken : Taken) (told text : List ℕ) → HasText taken told → IsPrinted s taken t text → (t ≡ s) × (text ≡ told)
+printed_as s t (Answered call answer) told text h p = (p.0, p.1 ∙ sym h)
+printed_as s t (Asked line batch) told text h p = absurd h
+printed_as s t (NotAnswered r) told text h p = (p.0, p.1 ∙ sym h)
+printed_as s t (NotRead r) told text h p = (p.0, p.1 ∙ sym h)
 
 -- ---- one line
 

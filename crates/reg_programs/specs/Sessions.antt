@@ -4,11 +4,10 @@ use Rattle.rand_chacha.specs.ChaCha.{ChaCha}
 use Rattle.entry_book.specs.Batches.{Batch, is_query}
 use Rattle.entry_book.specs.History.{books_of, reply_to}
 use Rattle.entry_book.specs.Rows.{Bytes}
-use Rattle.entry_book.specs.declared.reply.Outcome.TheVariants.{Committed as WasCommitted, Repeated as WasRepeated}
 use mathlib.Core.List.{IsPrefix}
 use Rattle.commit_head.specs.Journals.{IsLawfulJournal, batches_of}
 use Rattle.reg_lines.specs.Refusals.{fault_json, no_memory_json, refusal_json}
-use Rattle.reg_lines.specs.Replies.{conflict_json, reply_json}
+use Rattle.reg_lines.specs.Replies.{answer_json, conflict_json, reply_json}
 use Rattle.reg_lines.specs.Requests.{spelled}
 use Rattle.reg_lines.specs.Runs.{IsRun}
 use Rattle.reg_lines.specs.SeatLines.{seat_refusal_json}
@@ -25,10 +24,8 @@ use Rattle.shared_registry.specs.declared.seat.NoAnswer.TheVariants as no
 use Rattle.line_engines.specs.Answers.{as_line}
 use Rattle.line_engines.specs.Driver.{RunsOver}
 use Rattle.line_engines.specs.declared.fault.RunFault.{RunFault}
-use Rattle.reg_programs.specs.declared.session_engine.LineAnswer.{LineAnswer}
-use Rattle.reg_programs.specs.declared.session_engine.LineAnswer.TheVariants.{Shared, Own, Conflicted, NotAnswered, NotRead}
 use Rattle.reg_programs.specs.declared.session_engine.Taken.{Taken}
-use Rattle.reg_programs.specs.declared.session_engine.Taken.TheVariants.{Answered, Asked}
+use Rattle.reg_programs.specs.declared.session_engine.Taken.TheVariants.{Answered, Asked, NotAnswered, NotRead}
 
 -- What a session has come to: the seat, which counts its calls, with the lists that it has seen and was told of; the ids that are still to be given; and how many lines were read.
 pub record Session : Type 0 where
@@ -55,8 +52,8 @@ no_answer_json line no.NoMemory = no_memory_json line
 no_answer_json line no.NoEntry = seat_refusal_json line WasNotLetIn
 
 abbrev pub outcome_json : ℕ → ℕ → Outcome → List ℕ
-outcome_json call line (Committed n replies) = reply_json call (record { place = n; outcome = WasCommitted replies })
-outcome_json call line (Repeated n replies) = reply_json call (record { place = n; outcome = WasRepeated replies })
+outcome_json call line (Committed reply) = reply_json call reply
+outcome_json call line (Repeated reply) = reply_json call reply
 outcome_json call line (Refused reply) = reply_json call reply
 outcome_json call line (Conflict n) = conflict_json call n
 outcome_json call line NoMemory = no_memory_json line
@@ -95,16 +92,18 @@ RunsSession domain seat ids input rest output out left result = RunsOver (Answer
 
 -- ---- what the engine answers to a line
 
-abbrev pub line_answer_json : LineAnswer → List ℕ
-line_answer_json (Shared call reply) = reply_json call reply
-line_answer_json (Own call reply) = reply_json call reply
-line_answer_json (Conflicted conflict) = conflict_json conflict.call conflict.place
-line_answer_json (NotAnswered r) = seat_refusal_json r.line r.refusal
-line_answer_json (NotRead r) = refusal_json r
+-- The line has its answer already, and it is printed so. A question has none before the seat answers it.
+abbrev pub HasText : Taken → List ℕ → Type 0
+HasText (Answered call answer) text = text ≡ answer_json call answer
+HasText (Asked line batch) text = ⊥
+HasText (NotAnswered r) text = text ≡ seat_refusal_json r.line r.refusal
+HasText (NotRead r) text = text ≡ refusal_json r
 
 -- A question is the seat's to answer: the seat has just looked at what is published.
 abbrev pub IsToAnswer : Bytes → Seated → Taken → Type 0
-IsToAnswer domain seat (Answered a) = ⊤
+IsToAnswer domain seat (Answered call answer) = ⊤
+IsToAnswer domain seat (NotAnswered r) = ⊤
+IsToAnswer domain seat (NotRead r) = ⊤
 IsToAnswer domain seat (Asked line batch) = MaySee domain seat × (is_query batch.ops ≡ true) × (batch.domain ≡ domain)
 
 -- the reply to a question on what the seat found, with the number of its call
@@ -113,7 +112,9 @@ found_json seat batch = reply_json seat.calls (reply_to batch (books_of (batches
 
 -- What is printed of a line that was taken, and what the seat is then: what the line is answered; or the reply to a question on what the seat found, which it has then seen; or that memory is wanting for that reply.
 abbrev pub IsPrinted : Seated → Taken → Seated → List ℕ → Type 0
-IsPrinted s (Answered a) t text = (t ≡ s) × (text ≡ line_answer_json a)
+IsPrinted s (Answered call answer) t text = (t ≡ s) × HasText (Answered call answer) text
+IsPrinted s (NotAnswered r) t text = (t ≡ s) × HasText (NotAnswered r) text
+IsPrinted s (NotRead r) t text = (t ≡ s) × HasText (NotRead r) text
 IsPrinted s (Asked line batch) t text = ((t ≡ record s { seen = s.found }) × (text ≡ found_json s batch)) ⊎ ((t ≡ s) × (text ≡ no_memory_json line))
 
 -- One line was taken: its reply has this text, and this is where it left the seat and the ids.

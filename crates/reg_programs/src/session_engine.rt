@@ -6,13 +6,14 @@ ghost use Rattle.reg_lines.specs.Refusals.{no_memory_json, refusal_json};
 ghost use Rattle.reg_lines.specs.Stream.{Puts};
 ghost use Rattle.line_engines.specs.Answers.{as_line};
 ghost use Rattle.shared_registry.specs.Seated.{MaySee, Seated};
-ghost use Rattle.reg_programs.specs.Sessions.{AnswersCall, Grew, IsPrinted, IsToAnswer, RunsSession, Session, SessionsGrow, TakesRequestLine, found_json, line_answer_json, no_answer_json, outcome_json};
+ghost use Rattle.reg_programs.specs.Sessions.{AnswersCall, Grew, HasText, IsPrinted, IsToAnswer, RunsSession, Session, SessionsGrow, TakesRequestLine, found_json, no_answer_json, outcome_json};
 
-use entry_book::{Batch, Outcome as BatchOutcome, Reply, Shared};
+use call_answers::CallAnswer;
+use entry_book::Batch;
 use line_engines::{Answerer, RunFault, run_lines};
 use reg_lines::{
-    CallConflict, CallReply, Ids, Input, LentCallReply, LineRefusal, Output, PrintJson, Request,
-    SeatRefusal, SeatRefused, Sink, Source, print_line, read_request,
+    AnsweredCall, Ids, Input, LentCallReply, LineRefusal, Output, Request, SeatRefusal, SeatRefused,
+    Sink, Source, print_line, read_request,
 };
 use shared_registry::{Naming, NoAnswer, OpenGate, Outcome, Registry, Seat};
 use spiffe_name::{Failure, TrustDomain};
@@ -135,49 +136,17 @@ impl<'a, J: Naming, R: Wait> Answerer for SessionRun<'a, J, R> {
     }
 }
 
-/// What a line is answered.
-#[derive(Drop)]
-pub(crate) enum LineAnswer {
-    /// The call of this number has this reply, which the registry made.
-    Shared(u64, Shared<Reply>),
-    /// The call of this number has this reply.
-    Own(u64, Reply),
-    /// Its changes were given up for those of others.
-    Conflicted(CallConflict),
-    /// The seat has no answer.
-    NotAnswered(SeatRefused),
-    /// It spells no request, or memory was wanting.
-    NotRead(LineRefusal),
-}
-
-impl PrintJson for LineAnswer {
-    ghost text = { line_answer_json };
-
-    fn print_to<S: Sink>(&self, output: &mut Output<S>) {
-        match self {
-            LineAnswer::Shared(call, reply) => {
-                let call = *call;
-                let reply = reply.get();
-                CallReply { call, reply }.print_to(output);
-            }
-            LineAnswer::Own(call, reply) => {
-                let call = *call;
-                CallReply { call, reply }.print_to(output);
-            }
-            LineAnswer::Conflicted(conflict) => conflict.print_to(output),
-            LineAnswer::NotAnswered(refused) => refused.print_to(output),
-            LineAnswer::NotRead(refusal) => refusal.print_to(output),
-        }
-    }
-}
-
 /// What has become of a line.
 #[derive(Drop)]
 pub(crate) enum Taken {
-    /// It is answered so.
-    Answered(LineAnswer),
+    /// The call of this number is answered so.
+    Answered(u64, CallAnswer),
     /// The line of this number asks this, and the seat, which has looked, is to answer it.
     Asked(u64, Batch),
+    /// The seat has no answer.
+    NotAnswered(SeatRefused),
+    /// It spells no request, or an allocation failed.
+    NotRead(LineRefusal),
 }
 
 /// Prints the seat's answer to a question that it has looked for, whose rows it lends, or nothing where memory is wanting for it.
@@ -203,7 +172,12 @@ fn print_taken<J: Naming, K: Sink>(seat: &mut Seat<J>, taken: &Taken, output: &m
     ensures { (text : List ℕ) × IsPrinted seat.old taken.now seat.new text × Puts output.old output.new (as_line text) }
 {
     match taken {
-        Taken::Answered(answer) => print_line(answer, output),
+        Taken::Answered(call, answer) => {
+            let call = *call;
+            print_line(&AnsweredCall { call, answer }, output);
+        }
+        Taken::NotAnswered(refused) => print_line(refused, output),
+        Taken::NotRead(refusal) => print_line(refusal, output),
         Taken::Asked(line, batch) => {
             if print_found(seat, batch, output) {
                 seat.see_found();
@@ -232,15 +206,15 @@ fn take<J: Naming, R: Wait>(
         → TakesRequestLine J.domain (record { seat = seat.old; ids = ids.old; lines = lines }) line.now text printed ids.new }
 {
     match read_request(alloc, domain, ids, line, lines + 1) {
-        Err(refusal) => Taken::Answered(LineAnswer::NotRead(refusal)),
+        Err(refusal) => Taken::NotRead(refusal),
         Ok(request) => {
             if seat.has_calls() {
                 call(rt, registry, seat, request, lines + 1)
             } else {
-                Taken::Answered(LineAnswer::NotAnswered(SeatRefused {
+                Taken::NotAnswered(SeatRefused {
                     line: lines + 1,
                     refusal: SeatRefusal::Spent,
-                }))
+                })
             }
         }
     }
@@ -266,12 +240,12 @@ fn call<J: Naming, R: Wait>(
             Ok(()) => Taken::Asked(line, batch),
             Err(why) => {
                 drop(batch);
-                Taken::Answered(not_answered(line, why))
+                not_answered(line, why)
             }
         }
     } else {
         let outcome = registry.submit(rt, seat, &OpenGate, batch, tries.count() as u32);
-        Taken::Answered(outcome_of(seat.calls(), line, outcome))
+        outcome_of(seat.calls(), line, outcome)
     }
 }
 
@@ -286,12 +260,12 @@ fn no_memory(line: u64) -> LineRefusal
 }
 
 /// Why the line of this number has no answer.
-fn not_answered(line: u64, why: NoAnswer) -> LineAnswer
-    ensures { line_answer_json result ≡ no_answer_json line why }
+fn not_answered(line: u64, why: NoAnswer) -> Taken
+    ensures { HasText result (no_answer_json line why) }
 {
     match why {
-        NoAnswer::NoMemory => LineAnswer::NotRead(no_memory(line)),
-        NoAnswer::NoEntry => LineAnswer::NotAnswered(SeatRefused {
+        NoAnswer::NoMemory => Taken::NotRead(no_memory(line)),
+        NoAnswer::NoEntry => Taken::NotAnswered(SeatRefused {
             line,
             refusal: SeatRefusal::NoEntry,
         }),
@@ -299,26 +273,14 @@ fn not_answered(line: u64, why: NoAnswer) -> LineAnswer
 }
 
 /// What became of the batch of changes that the call of this number handed in, for the line of this number.
-fn outcome_of(call: u64, line: u64, outcome: Outcome) -> LineAnswer
-    ensures { line_answer_json result ≡ outcome_json call line outcome }
+fn outcome_of(call: u64, line: u64, outcome: Outcome) -> Taken
+    ensures { HasText result (outcome_json call line outcome) }
 {
     match outcome {
-        Outcome::Committed(place, replies) => LineAnswer::Own(
-            call,
-            Reply {
-                place,
-                outcome: BatchOutcome::Committed(replies),
-            },
-        ),
-        Outcome::Repeated(place, replies) => LineAnswer::Own(
-            call,
-            Reply {
-                place,
-                outcome: BatchOutcome::Repeated(replies),
-            },
-        ),
-        Outcome::Refused(reply) => LineAnswer::Shared(call, reply),
-        Outcome::Conflict(place) => LineAnswer::Conflicted(CallConflict { call, place }),
+        Outcome::Committed(reply) | Outcome::Repeated(reply) | Outcome::Refused(reply) => {
+            Taken::Answered(call, CallAnswer::Replied(reply))
+        }
+        Outcome::Conflict(place) => Taken::Answered(call, CallAnswer::Conflict(place)),
         Outcome::NoMemory => not_answered(line, NoAnswer::NoMemory),
         Outcome::NoEntry => not_answered(line, NoAnswer::NoEntry),
     }

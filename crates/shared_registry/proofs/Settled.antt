@@ -15,7 +15,7 @@ use Rattle.entry_book.specs.Book.{Book}
 use Rattle.entry_book.specs.SameOps.{ops_eq}
 use Rattle.entry_book.specs.Runs.{RunResult, run}
 use Rattle.entry_book.specs.Batches.{Batch, is_query, past_place}
-use Rattle.entry_book.specs.History.{Leads as Led, Verdict, adds, adds_within, answers, book_for, books_after, books_from, books_of, first_books, is_committed, kept_under, last_book, place_of, refuses, repeats, reply_to, reply_with, verdict, verdict_again, verdict_on, verdict_over, verdict_when, replies_from}
+use Rattle.entry_book.specs.History.{Leads as Led, Verdict, adds, adds_within, answers, book_for, books_after, books_from, books_of, first_books, is_committed, is_repeated, kept_under, last_book, place_of, refuses, repeats, reply_to, reply_with, verdict, verdict_again, verdict_on, verdict_over, verdict_when, replies_from}
 use Rattle.entry_book.specs.Tokens.{token_key}
 use Rattle.entry_book.proofs.Keys.{at_row}
 use Rattle.entry_book.proofs.KeptBatches.{kept_committed}
@@ -89,18 +89,18 @@ refused_place place (answers replies) why e = cc
 refused_place place (adds replies b) why e = cc
 refused_place place (repeats n replies) why e = cc
 
-refused_of : (o : Outcome) → is_committed o ≡ false → ((rs : List OpReply) → o ≡ Answered rs → ⊥) → ((rs : List OpReply) → o ≡ Repeated rs → ⊥) → (why : Refusal) × (o ≡ Refused why)
+refused_of : (o : Outcome) → is_committed o ≡ false → ((rs : List OpReply) → o ≡ Answered rs → ⊥) → is_repeated o ≡ false → (why : Refusal) × (o ≡ Refused why)
 refused_of (Committed rs) c a r = cc
 refused_of (Answered rs) c a r = absurd (a rs refl)
-refused_of (Repeated rs) c a r = absurd (r rs refl)
+refused_of (Repeated rs) c a r = cc
 refused_of (Refused why) c a r = (why, refl)
 
-pub refused_is : (domain : Bytes) (t : Seated) (batch : Batch) (w : Work) (reply : Reply) → IsRead domain t.seen batch w → (status_of w ≡ Ready → ⊥) → is_query batch.ops ≡ false → IsAnswer w reply → ((rs : List OpReply) → reply.outcome ≡ Repeated rs → ⊥) → IsRefusedThere t batch reply
+pub refused_is : (domain : Bytes) (t : Seated) (batch : Batch) (w : Work) (reply : Reply) → IsRead domain t.seen batch w → (status_of w ≡ Ready → ⊥) → is_query batch.ops ≡ false → IsAnswer w reply → is_repeated reply.outcome ≡ false → IsRefusedThere t batch reply
 refused_is domain t batch w reply r unready q a n =
     let books = books_of (batches_of t.seen) in
     let e = reply_is domain t.seen batch w reply r a in
     let o = ap (λ (x : Reply). x.outcome) e in
-    let found = refused_of (reply_to batch books).outcome (uncommitted domain t.seen batch w r unready) (λ rs. not_answered batch books rs q) (λ rs k. n rs (o ∙ k)) in
+    let found = refused_of (reply_to batch books).outcome (uncommitted domain t.seen batch w r unready) (λ rs. not_answered batch books rs q) (sym (ap is_repeated o) ∙ n) in
     let led = led_to r.page.window.newest.domain t.seen r.page.window.newest r.stands.leads in
     let place : place_of books ≡ length t.seen = led.last.place ∙ led.number in
     record {
@@ -207,8 +207,15 @@ is_some : (o : Option Bytes) (x : Bytes) → o ≡ Some x → IsSome o
 is_some None x e = cc
 is_some (Some y) x e = refl
 
-pub repeated_is : (domain : Bytes) (t : Seated) (batch : Batch) (w : Work) (reply : Reply) (rs : List OpReply) → IsRead domain t.seen batch w → IsLawfulJournal domain t.seen → is_query batch.ops ≡ false → IsAnswer w reply → reply.outcome ≡ Repeated rs → WasCommitted t batch rs reply.place
-repeated_is domain t batch w reply rs r l q a o =
+-- a reply that repeats has the replies that it repeats
+repeats_of : (o : Outcome) → is_repeated o ≡ true → (rs : List OpReply) × (o ≡ Repeated rs)
+repeats_of (Committed rs) e = cc
+repeats_of (Answered rs) e = cc
+repeats_of (Repeated rs) e = (rs, refl)
+repeats_of (Refused why) e = cc
+
+repeated_by : (domain : Bytes) (t : Seated) (batch : Batch) (w : Work) (reply : Reply) (rs : List OpReply) → IsRead domain t.seen batch w → IsLawfulJournal domain t.seen → is_query batch.ops ≡ false → IsAnswer w reply → reply.outcome ≡ Repeated rs → WasCommitted t batch reply
+repeated_by domain t batch w reply rs r l q a o =
     let batches = batches_of t.seen in
     let books = books_of batches in
     let e = reply_is domain t.seen batch w reply r a in
@@ -223,15 +230,19 @@ repeated_is domain t batch w reply rs r l q a o =
     let long : length s.first ≡ length was.before = sym (count_of_batches s.first) ∙ ap length s.before_is in
     let first : reply_to s.item.batch (books_of (batches_of s.first)) ≡ record { place = length s.first + 1; outcome = Committed s.item.replies } = replied domain t.seen s.first s.later s.item l s.split in
     let second : reply_to s.item.batch (books_of (batches_of s.first)) ≡ record { place = k.kept.place; outcome = Committed k.kept.replies } = (λ i. reply_to (s.batch_is i) (books_of (s.before_is i))) ∙ was.replied in
+    let place : reply.place ≡ length s.first + 1 = let p = was.place in let q = k.place in omega arith in
+    let same : rs ≡ s.item.replies = sym (same_replies _ _ _ _ _ first second ∙ k.replies_are) in
     record {
-      reply_is = whole;
+      reply_is = e;
       before = s.first;
       item = s.item;
       later = s.later;
       split = s.split;
-      place = let p = was.place in let q = k.place in omega arith;
+      repeats = λ i. record { place = place i; outcome = (o ∙ ap Repeated same) i };
       with_token = is_some batch.token k.kept.token row.1;
       token = ap (λ b. b.token) s.batch_is ∙ (was.token ∙ sym row.1);
       ops = ap (λ b. b.ops) s.batch_is ∙ (was.ops ∙ (same_ops k.kept.ops batch.ops).0 k.same);
-      replies_are = same_replies _ _ _ _ _ first second ∙ k.replies_are;
     }
+
+pub repeated_is : (domain : Bytes) (t : Seated) (batch : Batch) (w : Work) (reply : Reply) → IsRead domain t.seen batch w → IsLawfulJournal domain t.seen → is_query batch.ops ≡ false → IsAnswer w reply → is_repeated reply.outcome ≡ true → WasCommitted t batch reply
+repeated_is domain t batch w reply r l q a o = let rs = repeats_of reply.outcome o in repeated_by domain t batch w reply rs.0 r l q a rs.1

@@ -84,27 +84,26 @@ once_again s u t batch tries place n o e p told q once =
 -- ---- the end
 
 pub ended : (s u t : Seated) (batch : Batch) (tries : ℕ) (o : Outcome) → u.own ≡ s.own → IsOver o → IsSubmitted u t batch 0 o → IsSubmitted s t batch tries o
-ended s u t batch tries (Committed n replies) own over a = record {
+ended s u t batch tries (Committed reply) own over a = record {
   log = a.log;
   item = a.item;
   seen = a.seen;
-  place = a.place;
+  reply_is = a.reply_is;
   seat = a.seat;
   call = a.call;
   batch_is = a.batch_is;
-  replies_are = a.replies_are;
   own = a.own ∙ ap (λ l. l ++ t.calls ∷ []) own;
   found = a.found;
 }
-ended s u t batch tries (Repeated n replies) own over a = (a.0, a.1 ∙ own)
+ended s u t batch tries (Repeated reply) own over a = (a.0, a.1 ∙ own)
 ended s u t batch tries (Refused reply) own over a = (a.0, a.1 ∙ own)
 ended s u t batch tries (Conflict n) own over a = absurd (over n refl)
 ended s u t batch tries NoMemory own over a = a ∙ own
 ended s u t batch tries NoEntry own over a = a ∙ own
 
 pub heard_from : (s u t : Seated) (o : Outcome) → u.told ≡ s.told → HasHeard u t o → HasHeard s t o
-heard_from s u t (Committed n replies) e h = subst (λ l. IsPrefix l t.seen) e h
-heard_from s u t (Repeated n replies) e h = subst (λ l. IsPrefix l t.seen) e h
+heard_from s u t (Committed reply) e h = subst (λ l. IsPrefix l t.seen) e h
+heard_from s u t (Repeated reply) e h = subst (λ l. IsPrefix l t.seen) e h
 heard_from s u t (Refused reply) e h = subst (λ l. IsPrefix l t.seen) e h
 heard_from s u t (Conflict n) e h = subst (λ l. IsPrefix l t.seen) e h
 heard_from s u t NoMemory e h = tt

@@ -1,12 +1,9 @@
 -- What a batch of changes is answered, in the words of its seat's lists and of the plain book.
-use Rattle.std.specs.Prelude.{◌≡◌, ◌⊎◌, ⊤, ℕ, ◌+◌, ◌<◌, ◌≤◌, true, List, [], ◌∷◌, ◌++◌, length, take, Option, Some, None, IsSome, Result, Ok, Err}
+use Rattle.std.specs.Prelude.{◌≡◌, ⊤, ℕ, ◌+◌, ◌<◌, ◌≤◌, true, List, [], ◌∷◌, ◌++◌, length, take, IsSome, Result, Ok, Err}
 use mathlib.Core.List.{IsPrefix}
-use Rattle.entry_book.specs.declared.limit.Limit.{Limit}
-use Rattle.entry_book.specs.declared.reply.OpReply.{OpReply}
-use Rattle.entry_book.specs.declared.reply.Outcome.{Outcome as Became}
-use Rattle.entry_book.specs.declared.reply.Outcome.TheVariants.{Refused as WasRefused, Repeated as WasRepeated}
+use Rattle.entry_book.specs.declared.reply.Outcome.TheVariants as became
 use Rattle.entry_book.specs.declared.reply.Refusal.{Refusal}
-use Rattle.entry_book.specs.declared.reply.Refusal.TheVariants.{Full as TooMuch}
+use Rattle.entry_book.specs.declared.reply.Refusal.TheVariants.{Full}
 use Rattle.entry_book.specs.declared.reply.Reply.{Reply}
 use Rattle.entry_book.specs.Batches.{Batch}
 use Rattle.entry_book.specs.History.{books_of, last_book, reply_to}
@@ -19,14 +16,12 @@ use Rattle.version_book.specs.Marks.{hits}
 use Rattle.batch_work.specs.Reads.{footprint_of}
 use Rattle.batch_work.specs.Working.{Work, HasReplies}
 use Rattle.commit_head.specs.declared.commit.Commit.{Commit}
-use Rattle.commit_head.specs.declared.commit.Commit.TheVariants.{Committed as DidCommit, Conflict as DidConflict, Full as DidPass, NoMemory as WantsMemory}
+use Rattle.commit_head.specs.declared.commit.Commit.TheVariants as is
 use Rattle.commit_head.specs.declared.item.Item.{Item}
 use Rattle.commit_head.specs.Journals.{batches_of}
 use Rattle.shared_registry.specs.declared.outcome.Outcome.{Outcome}
 use Rattle.shared_registry.specs.declared.outcome.Outcome.TheVariants.{Committed, Repeated, Refused, Conflict, NoMemory, NoEntry}
 use Rattle.shared_registry.specs.declared.seat.NoEntry.{NoEntry as WasNotLetIn}
-use Rattle.shared_registry.specs.declared.registry.Try.{Try}
-use Rattle.shared_registry.specs.declared.registry.Try.TheVariants.{Over, Overtaken}
 use Rattle.shared_registry.specs.Seated.{Along, MaySee, Seated}
 
 -- ---- tries that were overtaken
@@ -59,42 +54,40 @@ pub record WasOvertaken (s t : Seated) (batch : Batch) (tries place : ℕ) : Typ
 
 -- ---- the answers to a batch of changes
 
--- The item of the call is the last one seen, and the seat has one call more of its own. The page that the seat has, on which it answers queries until it finds another one, shows all that was seen.
-pub record IsAdded (s t : Seated) (batch : Batch) (replies : List OpReply) (n : ℕ) : Type 0 where
+-- The item of the call is the last one seen, and the reply is that it was committed, with its replies, at its number. The seat has one call more of its own. The page that the seat has, on which it answers queries until it finds another one, shows all that was seen.
+pub record IsAdded (s t : Seated) (batch : Batch) (reply : Reply) : Type 0 where
   pub log : List Item
   pub item : Item
   pub seen : t.seen ≡ log ++ item ∷ []
-  pub place : n ≡ length t.seen
+  pub reply_is : reply ≡ record { place = length t.seen; outcome = became.Committed item.replies }
   pub seat : item.seat ≡ t.number
   pub call : item.call ≡ t.calls
   pub batch_is : item.batch ≡ batch
-  pub replies_are : item.replies ≡ replies
   pub own : t.own ≡ s.own ++ t.calls ∷ []
   pub found : t.found ≡ t.seen
 
--- The plain book repeats these replies, as those of this place, on the books of what was seen; the item of this number has the batch's token and its operations, and these replies.
-pub record WasCommitted (t : Seated) (batch : Batch) (replies : List OpReply) (n : ℕ) : Type 0 where
-  pub reply_is : reply_to batch (books_of (batches_of t.seen)) ≡ record { place = n; outcome = WasRepeated replies }
+-- The reply is that of the plain book on the books of what was seen. It repeats the replies of an item that was seen, at the number of this one, which has the batch's token and its operations.
+pub record WasCommitted (t : Seated) (batch : Batch) (reply : Reply) : Type 0 where
+  pub reply_is : reply ≡ reply_to batch (books_of (batches_of t.seen))
   pub before : List Item
   pub item : Item
   pub later : List Item
   pub split : t.seen ≡ before ++ item ∷ later
-  pub place : n ≡ length before + 1
+  pub repeats : reply ≡ record { place = length before + 1; outcome = became.Repeated item.replies }
   pub with_token : IsSome batch.token
   pub token : item.batch.token ≡ batch.token
   pub ops : item.batch.ops ≡ batch.ops
-  pub replies_are : item.replies ≡ replies
 
 -- The reply is that of the plain book on the books of what was seen, and a refusal at their place.
 pub record IsRefusedThere (t : Seated) (batch : Batch) (reply : Reply) : Type 0 where
   pub reply_is : reply ≡ reply_to batch (books_of (batches_of t.seen))
   pub why : Refusal
-  pub refused : reply ≡ record { place = length t.seen; outcome = WasRefused why }
+  pub refused : reply ≡ record { place = length t.seen; outcome = became.Refused why }
 
 -- what a batch of changes is answered, with so many tries
 abbrev pub IsSubmitted : Seated → Seated → Batch → ℕ → Outcome → Type 0
-IsSubmitted s t batch tries (Committed n replies) = IsAdded s t batch replies n
-IsSubmitted s t batch tries (Repeated n replies) = WasCommitted t batch replies n × (t.own ≡ s.own)
+IsSubmitted s t batch tries (Committed reply) = IsAdded s t batch reply
+IsSubmitted s t batch tries (Repeated reply) = WasCommitted t batch reply × (t.own ≡ s.own)
 IsSubmitted s t batch tries (Refused reply) = IsRefusedThere t batch reply × (t.own ≡ s.own)
 IsSubmitted s t batch tries (Conflict n) = WasOvertaken s t batch tries n × (n ≡ length t.seen) × (t.own ≡ s.own)
 IsSubmitted s t batch tries NoMemory = t.own ≡ s.own
@@ -102,8 +95,8 @@ IsSubmitted s t batch tries NoEntry = t.own ≡ s.own
 
 -- where it is answered otherwise than for want of memory or of an entry, the seat has then seen all that it was told of
 abbrev pub HasHeard : Seated → Seated → Outcome → Type 0
-HasHeard s t (Committed n replies) = IsPrefix s.told t.seen
-HasHeard s t (Repeated n replies) = IsPrefix s.told t.seen
+HasHeard s t (Committed reply) = IsPrefix s.told t.seen
+HasHeard s t (Repeated reply) = IsPrefix s.told t.seen
 HasHeard s t (Refused reply) = IsPrefix s.told t.seen
 HasHeard s t (Conflict n) = IsPrefix s.told t.seen
 HasHeard s t NoMemory = ⊤
@@ -112,22 +105,13 @@ HasHeard s t NoEntry = ⊤
 -- ---- a law: what a seat has found by its commit, it may see without a look
 
 abbrev pub CommitsMayBeSeen : Type 0
-CommitsMayBeSeen = (domain : Bytes) (s t : Seated) (batch : Batch) (replies : List OpReply) (n : ℕ) → Along domain s t → HasHeard s t (Committed n replies) → IsAdded s t batch replies n → MaySee domain t
+CommitsMayBeSeen = (domain : Bytes) (s t : Seated) (batch : Batch) (reply : Reply) → Along domain s t → HasHeard s t (Committed reply) → IsAdded s t batch reply → MaySee domain t
 
 -- ---- one try; for this crate's own contracts
 
 -- it isn't the answer that each try was overtaken
 abbrev pub IsOver : Outcome → Type 0
 IsOver o = (n : ℕ) → o ≡ Conflict n → ⊥
-
--- the answer of one that this limit refuses
-abbrev pub IsFull : Limit → ℕ → Outcome → Type 0
-IsFull limit n o = (o ≡ NoMemory) ⊎ (o ≡ Refused (record { place = n; outcome = WasRefused (TooMuch limit) }))
-
--- what a reply has that was given before
-abbrev pub IsRepeated : Became → Option (List OpReply) → Type 0
-IsRepeated o None = (replies : List OpReply) → o ≡ WasRepeated replies → ⊥
-IsRepeated o (Some replies) = o ≡ WasRepeated replies
 
 -- The try began at or behind what the seat had seen and was told of, and was overtaken.
 pub record IsOvertakenOnce (s t : Seated) (batch : Batch) (n : ℕ) : Type 0 where
@@ -139,9 +123,10 @@ pub record IsOvertakenOnce (s t : Seated) (batch : Batch) (n : ℕ) : Type 0 whe
   pub heard : IsPrefix s.told t.seen
   pub own : t.own ≡ s.own
 
-abbrev pub IsTry : Seated → Seated → Batch → Try → Type 0
-IsTry s t batch (Over o) = IsOver o × HasHeard s t o × IsSubmitted s t batch 0 o
-IsTry s t batch (Overtaken n back) = (back ≡ batch) × IsOvertakenOnce s t batch n
+-- the batch has its answer, or it was overtaken and is to be tried again
+abbrev pub IsTry : Seated → Seated → Batch → Result Outcome (ℕ × Batch) → Type 0
+IsTry s t batch (Ok o) = IsOver o × HasHeard s t o × IsSubmitted s t batch 0 o
+IsTry s t batch (Err back) = (back.1 ≡ batch) × IsOvertakenOnce s t batch back.0
 
 -- ---- what a commit comes to under the lock; for this crate's own contracts
 
@@ -165,10 +150,10 @@ pub record HasAdded (log next : List Item) (s t : Seated) (w : Work) (n : ℕ) :
   pub found : t.found ≡ next
 
 abbrev pub IsCommitThere : List Item → List Item → Seated → Seated → Work → Commit → Type 0
-IsCommitThere log next s t w (DidCommit n) = HasAdded log next s t w n
-IsCommitThere log next s t w (DidConflict n) = HasLooked log next s t × (n ≡ length log) × IsOvertaken (batches_of log) w.batch (length s.seen) n
-IsCommitThere log next s t w (DidPass limit n) = HasLooked log next s t × (n ≡ length log) × (reply_to w.batch (books_of (batches_of log)) ≡ record { place = n; outcome = WasRefused (TooMuch limit) })
-IsCommitThere log next s t w WantsMemory = HasLooked log next s t
+IsCommitThere log next s t w (is.Committed n) = HasAdded log next s t w n
+IsCommitThere log next s t w (is.Conflict n) = HasLooked log next s t × (n ≡ length log) × IsOvertaken (batches_of log) w.batch (length s.seen) n
+IsCommitThere log next s t w (is.Full limit n) = HasLooked log next s t × (n ≡ length log) × (reply_to w.batch (books_of (batches_of log)) ≡ record { place = n; outcome = became.Refused (Full limit) })
+IsCommitThere log next s t w is.NoMemory = HasLooked log next s t
 
 abbrev pub IsDecided : List Item → List Item → Seated → Seated → Work → Result Commit WasNotLetIn → Type 0
 IsDecided log next s t w (Ok commit) = IsCommitThere log next s t w commit

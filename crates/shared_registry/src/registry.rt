@@ -3,10 +3,10 @@
 ghost use Rattle.std.specs.Prelude.{◌≡◌, ◌<◌, ◌≤◌, ◌^◌, [], length, IfOk, MatchResult, true, false};
 ghost use mathlib.Core.List.{IsPrefix};
 ghost use Rattle.entry_book.specs.Batches.{is_query};
-ghost use Rattle.entry_book.specs.History.{books_of, reply_to};
+ghost use Rattle.entry_book.specs.History.{books_of, is_repeated, reply_to};
 ghost use Rattle.commit_head.specs.Journals.{IsLawfulJournal, batches_of};
 ghost use Rattle.batch_work.specs.Working.{HasReplies, status_of};
-ghost use Rattle.shared_registry.specs.Outcomes.{HasHeard, IsFull, IsOver, IsRepeated, IsSubmitted, IsTry};
+ghost use Rattle.shared_registry.specs.Outcomes.{HasHeard, IsOver, IsSubmitted, IsTry};
 ghost use Rattle.shared_registry.specs.Seated.{Along, Entered, Goes, Stays};
 ghost use Rattle.shared_registry.specs.Seats.{AllBelow, calls_of};
 ghost use Rattle.shared_registry.specs.Works.{IsRead};
@@ -19,26 +19,18 @@ use crate::run::let_go;
 use crate::seat::{Answer, NoAnswer, NoEntry, Receipt, Seat};
 use batch_work::{Status, Work};
 use commit_head::Commit;
-use entry_book::{Batch, Limit, OpReply, Refusal, Reply, Sequence, Shared};
+use entry_book::{Batch, OpReply, Outcome as BatchOutcome, Refusal, Reply, Sequence, Shared};
 use spiffe_name::TrustDomain;
 use std::alloc::{AllocError, Global};
 use std::sync::{Mutex, MutexGuard, Wait};
 
-/// What one try of a batch of changes comes to.
-enum Try {
-    /// The batch has its answer.
-    Over(Outcome),
-    /// It was overtaken, by this place; the batch, to be tried again.
-    Overtaken(u64, Batch),
-}
-
-/// The answers that are repeated, where a batch was committed before. The error is want of memory.
-fn repeated(reply: &Reply) -> Result<Option<Shared<Sequence<OpReply>>>, AllocError>
-    ensures { IfOk result (IsRepeated reply.now.outcome) }
+/// Was the batch of this reply committed before?
+fn is_repeat(reply: &Reply) -> bool
+    ensures { result ≡ is_repeated reply.now.outcome }
 {
     match &reply.outcome {
-        entry_book::Outcome::Repeated(replies) => Ok(Some(replies.clone()?)),
-        _ => Ok(None),
+        BatchOutcome::Repeated(_) => true,
+        BatchOutcome::Committed(_) | BatchOutcome::Answered(_) | BatchOutcome::Refused(_) => false,
     }
 }
 
@@ -55,27 +47,10 @@ fn settled<J: Naming>(seat: &Seat<J>, work: Work) -> Outcome
     let Some(reply) = work.into_reply() else {
         unreachable!()
     };
-    let repeated = match repeated(reply.get()) {
-        Ok(repeated) => repeated,
-        Err(AllocError) => return Outcome::NoMemory,
-    };
-    match repeated {
-        Some(replies) => Outcome::Repeated(reply.get().place, replies),
-        None => Outcome::Refused(reply),
-    }
-}
-
-/// What a batch of changes is answered that this limit doesn't let in. The error is want of memory.
-fn full(alloc: Global, limit: Limit, place: u64) -> Outcome
-    ensures { IsFull limit place result }
-{
-    let reply = Reply {
-        place,
-        outcome: entry_book::Outcome::Refused(Refusal::Full(limit)),
-    };
-    match Shared::of(alloc, reply) {
-        Ok(reply) => Outcome::Refused(reply),
-        Err(AllocError) => Outcome::NoMemory,
+    if is_repeat(&reply) {
+        Outcome::Repeated(reply)
+    } else {
+        Outcome::Refused(reply)
     }
 }
 
@@ -85,7 +60,6 @@ fn full(alloc: Global, limit: Limit, place: u64) -> Outcome
 /// A reader takes no lock: it looks once at what is published, and runs its batch on that. A writer takes the lock for its commit
 /// alone. Who calls a function with `rt` may wait, and nothing is promised of its end.
 pub struct Registry<J: Naming> {
-    alloc: Global,
     history: History<J>,
     core: Mutex<Core<J>>,
 }
@@ -105,7 +79,6 @@ impl<J: Naming> Registry<J> {
         let (history, front) = opened.named::<J>();
         let core = Core::new(alloc, domain, front)?;
         Ok(Registry {
-            alloc,
             history,
             core: Mutex::new(core),
         })
@@ -160,11 +133,11 @@ impl<J: Naming> Registry<J> {
         let mut batch = batch;
         for _ in 0..tries {
             match self.attempt(rt, seat, gate, batch) {
-                Try::Over(outcome) => {
+                Ok(outcome) => {
                     let _place = seat.place();
                     return outcome;
                 }
-                Try::Overtaken(end, back) => {
+                Err((end, back)) => {
                     place = end;
                     batch = back;
                 }
@@ -174,8 +147,14 @@ impl<J: Naming> Registry<J> {
         Outcome::Conflict(place)
     }
 
-    /// One try of a batch of changes.
-    fn attempt<R: Wait, G: Gate>(&self, rt: &R, seat: &mut Seat<J>, gate: &G, batch: Batch) -> Try
+    /// One try of a batch of changes. The error is that it was overtaken, by this place, and hands the batch back.
+    fn attempt<R: Wait, G: Gate>(
+        &self,
+        rt: &R,
+        seat: &mut Seat<J>,
+        gate: &G,
+        batch: Batch,
+    ) -> Result<Outcome, (u64, Batch)>
         requires below { AllBelow seat.old.calls seat.old.own }
         requires changes { is_query batch.ops ≡ false }
         requires domain { batch.domain ≡ J.domain }
@@ -184,20 +163,20 @@ impl<J: Naming> Registry<J> {
     {
         let work = match seat.read(gate, batch) {
             Ok(work) => work,
-            Err(NoAnswer::NoMemory) => return Try::Over(Outcome::NoMemory),
-            Err(NoAnswer::NoEntry) => return Try::Over(Outcome::NoEntry),
+            Err(NoAnswer::NoMemory) => return Ok(Outcome::NoMemory),
+            Err(NoAnswer::NoEntry) => return Ok(Outcome::NoEntry),
         };
         let Some(replies) = work.replies() else {
-            return Try::Over(settled(seat, work));
+            return Ok(settled(seat, work));
         };
         let Ok(replies) = replies.clone() else {
             let_go(work);
-            return Try::Over(Outcome::NoMemory);
+            return Ok(Outcome::NoMemory);
         };
         self.commit(rt, seat, gate, work, replies)
     }
 
-    /// The commit of one try, under the lock.
+    /// The commit of one try, under the lock. The error is that it was overtaken.
     fn commit<R: Wait, G: Gate>(
         &self,
         rt: &R,
@@ -205,7 +184,7 @@ impl<J: Naming> Registry<J> {
         gate: &G,
         work: Work,
         replies: Shared<Sequence<OpReply>>,
-    ) -> Try
+    ) -> Result<Outcome, (u64, Batch)>
         requires below { AllBelow seat.old.calls seat.old.own }
         requires ready { status_of work ≡ Status.Ready }
         requires read { IsRead J.domain seat.old.seen work.batch work }
@@ -223,11 +202,17 @@ impl<J: Naming> Registry<J> {
         gate.pass(Point::AfterCommit, number, call);
         let batch = work.into_batch();
         match decided {
-            Ok(Commit::Committed(place)) => Try::Over(Outcome::Committed(place, replies)),
-            Ok(Commit::Conflict(place)) => Try::Overtaken(place, batch),
-            Ok(Commit::Full(limit, place)) => Try::Over(full(self.alloc, limit, place)),
-            Ok(Commit::NoMemory) => Try::Over(Outcome::NoMemory),
-            Err(NoEntry) => Try::Over(Outcome::NoEntry),
+            Ok(Commit::Committed(place)) => {
+                let outcome = BatchOutcome::Committed(replies);
+                Ok(Outcome::Committed(Reply { place, outcome }))
+            }
+            Ok(Commit::Conflict(place)) => Err((place, batch)),
+            Ok(Commit::Full(limit, place)) => {
+                let outcome = BatchOutcome::Refused(Refusal::Full(limit));
+                Ok(Outcome::Refused(Reply { place, outcome }))
+            }
+            Ok(Commit::NoMemory) => Ok(Outcome::NoMemory),
+            Err(NoEntry) => Ok(Outcome::NoEntry),
         }
     }
 
@@ -260,11 +245,7 @@ impl<J: Naming> Registry<J> {
     /// Ends the registry, whose writer can't be let go otherwise. It waits for the readers that are inside, and nothing is
     /// promised of its end.
     pub fn close<R: Wait>(self, rt: &R) {
-        let Registry {
-            alloc: _,
-            history: _,
-            core,
-        } = self;
+        let Registry { history: _, core } = self;
         core.into_inner().close(rt);
     }
 }

@@ -16,7 +16,7 @@ use crate::rule::{Rule, Sees, View};
 use crate::run::{begun, ran};
 use batch_work::{LentReply, Work, answer};
 use commit_head::Item;
-use entry_book::{Batch, Reply, Shared};
+use entry_book::{Batch, Reply};
 use left_right::reader::Reader;
 use std::alloc::{AllocError, Global};
 use std::marker::Model;
@@ -26,7 +26,7 @@ use std::mem::replace;
 pub(crate) type SeatReader<J> = Reader<Published, View, Rule<J>>;
 
 /// The reply to a query, with rows of its own.
-pub type Answer = Shared<Reply>;
+pub type Answer = Reply;
 
 /// Why a query has no answer.
 #[derive(Clone, Copy, Debug, PartialEq, Eq, Drop)]

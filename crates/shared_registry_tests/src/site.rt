@@ -100,7 +100,7 @@ fn query_after<J: Naming, R: Wait>(
     }
     commits_law();
     match registry.submit(rt, seat, &OpenGate, changes, 1) {
-        Outcome::Committed(_, _) => {
+        Outcome::Committed(_) => {
             let lent = seat.answer(query)?;
             let reply = lent.kept(alloc);
             drop(lent);
@@ -185,7 +185,7 @@ impl<'a, J: Naming, R: Wait + Clock> Site<'a, J, R> {
     /// The answer to a query, as text.
     fn asks(&self, seat: &mut Seat<J>, batch: Batch) -> Result<String, Failed> {
         let reply = query(&self.registry, self.alloc, &self.domain, seat, batch)?;
-        Ok(reply_text(self.alloc, reply.get())?)
+        Ok(reply_text(self.alloc, &reply)?)
     }
 
     /// What becomes of a batch of changes, as text.
@@ -226,7 +226,7 @@ impl<'a, J: Naming, R: Wait + Clock> Site<'a, J, R> {
             changes,
             &query,
         )?;
-        Ok(reply_text(self.alloc, reply.get())?)
+        Ok(reply_text(self.alloc, &reply)?)
     }
 
     /// What becomes of the last of so many batches.

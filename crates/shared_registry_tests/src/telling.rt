@@ -1,7 +1,7 @@
 //! What became of batches, and what a seat is, told as text; and what such a text tells.
 
 use crate::failed::Failed;
-use batch_texts::{accepted_text, placed, reply_text};
+use batch_texts::{placed, reply_text};
 use shared_registry::{Naming, Outcome, Seat};
 use std::alloc::Global;
 
@@ -9,15 +9,9 @@ use std::alloc::Global;
 /// the test can't go on.
 pub fn outcome_text(alloc: Global, outcome: &Outcome) -> Result<String, Failed> {
     match outcome {
-        Outcome::Committed(place, replies) => {
-            let replies = replies.get().as_slice();
-            Ok(accepted_text(alloc, "committed", *place, replies)?)
+        Outcome::Committed(reply) | Outcome::Repeated(reply) | Outcome::Refused(reply) => {
+            Ok(reply_text(alloc, reply)?)
         }
-        Outcome::Repeated(place, replies) => {
-            let replies = replies.get().as_slice();
-            Ok(accepted_text(alloc, "repeated", *place, replies)?)
-        }
-        Outcome::Refused(reply) => Ok(reply_text(alloc, reply.get())?),
         Outcome::Conflict(place) => Ok(placed(alloc, "conflict", *place)?),
         Outcome::NoMemory => Err(Failed("no memory")),
         Outcome::NoEntry => Err(Failed("not let in")),

@@ -1,14 +1,14 @@
 //! Which line answers an event, and which one tells the order?
 
 ghost use Rattle.std.specs.Prelude.{◌≡◌};
-ghost use Rattle.reg_lines.specs.EventAnswers.{begun_json, commit_json, decided_json, event_json, event_refusal_json, full_json, invoked_json, order_json, status_json, status_text, stepped_json, told_json};
+ghost use Rattle.reg_lines.specs.EventAnswers.{begun_json, commit_json, decided_json, event_json, event_refusal_json, full_json, invoked_json, order_json, status_json, status_text, stepped_json};
 ghost use Rattle.line_devices.specs.Stream.{Puts};
 
 use crate::printing::print_json::{PrintJson, print_list, print_number};
-use crate::printing::replies::{CallConflict, CallReply};
+use crate::printing::replies::AnsweredCall;
 use crate::printing::text::print_text;
 use batch_work::Status;
-use call_answers::{Decision, Done, Told};
+use call_answers::{Decision, Done};
 use call_events::EventRefusal;
 use entry_book::Limit;
 use line_devices::{Output, Sink};
@@ -44,7 +44,10 @@ impl PrintJson for Done {
             Done::Begun(call, place, status) => print_begun(*call, *place, *status, output),
             Done::Stepped(call, read, status) => print_stepped(*call, read, *status, output),
             Done::Decided(call, decision, place) => print_decided(*call, *decision, *place, output),
-            Done::Answered(call, told) => print_told(*call, told, output),
+            Done::Answered(call, answer) => {
+                let call = *call;
+                AnsweredCall { call, answer }.print_to(output);
+            }
         }
     }
 }
@@ -119,22 +122,6 @@ fn print_full<S: Sink>(call: u64, limit: Limit, place: u64, output: &mut Output<
     output.put(b",\"commit\":\"full\",\"place\":");
     print_number(place, output);
     output.put(b"}");
-}
-
-/// Prints what a call is answered, as its reply line.
-fn print_told<S: Sink>(call: u64, told: &Told, output: &mut Output<S>)
-    ensures { Puts output.old output.new (told_json call told.now) }
-{
-    match told {
-        Told::Replied(reply) => {
-            let reply = reply.get();
-            CallReply { call, reply }.print_to(output);
-        }
-        Told::Conflicted(place) => {
-            let place = *place;
-            CallConflict { call, place }.print_to(output);
-        }
-    }
 }
 
 /// Why an event was refused, with the number of its line.

@@ -28,21 +28,20 @@ pub struct CallRecord<'a> {
 }
 
 impl<'a> CallRecord<'a> {
-    ghost use Rattle.std.specs.Prelude.{◌≡◌};
-    ghost use Rattle.reg_lines.specs.CallRecords.{record_of};
+    ghost use Rattle.reg_lines.specs.CallRecords.{HasRecord};
     ghost use Rattle.reg_lines.specs.Spelled.{IsWrittenBatch, IsWrittenCall};
 
     /// The record of the call of this number, once it has a reply: a conflict is none.
     pub fn of(call: u64, known: &KnownCall<'a>) -> Option<CallRecord<'a>>
-        ensures { result ≡ record_of call known.now }
+        ensures { HasRecord call known.now result }
     {
-        match &known.answer {
+        match known.answer {
             Some(CallAnswer::Replied(reply)) => Some(CallRecord {
                 batch: known.batch,
                 call,
                 invoked: known.invoked,
                 replied: known.replied,
-                reply: *reply,
+                reply,
             }),
             Some(CallAnswer::Conflict(_)) => None,
             None => None,

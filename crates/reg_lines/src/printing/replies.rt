@@ -1,12 +1,13 @@
 //! Which line prints the reply to a batch?
 
 ghost use Rattle.std.specs.Prelude.{◌++◌, codes};
-ghost use Rattle.reg_lines.specs.Replies.{conflict_json, detail_member, done_of, dropped_json, op_detail_member, op_reply_json, page_of, refused_json, reply_json, under};
+ghost use Rattle.reg_lines.specs.Replies.{answer_json, conflict_json, detail_member, done_of, dropped_json, op_detail_member, op_reply_json, page_of, refused_json, reply_json, under};
 ghost use Rattle.line_devices.specs.Stream.{Puts};
 
 use crate::printing::print_json::{PrintJson, print_list, print_number};
 use crate::printing::refusal::put_op;
 use crate::printing::text::print_text;
+use call_answers::CallAnswer;
 use entry_book::{OpRefusal, OpReply, Outcome, Refusal, Reply};
 use line_devices::{Output, Sink};
 use uuid::Uuid;
@@ -194,23 +195,35 @@ fn put_detail_of<T: PrintJson, S: Sink>(value: &T, output: &mut Output<S>)
     value.print_to(output);
 }
 
-/// That a call's changes were given up for those of others, as a reply line tells it.
-#[derive(Clone, Copy, Debug, PartialEq, Eq, Drop)]
-pub struct CallConflict {
+/// What a call is answered with its number, as a reply line has them: the reply to its batch, or that its changes were given up
+/// for those of others.
+#[derive(Clone, Copy, Drop)]
+pub struct AnsweredCall<'a> {
     /// The number of the call.
     pub call: u64,
-    /// The place at which the conflict was found.
-    pub place: u64,
+    /// What it is answered.
+    pub answer: &'a CallAnswer,
 }
 
-impl PrintJson for CallConflict {
-    ghost text = { λ c. conflict_json c.call c.place };
+impl PrintJson for AnsweredCall<'_> {
+    ghost text = { λ a. answer_json a.call a.answer.now };
 
     fn print_to<S: Sink>(&self, output: &mut Output<S>) {
-        output.put(b"{\"call\":");
-        print_number(self.call, output);
-        output.put(b",\"place\":");
-        print_number(self.place, output);
-        output.put(b",\"result\":\"conflict\"}");
+        let call = self.call;
+        match self.answer {
+            CallAnswer::Replied(reply) => CallReply { call, reply }.print_to(output),
+            CallAnswer::Conflict(place) => print_conflict(call, *place, output),
+        }
     }
+}
+
+/// Prints that a call's changes were given up for those of others, and at which place this was found.
+fn print_conflict<S: Sink>(call: u64, place: u64, output: &mut Output<S>)
+    ensures { Puts output.old output.new (conflict_json call place) }
+{
+    output.put(b"{\"call\":");
+    print_number(call, output);
+    output.put(b",\"place\":");
+    print_number(place, output);
+    output.put(b",\"result\":\"conflict\"}");
 }

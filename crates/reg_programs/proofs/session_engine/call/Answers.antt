@@ -5,8 +5,8 @@ use Rattle.reg_lines.specs.Replies.{reply_json}
 use Rattle.shared_registry.specs.Outcomes.{IsSubmitted}
 use Rattle.shared_registry.specs.Seated.{Seated}
 use Rattle.shared_registry.specs.declared.seat.NoAnswer.TheVariants as no
-use Rattle.reg_programs.specs.Sessions.{AnswersCall, no_reply, outcome_json, replied, submitted}
-use Rattle.reg_programs.proofs.Calling.{entered}
+use Rattle.reg_programs.specs.Sessions.{AnswersCall, HasText, no_reply, outcome_json, replied, submitted}
+use Rattle.reg_programs.proofs.Calling.{entered, printed_as, to_answer}
 use Rattle.reg_programs.proofs.session_engine.call.Goals as goal
 
 -- the seat has looked, and the question is its to answer
@@ -34,9 +34,11 @@ returns-in-Err g c =
     let looked = c.look.ensures in
     let query = sym c.is_query.ensures.query ∙ c.if-is_query.true in
     record {
-      asked = tt;
-      answers = λ t text p. subst (λ (s : Seated). AnswersCall domain c.args.seat.now c.args.request c.args.line s text) (sym p.0)
-          (no_reply c.in-Err.why query looked.stays looked.own (p.1 ∙ c.not_answered.ensures));
+      asked = to_answer domain c.look.new.self c.not_answered.result _ c.not_answered.ensures;
+      answers = λ t text p.
+          let a = printed_as c.look.new.self t c.not_answered.result _ text c.not_answered.ensures p in
+          subst (λ (s : Seated). AnswersCall domain c.args.seat.now c.args.request c.args.line s text) (sym a.0)
+          (no_reply c.in-Err.why query looked.stays looked.own a.1);
     }
 
 -- a batch of changes was handed in
@@ -44,10 +46,12 @@ returns-in-Err g c =
 pub returns-else-is_query : goal.returns-else-is_query
 returns-else-is_query g c =
     let domain = g.J.Naming.domain in
-    let told = c.outcome_of.ensures ∙ ap (λ (n : ℕ). outcome_json n c.args.line c.submit-outcome.result) c.calls.ensures in
+    let told = subst (λ (n : ℕ). HasText c.outcome_of.result (outcome_json n c.args.line c.submit-outcome.result)) c.calls.ensures c.outcome_of.ensures in
     let made = subst (λ (n : ℕ). IsSubmitted c.args.seat.now c.submit-outcome.new.seat c.args.request.batch n c.submit-outcome.result) c.count.ensures.value c.submit-outcome.ensures.answer in
     record {
-      asked = tt;
-      answers = λ t text p. subst (λ (s : Seated). AnswersCall domain c.args.seat.now c.args.request c.args.line s text) (sym p.0)
-          (submitted c.submit-outcome.result (sym c.is_query.ensures.query ∙ c.if-is_query.false) c.submit-outcome.ensures.along c.submit-outcome.ensures.heard made (p.1 ∙ told));
+      asked = to_answer domain c.submit-outcome.new.seat c.outcome_of.result _ told;
+      answers = λ t text p.
+          let a = printed_as c.submit-outcome.new.seat t c.outcome_of.result _ text told p in
+          subst (λ (s : Seated). AnswersCall domain c.args.seat.now c.args.request c.args.line s text) (sym a.0)
+          (submitted c.submit-outcome.result (sym c.is_query.ensures.query ∙ c.if-is_query.false) c.submit-outcome.ensures.along c.submit-outcome.ensures.heard made a.1);
     }

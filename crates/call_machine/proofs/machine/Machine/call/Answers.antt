@@ -2,10 +2,13 @@ use Rattle.std.proofs.Common.{◌≡◌, Some, None, sym, ap, subst, ◌∙◌}
 use Rattle.std.specs.Prelude.{nat_eq, option_map}
 use Rattle.std.specs.Map.{lookup}
 use Rattle.call_machine.specs.Calls.{State, call_at}
-use Rattle.call_machine.specs.Kept.{call_kept}
+use Rattle.call_machine.specs.Kept.{call_kept, domain_of}
 use Rattle.call_machine.specs.Known.{Tells}
-use Rattle.call_machine.proofs.Slots.{lookup_call}
+use Rattle.call_machine.proofs.Slots.{lookup_call, rests_at}
 use Rattle.call_machine.proofs.machine.Machine.call.Goals as goal
+
+pub known-requires : goal.known-requires
+known-requires c = record { answered = (rests_at (domain_of c.self.inside.head) c.self.inside.head.kept c.args.number c.self.inside.calls.entries c.in-Some.slot.now c.self.invariant.rest (sym c.in-Some.ensures.value)).answered }
 
 pub returns-in-Some : goal.returns-in-Some
 returns-in-Some c =

@@ -13,7 +13,7 @@ use Rattle.call_machine.specs.Machine.{Invokes}
 use Rattle.call_machine.specs.Kept.{call_kept, calls_kept, domain_of, slot_events, state_of}
 use Rattle.call_machine.proofs.Counts.{has_room}
 use Rattle.call_machine.proofs.Changed.{holds_more, known_call, none_found}
-use Rattle.call_machine.proofs.Slots.{lookup_call, rests_new}
+use Rattle.call_machine.proofs.Slots.{lookup_call, slot_rests_new}
 use Rattle.call_machine.proofs.machine.Machine.invoke.Goals as goal
 
 pub overflow_add-invoked : goal.overflow_add-invoked
@@ -62,7 +62,7 @@ invariant_of-self-2 c =
     let len : c.len.result ≡ length es = c.len.ensures.len in
     let few = c.if-len-ge4096.false in
     let one = ap slot_events c.new-slot.ensures in
-    holds_more h c.self.inside.count n es _ slot c.self.invariant entries (rests_new (domain_of h) h.kept slot.work c.args.batch (subst (λ d. IsMadeFor d c.args.batch) (c.requires.domain ∙ sym own) c.ops.ensures.made) (ap (λ (s : Slot). s.work) c.new-slot.ensures)) (omega (arith, len, few)) (omega (arith, one))
+    holds_more h c.self.inside.count n es _ slot c.self.invariant entries (slot_rests_new (domain_of h) h.kept slot c.args.batch (subst (λ d. IsMadeFor d c.args.batch) (c.requires.domain ∙ sym own) c.ops.ensures.made) (ap (λ (s : Slot). s.work) c.new-slot.ensures)) (omega (arith, len, few)) (omega (arith, one))
 
 pub returns-clause-ok : goal.returns-clause-ok
 returns-clause-ok c =

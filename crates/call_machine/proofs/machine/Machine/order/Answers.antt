@@ -5,13 +5,17 @@ use Rattle.std.proofs.lemmas.List.Sorted.{IsNonDecreasingBy-from_sort_by_key}
 use Rattle.std.proofs.lemmas.Result.{IfOk-weaker}
 use Rattle.call_machine.specs.Calls.{State}
 use Rattle.call_machine.specs.Laws.{is_listed, turn_of, turn_in, number_in}
+use Rattle.call_machine.specs.Kept.{domain_of}
+use Rattle.call_machine.proofs.Slots.{listed_turns}
 use Rattle.call_machine.proofs.Whole.{headline_holds, replies_held}
 use Rattle.call_machine.proofs.machine.Machine.order.Goals as goal
 
 pub returns-clause-order : goal.returns-clause-order
 returns-clause-order c =
     let sorted = c.sort_by_key.new.self.items in
-    let listed : c.in_ok-turns.turns.items ≡ map turn_of (filter is_listed c.args.self.now.calls) = c.in_ok-turns.ensures ∙ ap (λ (s : State). map turn_of (filter is_listed s.calls)) c.self.view_is in
+    let h = c.self.inside.head in
+    let es = c.self.inside.calls.entries in
+    let listed : c.in_ok-turns.turns.items ≡ map turn_of (filter is_listed c.args.self.now.calls) = c.in_ok-turns.ensures ∙ (listed_turns (domain_of h) h.kept es c.self.invariant.rest ∙ ap (λ (s : State). map turn_of (filter is_listed s.calls)) c.self.view_is) in
     IfOk-weaker c.numbers_of.result _ _ (λ order h. record {
       turns = sorted;
       listed = subst (λ l. IsPermutation l sorted) listed c.sort_by_key.ensures.permutation;

@@ -4,7 +4,7 @@ use Rattle.call_machine.specs.Machine.{Replies, is_over}
 use Rattle.call_answers.specs.declared.answer.Done.TheVariants.{Answered}
 use Rattle.call_machine.specs.declared.slot.Slot.{Slot}
 use Rattle.call_machine.specs.Calls.{with_call}
-use Rattle.call_machine.specs.Kept.{Holds, RestsOn, call_kept, calls_kept, domain_of, state_of}
+use Rattle.call_machine.specs.Kept.{Holds, SlotRests, call_kept, calls_kept, domain_of, state_of}
 use Rattle.call_machine.proofs.Changed.{calls_set, holds_set, refused_slot, refused_unknown, unchanged}
 use Rattle.call_machine.proofs.Counts.{has_room, more_replied}
 use Rattle.call_machine.proofs.Slots.{lookup_call, rests_at}
@@ -33,6 +33,9 @@ returns-in-Err-clause-stays c =
 pub returns-in-Err-clause-err : goal.returns-in-Err-clause-err
 returns-in-Err-clause-err c = refused_slot c.self.inside.head c.self.inside.count c.self.inside.calls.entries c.args.self.now c.self.view_is c.args.number (λ d. is_none d.replied && is_over d.stage) c.in-Some.slot.now c.in-Err.refusal (sym c.in-Some.ensures.value) c.in-Err.ensures.err
 
+pub reply-requires : goal.reply-requires
+reply-requires c = record { answered = (rests_at (domain_of c.self.inside.head) c.self.inside.head.kept c.args.number c.self.inside.calls.entries c.in-Some.slot.now c.self.invariant.rest (sym c.in-Some.ensures.value)).answered }
+
 pub invariant_of-self-2 : goal.invariant_of-self-2
 invariant_of-self-2 c =
     let h = c.self.inside.head in
@@ -41,7 +44,7 @@ invariant_of-self-2 c =
     let found = sym c.in-Some.ensures.value in
     let b = c.in-Ok.ensures.ok in
     let rests = rests_at (domain_of h) h.kept c.args.number es old c.self.invariant.rest found in
-    holds_set h c.self.inside.count c.args.number es _ old c.reply.new.self c.self.invariant found (c.get_mut.follows.holds c.reply.new.self).0 (subst (λ (s : Slot). RestsOn (domain_of h) h.kept s.work) (sym b.2) rests)
+    holds_set h c.self.inside.count c.args.number es _ old c.reply.new.self c.self.invariant found (c.get_mut.follows.holds c.reply.new.self).0 (subst (SlotRests (domain_of h) h.kept) (sym b.2) (record { work = rests.work; answered = rests.answered }))
     (more_replied old c.reply.new.self _ b.0 b.2)
 
 pub returns-clause-ok : goal.returns-clause-ok
@@ -53,13 +56,13 @@ returns-clause-ok c =
     let later = c.reply.new.self in
     let entries = (c.get_mut.follows.lender later).entries in
     let b = c.in-Ok.ensures.ok in
-    let replies : Replies (state_of h c.self.inside.count es) n (Answered n c.in-Ok.told) (state_of h (c.self.inside.count + 1) entries) = record {
+    let replies : Replies (state_of h c.self.inside.count es) n (Answered n c.in-Ok.answer) (state_of h (c.self.inside.count + 1) entries) = record {
       call = call_kept n old;
       found = lookup_call n es ∙ ap (option_map (call_kept n)) (sym c.in-Some.ensures.value);
       once = b.0;
-      told = c.in-Ok.told;
+      given = c.in-Ok.answer;
       in_turn = b.1;
       answer = refl;
       after = ap (λ l. record (state_of h (c.self.inside.count + 1) es) { calls = l }) (calls_set n es entries later (c.get_mut.follows.holds later).0 ∙ ap (λ (s : Slot). with_call (call_kept n s) (calls_kept es)) b.2);
     } in
-    subst (λ u. Replies u n (Answered n c.in-Ok.told) (state_of h (c.self.inside.count + 1) entries)) c.self.view_is replies
+    subst (λ u. Replies u n (Answered n c.in-Ok.answer) (state_of h (c.self.inside.count + 1) entries)) c.self.view_is replies

@@ -6,12 +6,12 @@ use Rattle.call_machine.proofs.Slots.{open_is}
 use Rattle.call_machine.proofs.slot.Slot.commit.Goals as goal
 
 pub decide-requires-clause-ready : goal.decide-requires-clause-ready
-decide-requires-clause-ready c = (open_is c.args.self.now.end c.args.self.now.work Ready c.in-Ready.ensures (λ q. cc)).1
+decide-requires-clause-ready c = (open_is c.args.self.now.answer c.args.self.now.work Ready c.in-Ready.ensures (λ q. cc)).1
 
 pub returns-clause-ok : goal.returns-clause-ok
 returns-clause-ok c =
     let old = c.args.self.now in
-    let open_work = open_is old.end old.work Ready c.in-Ready.ensures (λ q. cc) in
+    let open_work = open_is old.answer old.work Ready c.in-Ready.ensures (λ q. cc) in
     let d = c.in-Some.ensures.some in
     let later = c.finish_with.ensures in
     record {

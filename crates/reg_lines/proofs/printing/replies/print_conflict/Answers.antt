@@ -1,6 +1,6 @@
 use Rattle.reg_lines.specs.Replies.{conflict_json}
 use Rattle.reg_lines.proofs.Rows.{◌▸◌}
-use Rattle.reg_lines.proofs.printing.replies.CallConflictPrintJson.print_to.Goals as goal
+use Rattle.reg_lines.proofs.printing.replies.print_conflict.Goals as goal
 
 pub returns : goal.returns
 unfolding conflict_json
