@@ -1,23 +1,25 @@
 -- What a head's answer to the commit of a call is to the machine.
-use Rattle.std.proofs.Common.{◌≡◌, ℕ, ◌+◌, [], ◌∷◌, ◌++◌, length, Some, refl, sym, ap, subst, ◌∙◌, inl, inr, arith}
+use Rattle.std.proofs.Common.{◌≡◌, ℕ, ◌+◌, [], ◌∷◌, ◌++◌, length, refl, sym, ap, subst, ◌∙◌, inl, inr}
 use Rattle.entry_book.specs.declared.limit.Limit.{Limit}
-use Rattle.entry_book.specs.declared.reply.Outcome.TheVariants.{Committed, Refused}
-use Rattle.entry_book.specs.declared.reply.Refusal.TheVariants.{Full}
+use Rattle.entry_book.specs.declared.reply.Outcome.TheVariants.{Committed as WasCommitted, Refused}
+use Rattle.entry_book.specs.declared.reply.Refusal.TheVariants.{Full as TooMuch}
 use Rattle.entry_book.specs.declared.reply.Reply.{Reply}
-use Rattle.entry_book.specs.History.{books_of, is_committed, refuses, reply_to, verdict}
-use Rattle.version_book.specs.CommittedRows.{book_of}
+use Rattle.entry_book.specs.History.{books_of, is_committed, reply_to}
 use Rattle.batch_work.specs.declared.status.Status.TheVariants.{Ready}
 use Rattle.batch_work.specs.Working.{Work, status_of}
-use Rattle.commit_head.specs.Heads.{BeganOn, Fits, Head, IsDue as IsDueThere, IsItemOf, Prepared, Stays, newest_of, place_of}
-use Rattle.commit_head.specs.Journals.{batches_of}
-use Rattle.commit_head.proofs.Journals.{joins_on_books}
-use Rattle.commit_head.proofs.OnBooks.{batches_join}
+use Rattle.batch_work.proofs.Ready.{same_replies}
+use Rattle.commit_head.specs.declared.commit.Commit.TheVariants.{Committed, Conflict, Full}
+use Rattle.commit_head.specs.Heads.{BeganOn, Fits, Head, IsCommitted, IsItemOf, IsRefused, Prepared, Stays, newest_of, place_of}
+use Rattle.commit_head.specs.Journals.{Joins, batches_of}
+use Rattle.commit_head.specs.Outcomes.{IsHitSince, IsReadyOn}
+use Rattle.commit_head.proofs.OnBooks.{batches_join, commit_on_books, count_of_batches}
 use Rattle.call_answers.specs.declared.answer.CallAnswer.{CallAnswer}
-use Rattle.call_answers.specs.declared.answer.CallAnswer.TheVariants.{Replied, Conflict}
+use Rattle.call_answers.specs.declared.answer.CallAnswer.TheVariants.{Replied}
+use Rattle.call_answers.specs.declared.answer.CallAnswer.TheVariants as gave
 use Rattle.call_answers.specs.declared.answer.Decision.TheVariants as to
 use Rattle.call_machine.specs.Calls.{answered, committed, conflict}
-use Rattle.call_machine.specs.Kept.{BeganInside, Finishes, GoesOn, IsDecided, IsWhole, RestsOn, domain_of, journal_of, stage_over}
-use Rattle.call_machine.proofs.Heads.{began_on, due_there, full_there, place_is, stayed, went_on}
+use Rattle.call_machine.specs.Kept.{BeganInside, Finishes, IsDecided, IsWhole, RestsOn, domain_of, journal_of, stage_over}
+use Rattle.call_machine.proofs.Heads.{appended_from, began_on, stayed, went_on}
 use Rattle.call_machine.proofs.Slots.{IsAwaiting, began_at, ready_is}
 
 -- what a work that is ready has to do with the journal
@@ -29,24 +31,20 @@ may_prepare h w whole rests s =
     let r = ready_is w s in
     subst (λ o. BeganOn o h) (sym r.base_is) (began_on h w.batch r.base whole (began h w r rests))
 
-goes_from : (old between new : Head) → Stays old between → GoesOn between new → GoesOn old new
-goes_from old between new s g = record {
-  domain = g.domain ∙ ap (λ w. w.newest.domain) s.window;
-  more = g.more;
-  kept = g.kept ∙ ap (λ l. l ++ g.more) s.kept;
-  whole = g.whole;
-}
+-- it is ready on the head's journal
+ready_on : (h : Head) (w : Work) (r : IsAwaiting w) → RestsOn (domain_of h) h.kept w → status_of w ≡ Ready → IsReadyOn (domain_of h) h.kept w r.base
+ready_on h w r rests s = record { made = rests.made; ready = s; base_is = r.base_is; leads = (began h w r rests).leads }
 
-pub decided_committed : (old between new : Head) (w : Work) (seat call : ℕ) (p : Prepared) (answer : CallAnswer) (place : ℕ) → IsWhole old → status_of w ≡ Ready → Stays old between → Fits between p → IsItemOf seat call w p.item → Finishes between p.item answer place new → IsDecided old w answer to.Committed place new
-decided_committed old between new w seat call p answer place whole s stays fits item done =
+pub decided_committed : (old between new : Head) (w : Work) (seat call : ℕ) (p : Prepared) (answer : CallAnswer) (place : ℕ) → IsWhole old → RestsOn (domain_of old) old.kept w → status_of w ≡ Ready → Stays old between → Fits between p → IsItemOf seat call w p.item → Finishes between p.item answer place new → IsDecided old w answer to.Committed place new
+decided_committed old between new w seat call p answer place whole rests s stays fits item done =
     let r = ready_is w s in
-    let there : IsWhole between = (stayed old between whole stays).whole in
-    let joins = fits.goes.joins in
-    let same : journal_of between ≡ journal_of old = ap batches_of stays.kept in
-    let batch : p.item.batch ≡ w.batch = item.batch_is in
-    let reply : reply_to w.batch (books_of (journal_of old)) ≡ record { place = place_of between + 1; outcome = Committed p.item.replies } =
-    sym (λ i. reply_to (batch i) (books_of (same i))) ∙ (joins_on_books between.kept p.item between there joins).reply in
-    let number = place_is between there in
+    let joins : Joins p.item (newest_of old) = subst (λ v. Joins p.item v.newest) stays.window fits.goes.joins in
+    let appended = appended_from old between new p.item stays done.appended in
+    let commit : IsCommitted old seat call w place new = record { item = p.item; of_work = item; joins = joins; number = done.place_is ∙ ap (λ v. v.newest.number + 1) stays.window; appended = appended } in
+    let on = commit_on_books old.kept old seat call w r.base (Committed place) new whole (ready_on old w r rests s) commit in
+    let same : p.item.replies ≡ on.item.replies = same_replies w p.item.replies on.item.replies item.replies on.of_work.replies in
+    let reply : reply_to w.batch (books_of (journal_of old)) ≡ record { place = place_of between + 1; outcome = WasCommitted p.item.replies } = on.reply ∙ (λ i. record { place = done.place_is i; outcome = WasCommitted (sym same i) }) in
+    let length_is : place ≡ length (journal_of old) + 1 = on.number ∙ ap (λ n. n + 1) (sym (count_of_batches old.kept)) in
     record {
       base = r.base.newest.number;
       in_turn = r.stage;
@@ -54,26 +52,24 @@ decided_committed old between new w seat call p answer place whole s stays fits 
         commits = ap (λ (r : Reply). is_committed r.outcome) reply;
         stage_is = ap stage_over done.answer_is ∙ ap committed (sym reply);
         decision_is = refl;
-        place_is = let n = done.place_is in let l = ap length same in omega arith;
-        journal_is = ap batches_of done.appended.kept ∙ (batches_join between.kept (p.item ∷ []) ∙ (λ i. same i ++ batch i ∷ []));
+        place_is = length_is;
+        journal_is = ap batches_of appended.kept ∙ (batches_join old.kept (p.item ∷ []) ∙ ap (λ b. journal_of old ++ b ∷ []) item.batch_is);
       });
-      goes_on = goes_from old between new stays (went_on between new p.item there joins done.appended);
+      goes_on = went_on old new p.item whole joins appended;
     }
 
-pub decided_full : (old new : Head) (w : Work) (limit : Limit) (place : ℕ) → IsWhole old → RestsOn (domain_of old) old.kept w → status_of w ≡ Ready → Stays old new → place ≡ place_of old → verdict w.batch (place_of old) (Some (book_of (newest_of old).rows)) ≡ refuses (Full limit) → IsDecided old w (Replied (record { place = place; outcome = Refused (Full limit) })) (to.Full limit) place new
-decided_full old new w limit place whole rests s stays n v =
+pub decided_full : (old new : Head) (w : Work) (limit : Limit) (place : ℕ) → IsWhole old → RestsOn (domain_of old) old.kept w → status_of w ≡ Ready → Stays old new → IsRefused old w (Full limit place) → IsDecided old w (Replied (record { place = place; outcome = Refused (TooMuch limit) })) (to.Full limit) place new
+decided_full old new w limit place whole rests s stays refused =
     let r = ready_is w s in
-    let b = began old w r rests in
-    let there = full_there old w.batch _ limit place whole rests.made (sym b.is_on.wait ∙ r.awaits) n v in
-    let number = place_is old whole in
-    let length_is : place ≡ length (journal_of old) = n ∙ number in
+    let on = commit_on_books old.kept old 0 0 w r.base (Full limit place) new whole (ready_on old w r rests s) (stays, refused) in
+    let length_is : place ≡ length (journal_of old) = on.0 ∙ sym (count_of_batches old.kept) in
     record {
       base = r.base.newest.number;
       in_turn = r.stage;
       decided = inr (inl (record {
         limit = limit;
-        full = there ∙ ap (λ m. record { place = m; outcome = Refused (Full limit) }) length_is;
-        stage_is = ap answered (sym there);
+        full = on.1 ∙ ap (λ m. record { place = m; outcome = Refused (TooMuch limit) }) length_is;
+        stage_is = ap answered (sym on.1);
         decision_is = refl;
         place_is = length_is;
         journal_is = ap batches_of stays.kept;
@@ -81,15 +77,16 @@ decided_full old new w limit place whole rests s stays n v =
       goes_on = stayed old new whole stays;
     }
 
-pub decided_conflict : (old new : Head) (w : Work) (place : ℕ) → IsWhole old → RestsOn (domain_of old) old.kept w → status_of w ≡ Ready → Stays old new → place ≡ place_of old → IsDueThere w.base w.batch (newest_of old) old.kept → IsDecided old w (Conflict place) to.Conflict place new
-decided_conflict old new w place whole rests s stays n due =
+pub decided_conflict : (old new : Head) (w : Work) (place : ℕ) → IsWhole old → RestsOn (domain_of old) old.kept w → status_of w ≡ Ready → Stays old new → IsRefused old w (Conflict place) → IsDecided old w (gave.Conflict place) to.Conflict place new
+decided_conflict old new w place whole rests s stays refused =
     let r = ready_is w s in
-    let length_is : place ≡ length (journal_of old) = n ∙ place_is old whole in
+    let on = commit_on_books old.kept old 0 0 w r.base (Conflict place) new whole (ready_on old w r rests s) (stays, refused) in
+    let length_is : place ≡ length (journal_of old) = on.0 ∙ sym (count_of_batches old.kept) in
     record {
       base = r.base.newest.number;
       in_turn = r.stage;
       decided = inr (inr (record {
-        due = due_there old w.batch r.base whole (began old w r rests) (subst (λ o. IsDueThere o w.batch (newest_of old) old.kept) r.base_is due);
+        due = subst (IsHitSince (journal_of old) r.base.newest.number) (began old w r rests).is_on.reads on.1;
         stage_is = ap conflict length_is;
         decision_is = refl;
         place_is = length_is;

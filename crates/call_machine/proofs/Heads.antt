@@ -1,26 +1,19 @@
 -- What a head's answer to a commit is to the journal of batches, where the head keeps its whole journal.
-use Rattle.std.proofs.Common.{◌≡◌, ℕ, true, List, [], ◌∷◌, ◌++◌, length, length-append, take, drop, Some, sym, ap, subst, ◌∙◌, arith}
+use Rattle.std.proofs.Common.{◌≡◌, ℕ, List, [], ◌∷◌, ◌++◌, length, length-append, take, drop, Some, sym, ap, subst, ◌∙◌, arith}
 use Rattle.std.proofs.lemmas.List.{append-nil, take-append-drop, take-append-le, take-map, take_all}
-use Rattle.entry_book.specs.declared.limit.Limit.{Limit}
-use Rattle.entry_book.specs.declared.reply.Outcome.TheVariants.{Refused}
-use Rattle.entry_book.specs.declared.reply.Refusal.TheVariants.{Full}
-use Rattle.entry_book.specs.Order.{Within}
 use Rattle.entry_book.specs.Rows.{Bytes}
-use Rattle.entry_book.specs.Book.{Book}
-use Rattle.entry_book.specs.Batches.{Batch, IsMadeFor}
-use Rattle.entry_book.specs.History.{books_of, refuses, reply_to, verdict}
-use Rattle.version_book.specs.CommittedRows.{book_of}
-use Rattle.batch_work.specs.Reads.{awaits_commit}
+use Rattle.entry_book.specs.Batches.{Batch}
+use Rattle.entry_book.specs.History.{books_of}
+use Rattle.version_book.specs.History.{state_with}
+use Rattle.batch_work.specs.Windows.{pushed}
 use Rattle.batch_work.specs.Working.{Base, base_in}
-use Rattle.batch_work.proofs.Batches.{awaits_said}
 use Rattle.batch_work.proofs.Windows.{window_stands}
 use Rattle.commit_head.specs.declared.item.Item.{Item}
-use Rattle.commit_head.specs.Heads.{BeganOn, Head, IsAppended, IsDue as IsDueThere, IsJournal, Stays, newest_of, place_of as place_at}
+use Rattle.commit_head.specs.Heads.{BeganOn, Head, IsAppended, IsJournal, Stays, newest_of, place_of as place_at}
 use Rattle.commit_head.specs.Journals.{Joins, Leads, batches_of, first_state as first_version}
 use Rattle.commit_head.proofs.Begun.{began_inside, journal_kept}
 use Rattle.commit_head.proofs.Journals.{journal_goes_on}
-use Rattle.commit_head.proofs.OnBooks.{count_of_batches, due_on_books, full_on_books, led_to}
-use Rattle.call_machine.specs.Schedules.{IsDue}
+use Rattle.commit_head.proofs.OnBooks.{count_of_batches, led_to}
 use Rattle.call_machine.specs.Kept.{BeganInside, GoesOn, IsOn, IsWhole, domain_of, journal_of}
 
 -- ---- items and batches
@@ -58,11 +51,7 @@ began_still own items more batch base b =
       is_on = subst (λ l. IsOn batch base (books_of l)) (sym batches) b.is_on;
     }
 
--- ---- the answers to a commit
-
--- what a limit that is passed at the newest version is to the list of all books
-pub full_there : (h : Head) (batch : Batch) (books : List Book) (limit : Limit) (n : ℕ) → IsWhole h → IsMadeFor (domain_of h) batch → awaits_commit batch books ≡ true → n ≡ place_at h → verdict batch (place_at h) (Some (book_of (newest_of h).rows)) ≡ refuses (Full limit) → reply_to batch (books_of (journal_of h)) ≡ record { place = n; outcome = Refused (Full limit) }
-full_there h batch books limit n w made awaits e v = full_on_books h.kept h batch limit n w ((awaits_said (domain_of h) batch books made).0 awaits).newest e v
+-- ---- a commit
 
 -- the head has the version on which a work began
 pub began_on : (h : Head) (batch : Batch) (base : Base) → IsWhole h → BeganInside (domain_of h) h.kept batch base → BeganOn (Some base) h
@@ -70,22 +59,12 @@ began_on h batch base w b =
     let n = base.newest.number in
     (began_inside (take n h.kept) (drop n h.kept) base h (subst (λ l. IsJournal l h) (sym (take-append-drop n h.kept)) w) b.leads).began
 
--- where each list of items that leads to the newest version has a batch that hits, the journal has one
-pub due_there : (h : Head) (batch : Batch) (base : Base) → IsWhole h → BeganInside (domain_of h) h.kept batch base → IsDueThere (Some base) batch (newest_of h) h.kept → IsDue (journal_of h) batch base.newest.number
-due_there h batch base w b due =
-    let d = due_on_books h.kept h batch base w b.leads due in
-    record {
-      before = d.before;
-      other = d.other;
-      later = d.later;
-      split = d.split;
-      since = d.since;
-      mark = d.mark;
-      read = subst (λ l. Within l d.mark) b.is_on.reads d.read;
-      write = d.write;
-      is_made = d.is_made;
-      hit = d.hit;
-    }
+-- what was appended to a head that only has more room was appended to it
+pub appended_from : (old between new : Head) (item : Item) → Stays old between → IsAppended between item new → IsAppended old item new
+appended_from old between new item s a = record {
+  window = a.window ∙ ap (λ v. pushed (state_with item.batch v.newest) v) s.window;
+  kept = a.kept ∙ ap (λ l. l ++ item ∷ []) s.kept;
+}
 
 -- the journal after an item more
 pub went_on : (old new : Head) (item : Item) → IsWhole old → Joins item (newest_of old) → IsAppended old item new → GoesOn old new

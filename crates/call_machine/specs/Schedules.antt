@@ -1,16 +1,13 @@
 -- What is promised of a schedule, in the words of whoever handed it in: of the events, of what each was answered, and of the order that is answered in the end. Nothing here knows how a machine works: a reader who believes the plain book, and what a batch reads and writes, can believe this.
-use Rattle.std.specs.Prelude.{◌≡◌, ◌↔◌, ℕ, ◌+◌, ◌<◌, ◌≤◌, true, ⊤, ◌⊎◌, List, [], ◌∷◌, ◌++◌, length, take, slice_get, Some, Result, Ok, Err}
+use Rattle.std.specs.Prelude.{◌≡◌, ◌↔◌, ℕ, ◌+◌, ◌<◌, true, ⊤, ◌⊎◌, List, [], ◌∷◌, ◌++◌, length, take, slice_get, Some, Result, Ok, Err}
 use Rattle.std.specs.List.{AllByRecursion}
 use Rattle.entry_book.specs.declared.reply.Reply.{Reply}
 use Rattle.entry_book.specs.Order.{Within}
 use Rattle.entry_book.specs.Book.{Book}
-use Rattle.entry_book.specs.Writes.{RowWrite}
 use Rattle.entry_book.specs.Batches.{Batch}
-use Rattle.entry_book.specs.History.{first_books, last_book, books_of, books_after, reply_to, is_committed}
-use Rattle.version_book.specs.declared.mark.MarkKind.{MarkKind}
-use Rattle.version_book.specs.Marks.{hits}
-use Rattle.version_book.specs.History.{writes_of}
+use Rattle.entry_book.specs.History.{first_books, books_of, books_after, reply_to, is_committed}
 use Rattle.batch_work.specs.Reads.{footprint_of}
+use Rattle.commit_head.specs.Outcomes.{IsHitSince}
 use Rattle.batch_work.specs.declared.status.Status.{Status}
 use Rattle.call_events.specs.declared.event.Event.{Event}
 use Rattle.call_events.specs.declared.event.Event.TheVariants.{Invoke, Begin, Commit}
@@ -144,18 +141,9 @@ BatchesOf log [] (batch ∷ batches) = ⊥
 BatchesOf log (c ∷ cs) [] = ⊥
 BatchesOf log (c ∷ cs) (batch ∷ batches) = HandedIn log c batch × BatchesOf log cs batches
 
--- These committed batches have one, `other`, that was committed as book `length before + 1`, which is after book `base`. One of its writes, on the book that it found, hits a mark of the footprint that `batch` has on book `base`.
-pub record IsDue (journal : List Batch) (batch : Batch) (base : ℕ) : Type 0 where
-  pub before : List Batch
-  pub other : Batch
-  pub later : List Batch
-  pub split : journal ≡ before ++ other ∷ later
-  pub since : base ≤ length before
-  pub mark : MarkKind
-  pub read : Within (footprint_of batch (books_of (take base journal))) mark
-  pub write : RowWrite
-  pub is_made : Within (writes_of other (length before + 1) (last_book (books_of before))) write
-  pub hit : hits write mark ≡ true
+-- These committed batches have one that was committed after book `base`, with a write that hits a mark of the footprint that `batch` has on book `base`.
+abbrev pub IsDue : List Batch → Batch → ℕ → Type 0
+IsDue journal batch base = IsHitSince journal base (footprint_of batch (books_of (take base journal)))
 
 -- After these accepted events the call's commit may be answered a conflict at this place. The journal has the batches of the calls committed so far.
 pub record IsDueConflict (log : List Happened) (c place : ℕ) : Type 0 where

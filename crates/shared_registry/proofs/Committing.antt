@@ -1,36 +1,27 @@
 -- What a commit under the lock is to the journal and to its seat.
-use Rattle.std.proofs.Common.{◌≡◌, ◌⊎◌, ℕ, ◌<◌, ◌≤◌, ◌^◌, Bool, true, false, cond, List, [], ◌∷◌, ◌++◌, length, length-append, Some, None, refl, sym, ap, subst, ◌∙◌, ⊎_elim, arith}
-use Rattle.std.specs.Prelude.{nat_lt}
+use Rattle.std.proofs.Common.{◌≡◌, ◌⊎◌, ℕ, ◌<◌, ◌≤◌, ◌^◌, List, [], ◌∷◌, ◌++◌, length, length-append, refl, sym, ap, subst, ◌∙◌, ⊎_elim, arith}
 use mathlib.Core.List.{IsPrefix}
-use Rattle.entry_book.specs.declared.limit.Limit.{Limit}
-use Rattle.entry_book.specs.declared.reply.Outcome.TheVariants.{Refused}
-use Rattle.entry_book.specs.declared.reply.Refusal.TheVariants.{Full}
 use Rattle.entry_book.specs.Rows.{Bytes}
-use Rattle.entry_book.specs.Batches.{Batch, past_place}
-use Rattle.entry_book.specs.History.{book_for, books_of, last_book, place_of, refuses, reply_to, reply_with, verdict}
-use Rattle.version_book.specs.CommittedRows.{book_of}
 use Rattle.version_book.specs.History.{state_with}
-use Rattle.batch_work.specs.declared.status.Status.TheVariants.{Ready, Running}
-use Rattle.batch_work.specs.Reads.{awaits_commit}
+use Rattle.batch_work.specs.declared.status.Status.TheVariants.{Ready}
 use Rattle.batch_work.specs.Windows.{Window, pushed}
-use Rattle.batch_work.specs.Working.{Work, awaits_there, base_in, end_status, footprint_there, status_from, status_of}
-use Rattle.batch_work.proofs.Batches.{awaits_said}
-use Rattle.batch_work.proofs.Windows.{window_stands}
+use Rattle.batch_work.specs.Working.{Work, base_in, status_of}
 use Rattle.commit_head.specs.declared.commit.Commit.{Commit}
-use Rattle.commit_head.specs.declared.commit.Commit.TheVariants.{Committed, Conflict, Full as DidPass, NoMemory}
+use Rattle.commit_head.specs.declared.commit.Commit.TheVariants.{Committed, Conflict, Full, NoMemory}
 use Rattle.commit_head.specs.declared.item.Item.{Item}
 use Rattle.commit_head.specs.Heads.{Goes, Head, IsAppended, IsJournal, IsRefused, Prepared, Stays, last_items, newest_of, place_of as place_at}
-use Rattle.commit_head.specs.Journals.{IsLawfulJournal, Joins, Leads, batches_of, first_state}
+use Rattle.commit_head.specs.Journals.{IsLawfulJournal, Joins, Leads, first_state}
 use Rattle.commit_head.proofs.Begun.{journal_kept, journal_stays}
-use Rattle.commit_head.proofs.Journals.{journal_goes_on, journal_is_lawful, journal_last, leads_count, leads_more, leads_to_one, low}
+use Rattle.commit_head.proofs.Journals.{journal_goes_on, journal_is_lawful, leads_count, leads_more, leads_to_one, low}
+use Rattle.commit_head.proofs.OnBooks.{commit_on_books}
 use Rattle.shared_registry.specs.Desk.{IsTied}
-use Rattle.shared_registry.specs.Outcomes.{HasLooked, IsCommitThere, IsOvertaken}
+use Rattle.shared_registry.specs.Outcomes.{HasLooked, IsCommitThere}
 use Rattle.shared_registry.specs.Seated.{Seated}
 use Rattle.shared_registry.specs.Seats.{AllBelow, IsCounted, calls_of}
 use Rattle.shared_registry.specs.Shown.{Shows, whole_head}
 use Rattle.shared_registry.specs.Works.{IsRead}
 use Rattle.shared_registry.proofs.Once.{once_more, others}
-use Rattle.shared_registry.proofs.Overtaken.{overtaken_there}
+use Rattle.shared_registry.proofs.Overtaken.{overtaken_there, ready_on}
 
 -- ---- a checkpoint
 
@@ -89,35 +80,16 @@ shows_more domain log p window next counts j g e l c = record {
 
 -- ---- why a work isn't committed
 
-ready_awaits : (running awaits : Bool) → cond running Running (end_status awaits) ≡ Ready → awaits ≡ true
-ready_awaits true awaits e = cc
-ready_awaits false true e = refl
-ready_awaits false false e = cc
-
-pub awaits : (domain : Bytes) (seen : List Item) (batch : Batch) (w : Work) → IsRead domain seen batch w → status_of w ≡ Ready → awaits_commit batch (books_of (batches_of seen)) ≡ true
-awaits domain seen batch w r e =
-    let base = base_in batch r.page.window in
-    let here : status_of w ≡ status_from (Some base) batch w.steps = ap (λ o. status_from o w.batch w.steps) r.at_end.begun.base_is ∙ ap (λ b. status_from (Some base) b w.steps) r.at_end.begun.batch_is in
-    let there : awaits_there batch base ≡ true = ready_awaits (nat_lt w.steps (length (footprint_there batch base))) (awaits_there batch base) (sym here ∙ e) in
-    sym (window_stands batch r.page.window (books_of (batches_of seen)) r.stands.shown).wait ∙ there
-
-full_there : (domain : Bytes) (seen log : List Item) (batch : Batch) (w : Work) (h : Head) (limit : Limit) (n : ℕ) → IsRead domain seen batch w → status_of w ≡ Ready → IsTied domain log h → n ≡ place_at h → verdict batch (place_at h) (Some (book_of (newest_of h).rows)) ≡ refuses (Full limit) → reply_to batch (books_of (batches_of log)) ≡ record { place = n; outcome = Refused (Full limit) }
-full_there domain seen log batch w h limit n r ready t e v =
-    let last = journal_last log h t.journal_is in
-    let books = books_of (batches_of log) in
-    let newest : past_place batch.ops ≡ None = ((awaits_said domain batch (books_of (batches_of seen)) r.made).0 (awaits domain seen batch w r ready)).newest in
-    let place : place_of books ≡ place_at h = last.place in
-    let here : reply_to batch books ≡ reply_with (place_at h) (verdict batch (place_at h) (Some (last_book books))) = λ i. reply_with (place i) (verdict batch (place i) (book_for (newest i) books)) in
-    here ∙ (ap (λ b. reply_with (place_at h) (verdict batch (place_at h) (Some b))) last.book ∙ (ap (reply_with (place_at h)) v ∙ ap (λ m. record { place = m; outcome = Refused (Full limit) }) (sym e)))
+stays_itself : (h : Head) → Stays h h
+stays_itself h = record { window = refl; kept = refl; room = omega arith }
 
 -- a work that isn't committed, by a seat that has then seen the whole journal
 pub refused_there : (domain : Bytes) (log : List Item) (s t : Seated) (w : Work) (h : Head) (commit : Commit) → IsRead domain s.seen w.batch w → status_of w ≡ Ready → IsPrefix s.seen log → IsTied domain log h → HasLooked log log s t → IsRefused h w commit → IsCommitThere log log s t w commit
 refused_there domain log s t w h (Committed n) r ready p tied looked f = absurd f
 refused_there domain log s t w h (Conflict n) r ready p tied looked f =
-    let place = f.0 ∙ place_is domain log h tied in (
-      looked,
-      place,
-      subst (IsOvertaken (batches_of log) w.batch (length s.seen)) (sym place) (overtaken_there domain s.seen log w.batch w h r p tied f.1),
-    )
-refused_there domain log s t w h (DidPass limit n) r ready p tied looked f = (looked, f.0 ∙ place_is domain log h tied, full_there domain s.seen log w.batch w h limit n r ready tied f.0 f.1)
+    let on = commit_on_books log h 0 0 w (base_in w.batch r.page.window) (Conflict n) h tied.journal_is (ready_on domain s.seen log w h r ready p tied) (stays_itself h, f) in
+    (looked, on.0, overtaken_there domain s.seen log w n r p on.0 on.1)
+refused_there domain log s t w h (Full limit n) r ready p tied looked f =
+    let on = commit_on_books log h 0 0 w (base_in w.batch r.page.window) (Full limit n) h tied.journal_is (ready_on domain s.seen log w h r ready p tied) (stays_itself h, f) in
+    (looked, on.0, on.1)
 refused_there domain log s t w h NoMemory r ready p tied looked f = looked

@@ -32,7 +32,7 @@ use Rattle.commit_head.specs.Journals.{IsLawfulJournal, batches_of, committed_af
 use Rattle.shared_registry.specs.Outcomes.{IsRefusedThere, WasCommitted}
 use Rattle.shared_registry.specs.Seated.{Seated}
 use Rattle.shared_registry.specs.Works.{IsRead}
-use Rattle.shared_registry.proofs.Overtaken.{count_of_batches, led_to}
+use Rattle.commit_head.proofs.OnBooks.{count_of_batches, led_to}
 
 -- ---- a work that awaits no commit is settled
 

@@ -1,41 +1,59 @@
 -- What the tries of a batch of changes come to.
-use Rattle.std.proofs.Common.{◌≡◌, ℕ, ◌+◌, ◌≤◌, List, [], ◌∷◌, ◌++◌, length, length-append, take, refl, sym, ap, subst, ◌∙◌, arith}
+use Rattle.std.proofs.Common.{◌≡◌, ℕ, zero, suc, ◌+◌, ◌≤◌, List, [], ◌∷◌, ◌++◌, length, length-append, take, refl, sym, ap, subst, ◌∙◌, arith}
 use Rattle.std.proofs.lemmas.List.{append_assoc, take-append-le}
 use mathlib.Core.List.{IsPrefix}
 use Rattle.commit_head.specs.declared.item.Item.{Item}
-use Rattle.entry_book.specs.Order.{Within}
 use Rattle.entry_book.specs.Batches.{Batch}
 use Rattle.entry_book.specs.History.{books_of}
 use Rattle.batch_work.specs.Reads.{footprint_of}
 use Rattle.commit_head.specs.Journals.{batches_of}
+use Rattle.commit_head.specs.Outcomes.{IsHitSince}
+use Rattle.version_book.specs.declared.mark.MarkKind.{MarkKind}
 use Rattle.shared_registry.specs.declared.outcome.Outcome.{Outcome}
 use Rattle.shared_registry.specs.declared.outcome.Outcome.TheVariants.{Committed, Repeated, Refused, Conflict, NoMemory, NoEntry}
 use Rattle.shared_registry.specs.Outcomes.{AreOvertaken, HasHeard, IsOver, IsOvertaken, IsOvertakenOnce, IsSubmitted, WasOvertaken}
 use Rattle.shared_registry.specs.Seated.{Goes, Seated}
-use Rattle.shared_registry.proofs.Overtaken.{batches_more}
+use Rattle.commit_head.proofs.OnBooks.{batches_join}
 use Rattle.shared_registry.proofs.Prefixes.{prefix_length, prefix_trans}
 
 -- ---- a journal goes on
+
+-- a beginning of it is one of the longer journal's
+front_on : (place end : ℕ) (journal more : List Batch) → place ≤ end → (rest : List Batch) × (take end (journal ++ more) ≡ take place journal ++ rest)
+front_on zero end journal more le = (take end (journal ++ more), refl)
+front_on (suc place) zero journal more le = absurd (omega arith)
+front_on (suc place) (suc end) [] more le = (take (suc end) more, refl)
+front_on (suc place) (suc end) (b ∷ journal) more le = let r = front_on place end journal more (omega arith) in (r.0, ap (λ l. b ∷ l) r.1)
+
+hit_on : (journal more : List Batch) (base : ℕ) (marks : List MarkKind) → IsHitSince journal base marks → IsHitSince (journal ++ more) base marks
+hit_on journal more base marks o = record {
+  before = o.before;
+  other = o.other;
+  later = o.later ++ more;
+  split = ap (λ l. l ++ more) o.split ∙ append_assoc o.before (o.other ∷ o.later) more;
+  since = o.since;
+  mark = o.mark;
+  read = o.read;
+  write = o.write;
+  is_made = o.is_made;
+  hit = o.hit;
+}
 
 overtaken_on : (journal more : List Batch) (batch : Batch) (base place end : ℕ) → place ≤ end → IsOvertaken journal batch base place → IsOvertaken (journal ++ more) batch base end
 overtaken_on journal more batch base place end le o =
     let l = ap length o.split in
     let n = length-append o.before (o.other ∷ o.later) in
+    let short = take_short place journal in
     let within : base ≤ length journal = let s = o.since in omega arith in
     let first : take base (journal ++ more) ≡ take base journal = take-append-le base journal more within in
-    record {
-      before = o.before;
-      other = o.other;
-      later = o.later ++ more;
-      split = ap (λ l. l ++ more) o.split ∙ append_assoc o.before (o.other ∷ o.later) more;
-      since = o.since;
-      until = let u = o.until in omega arith;
-      mark = o.mark;
-      read = subst (λ l. Within (footprint_of batch (books_of l)) o.mark) (sym first) o.read;
-      write = o.write;
-      is_made = o.is_made;
-      hit = o.hit;
-    }
+    let front = front_on place end journal more le in
+    subst (λ marks. IsHitSince (take end (journal ++ more)) base (footprint_of batch (books_of marks))) (sym first)
+    (subst (λ l. IsHitSince l base (footprint_of batch (books_of (take base journal)))) (sym front.1) (hit_on (take place journal) front.0 base (footprint_of batch (books_of (take base journal))) o))
+  where
+    take_short : (n : ℕ) (xs : List Batch) → length (take n xs) ≤ length xs
+    take_short zero xs = omega arith
+    take_short (suc n) [] = omega arith
+    take_short (suc n) (x ∷ xs) = let k = take_short n xs in omega arith
 
 are_on : (journal more : List Batch) (batch : Batch) (least place end : ℕ) (bases : List ℕ) → place ≤ end → AreOvertaken journal batch least place bases → AreOvertaken (journal ++ more) batch least end bases
 are_on journal more batch least place end [] le o = tt
@@ -62,7 +80,7 @@ none_yet s batch place = record { bases = []; count = refl; since_seen = tt; sin
 
 pub once_again : (s u t : Seated) (batch : Batch) (tries place n : ℕ) → WasOvertaken s u batch tries place → place ≡ length u.seen → IsPrefix s.seen u.seen → u.told ≡ s.told → IsPrefix u.seen t.seen → IsOvertakenOnce u t batch n → WasOvertaken s t batch (tries + 1) n
 once_again s u t batch tries place n o e p told q once =
-    let journal : batches_of t.seen ≡ batches_of u.seen ++ batches_of q.0 = ap batches_of (sym q.1) ∙ batches_more u.seen q.0 in
+    let journal : batches_of t.seen ≡ batches_of u.seen ++ batches_of q.0 = ap batches_of (sym q.1) ∙ batches_join u.seen q.0 in
     let long = prefix_length s.seen u.seen p in
     let le : place ≤ once.base = let b = once.since_seen in omega arith in
     let same = ap length told in

@@ -1,24 +1,20 @@
 -- What a batch of changes is answered, in the words of its seat's lists and of the plain book.
-use Rattle.std.specs.Prelude.{◌≡◌, ⊤, ℕ, ◌+◌, ◌<◌, ◌≤◌, true, List, [], ◌∷◌, ◌++◌, length, take, IsSome, Result, Ok, Err}
+use Rattle.std.specs.Prelude.{◌≡◌, ⊤, ℕ, ◌+◌, ◌≤◌, List, [], ◌∷◌, ◌++◌, length, take, IsSome, Result, Ok, Err}
 use mathlib.Core.List.{IsPrefix}
 use Rattle.entry_book.specs.declared.reply.Outcome.TheVariants as became
 use Rattle.entry_book.specs.declared.reply.Refusal.{Refusal}
 use Rattle.entry_book.specs.declared.reply.Refusal.TheVariants.{Full}
 use Rattle.entry_book.specs.declared.reply.Reply.{Reply}
 use Rattle.entry_book.specs.Batches.{Batch}
-use Rattle.entry_book.specs.History.{books_of, last_book, reply_to}
-use Rattle.entry_book.specs.Order.{Within}
+use Rattle.entry_book.specs.History.{books_of, reply_to}
 use Rattle.entry_book.specs.Rows.{Bytes}
-use Rattle.entry_book.specs.Writes.{RowWrite}
-use Rattle.version_book.specs.declared.mark.MarkKind.{MarkKind}
-use Rattle.version_book.specs.History.{writes_of}
-use Rattle.version_book.specs.Marks.{hits}
 use Rattle.batch_work.specs.Reads.{footprint_of}
 use Rattle.batch_work.specs.Working.{Work, HasReplies}
 use Rattle.commit_head.specs.declared.commit.Commit.{Commit}
 use Rattle.commit_head.specs.declared.commit.Commit.TheVariants as is
 use Rattle.commit_head.specs.declared.item.Item.{Item}
 use Rattle.commit_head.specs.Journals.{batches_of}
+use Rattle.commit_head.specs.Outcomes.{IsHitSince}
 use Rattle.shared_registry.specs.declared.outcome.Outcome.{Outcome}
 use Rattle.shared_registry.specs.declared.outcome.Outcome.TheVariants.{Committed, Repeated, Refused, Conflict, NoMemory, NoEntry}
 use Rattle.shared_registry.specs.declared.seat.NoEntry.{NoEntry as WasNotLetIn}
@@ -26,19 +22,9 @@ use Rattle.shared_registry.specs.Seated.{Along, MaySee, Seated}
 
 -- ---- tries that were overtaken
 
--- Of these committed batches `other` is the one after those `before` it, and stands behind the first `base` ones and among the first `place`. One of its writes, on the book that it found, hits a mark of the footprint that `batch` has on book `base`.
-pub record IsOvertaken (journal : List Batch) (batch : Batch) (base place : ℕ) : Type 0 where
-  pub before : List Batch
-  pub other : Batch
-  pub later : List Batch
-  pub split : journal ≡ before ++ other ∷ later
-  pub since : base ≤ length before
-  pub until : length before < place
-  pub mark : MarkKind
-  pub read : Within (footprint_of batch (books_of (take base journal))) mark
-  pub write : RowWrite
-  pub is_made : Within (writes_of other (length before + 1) (last_book (books_of before))) write
-  pub hit : hits write mark ≡ true
+-- Of these committed batches, one among the first `place` was committed after book `base`, with a write that hits a mark of the footprint that `batch` has on book `base`.
+abbrev pub IsOvertaken : List Batch → Batch → ℕ → ℕ → Type 0
+IsOvertaken journal batch base place = IsHitSince (take place journal) base (footprint_of batch (books_of (take base journal)))
 
 -- The tries began at these places, the last one first, none before the least one; each was overtaken no later than the next one began, and the last one no later than this place.
 abbrev pub AreOvertaken : List Batch → Batch → ℕ → ℕ → List ℕ → Type 0
