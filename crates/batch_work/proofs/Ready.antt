@@ -1,5 +1,5 @@
 -- What a work that is at its end has read.
-use Rattle.std.proofs.Common.{◌≡◌, ℕ, ◌+◌, ◌≤◌, Bool, true, false, cond, length, Option, Some, None, Ok, IfOk, refl, sym, ap, subst, ◌∙◌}
+use Rattle.std.proofs.Common.{◌≡◌, ℕ, ◌+◌, ◌≤◌, Bool, true, false, cond, List, length, Option, Some, None, Ok, IfOk, refl, sym, ap, subst, ◌∙◌}
 use Rattle.std.specs.Prelude.{nat_lt, option_map}
 use Rattle.std.specs.Option.{option_map_or}
 use Rattle.std.proofs.lemmas.Bool.{ltb-false}
@@ -8,14 +8,15 @@ use Rattle.entry_book.specs.Batches.{Batch, past_place}
 use Rattle.entry_book.specs.History.{adds_within, batch_writes, kept_under}
 use Rattle.entry_book.specs.Limits.{limit_passed}
 use Rattle.entry_book.specs.Runs.{RunEffect, RunResult, run}
-use Rattle.entry_book.specs.Writes.{after}
+use Rattle.entry_book.specs.declared.reply.OpReply.{OpReply}
+use Rattle.entry_book.specs.Writes.{RowWrite, after}
 use Rattle.entry_book.proofs.PastPages.{changes_newest}
 use Rattle.version_book.specs.Written.{placed}
 use Rattle.version_book.proofs.Places.{places_put}
 use Rattle.batch_work.specs.declared.status.Status.TheVariants.{Ready, Running}
 use Rattle.batch_work.specs.Reads.{early, gone, case_on, footprint_in, awaits_in}
 use Rattle.batch_work.specs.Windows.{book_in}
-use Rattle.batch_work.specs.Working.{Base, IsAccepted, IsAcceptedOn, version_read, book_read, case_there, end_status, footprint_there, awaits_there, marks_from, status_from, status_on}
+use Rattle.batch_work.specs.Working.{Base, HasReplies, Work, IsAccepted, IsAcceptedOn, version_read, book_read, case_there, end_status, footprint_there, awaits_there, marks_from, status_from, status_on}
 use Rattle.batch_work.specs.Laws.{EndHasRead, ReadyHasRead, ReadyTurns}
 use Rattle.batch_work.proofs.Batches.{late, verdict_there}
 use Rattle.batch_work.proofs.Cases.{of_runs, unkept, waits}
@@ -56,6 +57,18 @@ ready_has_read own w made e =
       in_time = late base.newest.number w.batch.after runs_on.0;
       awaits = ap (awaits_in w.batch) (sym meets) ∙ r.1;
     }
+
+-- ---- a work has one list of replies
+
+one_effect : (r : RunResult) (t u : RunEffect) → r ≡ Ok t → r ≡ Ok u → t ≡ u
+one_effect r t u e f = cc
+
+one_list : (base : Option Base) (batch : Batch) (xs ys : List OpReply) (writes others : List RowWrite) → IsAcceptedOn base batch xs writes → IsAcceptedOn base batch ys others → xs ≡ ys
+one_list None batch xs ys writes others a b = absurd a
+one_list (Some base) batch xs ys writes others a b = a.replies_are ∙ (ap (λ (t : RunEffect). t.replies) (one_effect _ a.effect b.effect a.ran b.ran) ∙ sym b.replies_are)
+
+pub same_replies : (w : Work) (xs ys : List OpReply) → HasReplies w xs → HasReplies w ys → xs ≡ ys
+same_replies w xs ys a b = one_list w.base w.batch xs ys a.0 b.0 a.1 b.1
 
 -- ---- the plain book's next book
 
