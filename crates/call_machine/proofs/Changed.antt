@@ -2,7 +2,7 @@
 use Rattle.std.proofs.Common.{◌≡◌, ℕ, ◌+◌, ◌≤◌, ◌<◌, length, length-append, arith, Bool, false, List, [], ◌∷◌, ◌++◌, Option, Some, None, refl, sym, ap, subst, ◌∙◌, inl, inr, ⊎_elim}
 use Rattle.std.specs.Prelude.{nat_eq, option_map, is_some, if◌then◌else◌}
 use Rattle.std.specs.Map.{lookup, set_value}
-use Rattle.entry_book.specs.Batches.{Batch, IsMadeFor}
+use Rattle.entry_book.specs.Batches.{IsMadeFor}
 use Rattle.commit_head.specs.Heads.{Head, Stays}
 use Rattle.commit_head.specs.Journals.{batches_of}
 use Rattle.call_answers.specs.declared.answer.Decision.{Decision}
@@ -12,10 +12,10 @@ use Rattle.call_events.specs.declared.event.EventRefusal.TheVariants.{NotNow, Un
 use Rattle.call_machine.specs.declared.slot.Slot.{Slot}
 use Rattle.call_machine.specs.Calls.{Call, Stage, State, call_at, with_call}
 use Rattle.call_machine.specs.Machine.{Commits, refusal_at}
-use Rattle.call_machine.specs.Kept.{AllRest, GoesOn, Holds, IsRefusalOr, SlotDecides, SlotRefuses, SlotRests, all_events, call_kept, calls_kept, domain_of, new_work, slot_events, stage_of_slot, state_of}
+use Rattle.call_machine.specs.Kept.{AllRest, GoesOn, Holds, IsOver, IsRefusalOr, SlotDecides, SlotRefuses, SlotRests, all_events, call_kept, calls_kept, domain_of, slot_events, stage_of_slot, state_of}
 use Rattle.call_machine.proofs.Counts.{counted_set, events_more, few_set}
 use Rattle.call_machine.proofs.Heads.{stayed}
-use Rattle.call_machine.proofs.Slots.{all_rest_more, lookup_call, rest_set, set_call, set_same, slot_rests_new}
+use Rattle.call_machine.proofs.Slots.{all_rest_more, ended_rests, lookup_call, rest_set, set_call, set_same}
 
 -- ---- a call is found, or isn't
 
@@ -65,21 +65,20 @@ pub calls_set : (n : ℕ) (es entries : List (ℕ × Slot)) (later : Slot) → e
 calls_set n es entries later changed = ap calls_kept changed ∙ set_call n later es
 
 -- and the journal goes on
-pub holds_on : (old new : Head) (count n : ℕ) (es entries : List (ℕ × Slot)) (slot later : Slot) (batch : Batch) → Holds old count es → GoesOn old new → lookup (nat_eq n) es ≡ Some slot → entries ≡ set_value (nat_eq n) es later → IsMadeFor (domain_of old) batch → later.work ≡ new_work batch → slot_events slot + 1 ≤ slot_events later → Holds new (count + 1) entries
-holds_on old new count n es entries slot later batch holds on found changed made fresh more =
+pub holds_on : (old new : Head) (count n : ℕ) (es entries : List (ℕ × Slot)) (slot later : Slot) → Holds old count es → GoesOn old new → lookup (nat_eq n) es ≡ Some slot → entries ≡ set_value (nat_eq n) es later → IsMadeFor (domain_of old) later.batch → IsOver later.state → slot_events slot + 1 ≤ slot_events later → Holds new (count + 1) entries
+holds_on old new count n es entries slot later holds on found changed made over more =
     let all : AllRest (domain_of new) new.kept es = subst (λ own. AllRest own new.kept es) (sym on.domain) (subst (λ l. AllRest (domain_of old) l es) (sym on.kept) (all_rest_more (domain_of old) old.kept on.more es holds.rest)) in
     record {
       whole = on.whole;
-      rest = subst (AllRest (domain_of new) new.kept) (sym changed) (rest_set (domain_of new) new.kept n later es all (slot_rests_new (domain_of new) new.kept later batch (subst (λ own. IsMadeFor own batch) (sym on.domain) made) fresh));
+      rest = subst (AllRest (domain_of new) new.kept) (sym changed) (rest_set (domain_of new) new.kept n later es all (ended_rests (domain_of new) new.kept later (subst (λ own. IsMadeFor own later.batch) (sym on.domain) made) over));
       few = subst (λ l. length l ≤ 4096) (sym changed) (few_set n later es holds.few);
       counted = subst (λ l. count + 1 ≤ all_events l) (sym changed) (counted_set count n es slot later found more holds.counted);
     }
 
 pub commits_kept : (old new : Head) (count n : ℕ) (es entries : List (ℕ × Slot)) (slot later : Slot) (decision : Decision) (place : ℕ) → lookup (nat_eq n) es ≡ Some slot → SlotDecides old slot (count + 1) decision place later new → entries ≡ set_value (nat_eq n) es later → Commits (state_of old count es) n (Decided n decision place) (state_of new (count + 1) entries)
 commits_kept old new count n es entries slot later decision place found d changed =
-    let batch : later.work.batch ≡ slot.work.batch = ap (λ w. w.batch) d.let_go in
     let moved : (g : Stage) → stage_of_slot later ≡ g → calls_kept entries ≡ with_call (record (call_kept n slot) { stage = g; turn = count + 1 }) (calls_kept es) = λ g q.
-    calls_set n es entries later changed ∙ (λ i. with_call (record { number = n; batch = batch i; stage = q i; invoked = d.invoked i; turn = d.turn_is i; replied = d.replied i }) (calls_kept es)) in
+    calls_set n es entries later changed ∙ (λ i. with_call (record { number = n; batch = d.batch i; stage = q i; invoked = d.invoked i; turn = d.turn_is i; replied = d.replied i }) (calls_kept es)) in
     record {
       call = call_kept n slot;
       found = lookup_call n es ∙ ap (option_map (call_kept n)) found;

@@ -12,18 +12,19 @@ use Rattle.version_book.specs.declared.mark.MarkKind.{MarkKind}
 use Rattle.version_book.specs.CommittedRows.{State as Version}
 use Rattle.batch_work.specs.declared.status.Status.{Status}
 use Rattle.batch_work.specs.Reads.{awaits_commit, footprint_of}
-use Rattle.batch_work.specs.Working.{Base, Work, awaits_there, footprint_there, reply_there}
+use Rattle.batch_work.specs.Working.{Base, awaits_there, footprint_there, reply_there}
 use Rattle.commit_head.specs.declared.item.Item.{Item}
 use Rattle.commit_head.specs.Heads.{Head, newest_of}
 use Rattle.commit_head.specs.Journals.{Leads, batches_of, first_state as first_version}
 use Rattle.commit_head.proofs.FewReads.{journal_reads_few}
 use Rattle.commit_head.proofs.Journals.{leads_in_parts}
 use Rattle.call_answers.specs.declared.answer.Decision.{Decision}
-use Rattle.call_answers.specs.declared.answer.CallAnswer.{CallAnswer}
 use Rattle.call_answers.specs.declared.answer.CallAnswer.TheVariants.{Replied, Conflict}
 use Rattle.call_machine.specs.declared.slot.Slot.{Slot}
+use Rattle.call_machine.specs.declared.slot.SlotState.{SlotState}
+use Rattle.call_machine.specs.declared.slot.SlotState.TheVariants.{Open, Over}
 use Rattle.call_machine.specs.Calls.{Stage, running, stage_on, stage_settled}
-use Rattle.call_machine.specs.Kept.{AllRest, BeganWithin, Holds, IsWhole, RestsOn, SlotBegins, SlotDecides, SlotSteps, all_events, domain_of, journal_of, reply_events, slot_events, stage_events, stage_from, stage_kept, stage_of_slot, stage_replied}
+use Rattle.call_machine.specs.Kept.{AllRest, BeganWithin, Holds, IsWhole, SlotBegins, SlotDecides, SlotRests, SlotSteps, StateRests, all_events, domain_of, journal_of, reply_events, slot_events, stage_events, stage_from, stage_kept, stage_of_slot, stage_replied}
 use Rattle.call_machine.proofs.Heads.{first_batches}
 use Rattle.call_machine.proofs.Lists.{get_within}
 
@@ -47,13 +48,13 @@ module _ (own : Bytes) (items : List Item) (s : Version) (leads : Leads (first_v
         | false ↦ λ t. elim (awaits_there batch base) as (λ b. stage_events (stage_settled b base.newest.number (reply_there batch base)) ≤ 3 + 2 ^ 21) [ true ↦ omega arith | false ↦ omega arith ]
       ] refl
 
-  few_kept : (e : Option CallAnswer) (w : Work) → RestsOn own items w → stage_events (stage_kept e w) ≤ 3 + 2 ^ 21
-  few_kept None w r = few_from w.batch w.base w.steps r.made r.began
-  few_kept (Some (Replied q)) w r = elim (is_committed q.outcome) as (λ b. stage_events (stage_replied b q) ≤ 3 + 2 ^ 21) [ true ↦ omega arith | false ↦ omega arith ]
-  few_kept (Some (Conflict n)) w r = omega arith
+  few_kept : (batch : Batch) (s : SlotState) → StateRests own items batch s → stage_events (stage_kept s) ≤ 3 + 2 ^ 21
+  few_kept batch (Open w) r = few_from w.batch w.base w.steps r.0.made r.0.began
+  few_kept batch (Over (Replied q)) r = elim (is_committed q.outcome) as (λ b. stage_events (stage_replied b q) ≤ 3 + 2 ^ 21) [ true ↦ omega arith | false ↦ omega arith ]
+  few_kept batch (Over (Conflict n)) r = omega arith
 
-  few_slot : (slot : Slot) → RestsOn own items slot.work → slot_events slot ≤ 2 ^ 22
-  few_slot slot r = let k = few_kept slot.answer slot.work r in let q = one_reply slot.replied in omega arith
+  few_slot : (slot : Slot) → SlotRests own items slot → slot_events slot ≤ 2 ^ 22
+  few_slot slot r = let k = few_kept slot.batch slot.state r.state in let q = one_reply slot.replied in omega arith
     where
       one_reply : (o : Option ℕ) → reply_events o ≤ 1
       one_reply None = omega arith
@@ -61,7 +62,7 @@ module _ (own : Bytes) (items : List Item) (s : Version) (leads : Leads (first_v
 
   few_all : (es : List (ℕ × Slot)) → AllRest own items es → all_events es ≤ 2 ^ 22 * length es
   few_all [] a = omega arith
-  few_all (e ∷ es) a = let k = few_slot e.1 a.0.work in let q = few_all es a.1 in omega arith
+  few_all (e ∷ es) a = let k = few_slot e.1 a.0 in let q = few_all es a.1 in omega arith
 
 -- one event more can be counted
 pub has_room : (h : Head) (count : ℕ) (es : List (ℕ × Slot)) → Holds h count es → count + 1 < 2 ^ 64
@@ -115,13 +116,13 @@ more_by old later f g e d r more =
     omega arith
 
 pub more_begun : (h : Head) (old later : Slot) (turn : ℕ) (status : Status) → SlotBegins h old turn status later → slot_events old + 1 ≤ slot_events later
-more_begun h old later turn status b = more_by old later _ _ b.in_turn b.stage b.replied (events_on old.work.batch (books_of (take (length (journal_of h)) (journal_of h))) (length (journal_of h)) 0 (omega arith))
+more_begun h old later turn status b = more_by old later _ _ b.in_turn b.stage b.replied (events_on old.batch (books_of (take (length (journal_of h)) (journal_of h))) (length (journal_of h)) 0 (omega arith))
 
-pub more_stepped : (h : Head) (old later : Slot) (mark : MarkKind) (status : Status) → IsWhole h → IsMadeFor (domain_of h) old.work.batch → SlotSteps (domain_of h) h.kept old mark status later → slot_events old + 1 ≤ slot_events later
+pub more_stepped : (h : Head) (old later : Slot) (mark : MarkKind) (status : Status) → IsWhole h → IsMadeFor (domain_of h) old.batch → SlotSteps (domain_of h) h.kept old mark status later → slot_events old + 1 ≤ slot_events later
 more_stepped h old later mark status whole made b =
-    let few = few_at (domain_of h) h.kept (newest_of h) whole.leads b.base old.work.batch made in
+    let few = few_at (domain_of h) h.kept (newest_of h) whole.leads b.base old.batch made in
     let less = get_within _ b.made mark b.mark_is in
-    more_by old later _ _ b.in_turn b.stage b.replied (let k = events_on old.work.batch (books_of (take b.base (batches_of h.kept))) b.base (b.made + 1) (omega arith) in omega arith)
+    more_by old later _ _ b.in_turn b.stage b.replied (let k = events_on old.batch (books_of (take b.base (batches_of h.kept))) b.base (b.made + 1) (omega arith) in omega arith)
 
 pub more_decided : (old_head head : Head) (old later : Slot) (turn place : ℕ) (decision : Decision) → SlotDecides old_head old turn decision place later head → slot_events old + 1 ≤ slot_events later
 more_decided old_head head old later turn place decision b =

@@ -26,6 +26,8 @@ use Rattle.call_events.specs.declared.event.Event.{Event}
 use Rattle.call_events.specs.declared.event.EventRefusal.{EventRefusal}
 use Rattle.call_events.specs.declared.event.EventRefusal.TheVariants.{NotNow, NoMemory}
 use Rattle.call_machine.specs.declared.slot.Slot.{Slot}
+use Rattle.call_machine.specs.declared.slot.SlotState.{SlotState}
+use Rattle.call_machine.specs.declared.slot.SlotState.TheVariants.{Open, Over}
 use Rattle.call_machine.specs.Schedules.{Answer, IsDue}
 use Rattle.call_machine.specs.Calls.{Stage, waiting, running, ready, answered, committed, conflict, Call, State, stage_settled, stage_after, status_at}
 use Rattle.call_machine.specs.Machine.{is_waiting, is_ready, is_running, is_over}
@@ -46,38 +48,46 @@ abbrev pub stage_over : CallAnswer → Stage
 stage_over (Replied r) = stage_replied (is_committed r.outcome) r
 stage_over (Conflict n) = conflict n
 
-abbrev pub stage_kept : Option CallAnswer → Work → Stage
-stage_kept None w = stage_from w.base w.batch w.steps
-stage_kept (Some a) w = stage_over a
+abbrev pub stage_kept : SlotState → Stage
+stage_kept (Open w) = stage_from w.base w.batch w.steps
+stage_kept (Over a) = stage_over a
 
 abbrev pub stage_of_slot : Slot → Stage
-stage_of_slot slot = stage_kept slot.answer slot.work
+stage_of_slot slot = stage_kept slot.state
+
+abbrev pub IsOver : SlotState → Type 0
+IsOver (Open w) = ⊥
+IsOver (Over a) = ⊤
+
+abbrev pub IsSettled : SlotState → Type 0
+IsSettled (Open w) = status_of w ≡ Settled
+IsSettled (Over a) = ⊥
 
 -- a call whose work is settled has its answer
-abbrev pub AnsweredWhenSettled : Option CallAnswer → Work → Type 0
-AnsweredWhenSettled None w = status_of w ≡ Settled → ⊥
-AnsweredWhenSettled (Some a) w = ⊤
-
-abbrev pub new_work : Batch → Work
-new_work batch = record { batch = batch; base = None; steps = 0 }
+abbrev pub AnsweredWhenSettled : SlotState → Type 0
+AnsweredWhenSettled (Open w) = status_of w ≡ Settled → ⊥
+AnsweredWhenSettled (Over a) = ⊤
 
 abbrev pub new_slot : Batch → ℕ → Slot
-new_slot batch invoked = record { work = new_work batch; answer = None; invoked = invoked; turn = 0; replied = None }
+new_slot batch invoked = record { batch = batch; state = Open (record { batch = batch; base = None; steps = 0 }); invoked = invoked; turn = 0; replied = None }
 
 abbrev pub call_kept : ℕ → Slot → Call
-call_kept n slot = record { number = n; batch = slot.work.batch; stage = stage_of_slot slot; invoked = slot.invoked; turn = slot.turn; replied = slot.replied }
+call_kept n slot = record { number = n; batch = slot.batch; stage = stage_of_slot slot; invoked = slot.invoked; turn = slot.turn; replied = slot.replied }
 
 abbrev pub calls_kept : List (ℕ × Slot) → List Call
 calls_kept es = map (λ e. call_kept e.0 e.1) es
 
 -- it is committed, or has replied otherwise than by a conflict
-abbrev pub is_listed_answer : Option CallAnswer → Option ℕ → Bool
-is_listed_answer None replied = false
-is_listed_answer (Some (Replied r)) replied = is_committed r.outcome || is_some replied
-is_listed_answer (Some (Conflict n)) replied = false
+abbrev pub is_listed_answer : CallAnswer → Option ℕ → Bool
+is_listed_answer (Replied r) replied = is_committed r.outcome || is_some replied
+is_listed_answer (Conflict n) replied = false
+
+abbrev pub is_listed_state : SlotState → Option ℕ → Bool
+is_listed_state (Open w) replied = false
+is_listed_state (Over a) replied = is_listed_answer a replied
 
 abbrev pub is_listed_slot : Slot → Bool
-is_listed_slot slot = is_listed_answer slot.answer slot.replied
+is_listed_slot slot = is_listed_state slot.state slot.replied
 
 abbrev pub is_listed_entry : ℕ × Slot → Bool
 is_listed_entry e = is_listed_slot e.1
@@ -108,9 +118,15 @@ pub record RestsOn (own : Bytes) (items : List Item) (w : Work) : Type 0 where
   pub made : IsMadeFor own w.batch
   pub began : BeganWithin own items w.batch w.steps w.base
 
+-- a work that is open has the call's batch
+abbrev pub StateRests : Bytes → List Item → Batch → SlotState → Type 0
+StateRests own items batch (Open w) = RestsOn own items w × (w.batch ≡ batch)
+StateRests own items batch (Over a) = ⊤
+
 pub record SlotRests (own : Bytes) (items : List Item) (slot : Slot) : Type 0 where
-  pub work : RestsOn own items slot.work
-  pub answered : AnsweredWhenSettled slot.answer slot.work
+  pub made : IsMadeFor own slot.batch
+  pub state : StateRests own items slot.batch slot.state
+  pub answered : AnsweredWhenSettled slot.state
 
 abbrev pub AllRest : Bytes → List Item → List (ℕ × Slot) → Type 0
 AllRest own items es = AllByRecursion (λ e. SlotRests own items e.1) es
@@ -178,9 +194,9 @@ SlotRefuses in_turn r = ((r ≡ NotNow) × (in_turn ≡ false)) ⊎ ((r ≡ NoMe
 
 pub record SlotBegins (h : Head) (old : Slot) (turn : ℕ) (status : Status) (later : Slot) : Type 0 where
   pub in_turn : stage_of_slot old ≡ waiting
-  pub stage : stage_of_slot later ≡ stage_after old.work.batch (journal_of h) (length (journal_of h)) 0
+  pub stage : stage_of_slot later ≡ stage_after old.batch (journal_of h) (length (journal_of h)) 0
   pub told : status ≡ status_at (stage_of_slot later)
-  pub batch : later.work.batch ≡ old.work.batch
+  pub batch : later.batch ≡ old.batch
   pub invoked : later.invoked ≡ old.invoked
   pub turn_is : later.turn ≡ turn
   pub replied : later.replied ≡ old.replied
@@ -190,10 +206,10 @@ pub record SlotSteps (own : Bytes) (items : List Item) (old : Slot) (mark : Mark
   pub base : ℕ
   pub made : ℕ
   pub in_turn : stage_of_slot old ≡ running base made
-  pub mark_is : slice_get (footprint_of old.work.batch (books_of (take base (batches_of items)))) made ≡ Some mark
-  pub stage : stage_of_slot later ≡ stage_after old.work.batch (batches_of items) base (made + 1)
+  pub mark_is : slice_get (footprint_of old.batch (books_of (take base (batches_of items)))) made ≡ Some mark
+  pub stage : stage_of_slot later ≡ stage_after old.batch (batches_of items) base (made + 1)
   pub told : status ≡ status_at (stage_of_slot later)
-  pub batch : later.work.batch ≡ old.work.batch
+  pub batch : later.batch ≡ old.batch
   pub invoked : later.invoked ≡ old.invoked
   pub turn : later.turn ≡ old.turn
   pub replied : later.replied ≡ old.replied
@@ -242,16 +258,17 @@ pub record Finishes (old : Head) (item : Item) (answer : CallAnswer) (place : �
 
 pub record IsDecided (old : Head) (w : Work) (answer : CallAnswer) (decision : Decision) (place : ℕ) (new : Head) : Type 0 where
   pub base : ℕ
-  pub in_turn : stage_kept None w ≡ ready base
+  pub in_turn : stage_kept (Open w) ≡ ready base
   pub decided : Decides (journal_of old) w.batch base decision place (stage_over answer) (journal_of new)
   pub goes_on : GoesOn old new
 
 pub record SlotDecides (old_head : Head) (old : Slot) (turn : ℕ) (decision : Decision) (place : ℕ) (later : Slot) (head : Head) : Type 0 where
   pub base : ℕ
   pub in_turn : stage_of_slot old ≡ ready base
-  pub decided : Decides (journal_of old_head) old.work.batch base decision place (stage_of_slot later) (journal_of head)
+  pub decided : Decides (journal_of old_head) old.batch base decision place (stage_of_slot later) (journal_of head)
   pub goes_on : GoesOn old_head head
-  pub let_go : later.work ≡ new_work old.work.batch
+  pub over : IsOver later.state
+  pub batch : later.batch ≡ old.batch
   pub invoked : later.invoked ≡ old.invoked
   pub turn_is : later.turn ≡ turn
   pub replied : later.replied ≡ old.replied

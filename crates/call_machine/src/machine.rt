@@ -1,6 +1,7 @@
 //! Which calls does a machine have, and what does an event do to them?
 
-ghost use Rattle.std.specs.Prelude.{◌≡◌, IfOk, filter, map};
+ghost use Rattle.std.specs.Prelude.{◌≡◌, ◌≤◌, IfOk, OnOk, filter, length, map, nat_lt, not};
+ghost use Rattle.indexmap.specs.IndexMap.{spare};
 ghost use Rattle.call_machine.specs.Kept.{is_listed_entry, turn_of_entry, with_event};
 ghost use Rattle.call_machine.specs.Laws.{number_in};
 
@@ -139,14 +140,14 @@ impl Machine {
         if self.calls.contains_key(&number) {
             return Err((EventRefusal::CallTaken, batch));
         }
-        if self.calls.len() >= 4_096 {
+        if is_full(&self.calls) {
             return Err((EventRefusal::TooManyCalls, batch));
         }
-        if self.calls.reserve(1).is_err() {
+        let Ok(copy) = with_room(&mut self.calls, &batch) else {
             return Err((EventRefusal::NoMemory, batch));
-        }
+        };
         let invoked = self.count + 1;
-        let slot = Slot::new(self.alloc, batch, invoked);
+        let slot = Slot::new(self.alloc, batch, copy, invoked);
         drop(self.calls.insert(number, slot).unwrap());
         self.count = invoked;
         Ok(Done::Invoked(number))
@@ -162,7 +163,7 @@ impl Machine {
         let Some(slot) = self.calls.get_mut(&number) else {
             return Err(EventRefusal::UnknownCall);
         };
-        let status = match slot.begin(self.alloc, &self.head, turn) {
+        let status = match slot.begin(&self.head, turn) {
             Ok(status) => status,
             Err(refusal) => return Err(refusal),
         };
@@ -179,7 +180,7 @@ impl Machine {
         let Some(slot) = self.calls.get_mut(&number) else {
             return Err(EventRefusal::UnknownCall);
         };
-        let (mark, status) = match slot.step(self.alloc) {
+        let (mark, status) = match slot.step() {
             Ok(read) => read,
             Err(refusal) => return Err(refusal),
         };
@@ -197,7 +198,7 @@ impl Machine {
         let Some(slot) = self.calls.get_mut(&number) else {
             return Err(EventRefusal::UnknownCall);
         };
-        let (decision, place) = match slot.commit(self.alloc, &mut self.head, number, turn) {
+        let (decision, place) = match slot.commit(&mut self.head, number, turn) {
             Ok(decided) => decided,
             Err(refusal) => return Err(refusal),
         };
@@ -222,6 +223,23 @@ impl Machine {
         self.count = turn;
         Ok(Done::Answered(number, answer))
     }
+}
+
+/// Has a machine as many calls as it may have?
+fn is_full(calls: &IndexMap<u64, Slot>) -> bool
+    ensures { nat_lt (length calls.now.entries) 4096 ≡ not result }
+{
+    calls.len() >= 4_096
+}
+
+/// Makes room for one more call, and a copy of its batch. The error is a failed allocation; no call has changed then.
+fn with_room(calls: &mut IndexMap<u64, Slot>, batch: &Batch) -> Result<Batch, AllocError>
+    ensures entries { calls.new.entries ≡ calls.old.entries }
+    ensures room { OnOk result (1 ≤ spare calls.new) }
+    ensures copy { IfOk result (λ copy. copy ≡ batch.now) }
+{
+    calls.reserve(1)?;
+    batch.clone()
 }
 
 /// The turns of the listed calls, with their numbers.

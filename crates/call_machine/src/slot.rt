@@ -1,10 +1,11 @@
 //! What does a machine keep of a call?
 
-ghost use Rattle.std.specs.Prelude.{◌≡◌, IfSome, None};
+ghost use Rattle.std.specs.Prelude.{◌≡◌, ◌⊎◌, IfSome, None, false, true};
 ghost use Rattle.entry_book.specs.History.{is_committed};
 ghost use Rattle.batch_work.specs.Working.{status_of};
 ghost use Rattle.commit_head.specs.Heads.{Fits, Stays};
-ghost use Rattle.call_machine.specs.Kept.{Finishes, IsDecided, IsWhole, RestsOn, domain_of};
+ghost use Rattle.call_machine.specs.Kept.{AnsweredWhenSettled, Finishes, IsDecided, IsOver, IsSettled, IsWhole, RestsOn, domain_of, stage_kept};
+ghost use Rattle.call_machine.specs.declared.slot.SlotState.TheVariants as slot;
 
 use batch_work::{Status, Work};
 use call_answers::{CallAnswer, Decision, KnownCall};
@@ -15,36 +16,43 @@ use std::alloc::{AllocError, Global};
 use std::mem::replace;
 use version_book::Mark;
 
-/// A call: its work, its answer, and the accepted numbers of its invoke, of its begin or commit, and of its reply.
-///
-/// A call has its answer as soon as its work is settled or its commit was decided. It then keeps a new work in the place of its
-/// own: the batch stays, and no version is kept alive.
+/// Where a call stands.
+#[derive(Drop)]
+pub(crate) enum SlotState {
+    /// Its work has a copy of its batch. A call has its answer as soon as its work is settled.
+    Open(Work),
+    /// Its work was settled, or its commit was decided. It keeps no version alive.
+    Over(CallAnswer),
+}
+
+/// A call: its batch, where it stands, and the accepted numbers of its invoke, of its begin or commit, and of its reply.
 #[derive(Drop)]
 pub(crate) struct Slot {
-    work: Work,
-    answer: Option<CallAnswer>,
+    batch: Batch,
+    state: SlotState,
     invoked: u64,
     turn: u64,
     replied: Option<u64>,
 }
 
 impl Slot {
-    ghost use Rattle.std.specs.Prelude.{◌≡◌, ◌⊎◌, ℕ, IfOk, IfErr, List, OnErr, MatchResult, None, Some};
+    ghost use Rattle.std.specs.Prelude.{◌≡◌, ℕ, IfOk, IfErr, List, OnErr, None, Some};
+    ghost use Rattle.std.specs.Option.{option_copied};
     ghost use Rattle.entry_book.specs.Rows.{Bytes};
     ghost use Rattle.commit_head.specs.declared.item.Item.{Item};
     ghost use Rattle.commit_head.specs.Heads.{Stays};
     ghost use Rattle.call_machine.specs.Calls.{answer_of, status_at};
-    ghost use Rattle.call_machine.specs.Machine.{is_over};
     ghost use Rattle.call_machine.specs.Known.{TellsCall, decided_of};
-    ghost use Rattle.call_machine.specs.Kept.{AnsweredWhenSettled, IsWhole, RestsOn, SlotBegins, SlotDecides, SlotRefuses, SlotSteps, call_kept, domain_of, is_listed_slot, is_ready_slot, is_running_slot, is_waiting_slot, may_reply, new_slot, new_work, stage_of_slot};
+    ghost use Rattle.call_machine.specs.Kept.{AnsweredWhenSettled, IsWhole, SlotBegins, SlotDecides, SlotRefuses, SlotRests, SlotSteps, call_kept, domain_of, is_listed_slot, is_ready_slot, is_running_slot, is_waiting_slot, may_reply, new_slot, stage_of_slot};
 
-    /// A call that is handed in under this accepted number. Takes no memory.
-    pub(crate) fn new(alloc: Global, batch: Batch, invoked: u64) -> Slot
+    /// A call that is handed in under this accepted number, with a copy of its batch for its work. Takes no memory.
+    pub(crate) fn new(alloc: Global, batch: Batch, copy: Batch, invoked: u64) -> Slot
+        requires copy { copy ≡ batch }
         ensures { result ≡ new_slot batch invoked }
     {
         Slot {
-            work: Work::new(alloc, batch),
-            answer: None,
+            batch,
+            state: SlotState::Open(Work::new(alloc, copy)),
             invoked,
             turn: 0,
             replied: None,
@@ -62,9 +70,9 @@ impl Slot {
     fn status(&self) -> Status
         ensures { result ≡ status_at (stage_of_slot self.now) }
     {
-        match &self.answer {
-            Some(_) => Status::Settled,
-            None => self.work.status(),
+        match &self.state {
+            SlotState::Open(work) => work.status(),
+            SlotState::Over(_) => Status::Settled,
         }
     }
 
@@ -72,91 +80,56 @@ impl Slot {
     pub(crate) fn is_listed(&self) -> bool
         ensures { result ≡ is_listed_slot self.now }
     {
-        match &self.answer {
-            Some(CallAnswer::Replied(reply)) => is_commit(reply) || self.replied.is_some(),
-            Some(CallAnswer::Conflict(_)) => false,
-            None => false,
+        match &self.state {
+            SlotState::Over(CallAnswer::Replied(reply)) => {
+                is_commit(reply) || self.replied.is_some()
+            }
+            SlotState::Over(CallAnswer::Conflict(_)) => false,
+            SlotState::Open(_) => false,
         }
     }
 
     /// The accepted number of the event that decided it. A conflict has none.
     fn decided(&self) -> Option<u64>
-        requires answered { AnsweredWhenSettled self.now.answer self.now.work }
+        requires answered { AnsweredWhenSettled self.now.state }
         ensures { result ≡ decided_of (stage_of_slot self.now) self.now.turn }
     {
-        match &self.answer {
-            Some(CallAnswer::Replied(_)) => Some(self.turn),
-            Some(CallAnswer::Conflict(_)) => None,
-            None => None,
+        match &self.state {
+            SlotState::Over(CallAnswer::Replied(_)) => Some(self.turn),
+            SlotState::Over(CallAnswer::Conflict(_)) => None,
+            SlotState::Open(_) => None,
         }
     }
 
     /// What is known of the call.
     pub(crate) fn known(&self) -> KnownCall<'_>
-        requires answered { AnsweredWhenSettled self.now.answer self.now.work }
+        requires answered { AnsweredWhenSettled self.now.state }
         ensures { (n : ℕ) → TellsCall (call_kept n self.now) result }
     {
         KnownCall {
-            batch: self.work.batch(),
+            batch: &self.batch,
             invoked: self.invoked,
             decided: self.decided(),
             replied: self.replied,
-            answer: self.answer.as_ref(),
+            answer: self.answer(),
         }
     }
 
-    /// A copy of its answer, once it has one.
-    fn answer(&self) -> Result<CallAnswer, EventRefusal>
-        requires answered { AnsweredWhenSettled self.now.answer self.now.work }
-        ensures { MatchResult result (λ answer. answer_of (stage_of_slot self.now) ≡ Some answer) (SlotRefuses (is_over (stage_of_slot self.now))) }
+    /// Its answer, once it has one.
+    fn answer(&self) -> Option<&CallAnswer>
+        requires answered { AnsweredWhenSettled self.now.state }
+        ensures { option_copied result ≡ answer_of (stage_of_slot self.now) }
     {
-        let Some(answer) = &self.answer else {
-            return Err(EventRefusal::NotNow);
-        };
-        match answer.clone() {
-            Ok(answer) => Ok(answer),
-            Err(AllocError) => Err(EventRefusal::NoMemory),
+        match &self.state {
+            SlotState::Open(_) => None,
+            SlotState::Over(answer) => Some(answer),
         }
-    }
-
-    /// Where the work is settled, drops it, and keeps its reply. The batch is the work's own.
-    fn let_go(&mut self, alloc: Global, batch: Batch)
-        requires open { self.old.answer ≡ None }
-        requires batch { batch ≡ self.old.work.batch }
-        ensures stage { stage_of_slot self.new ≡ stage_of_slot self.old }
-        ensures answered { AnsweredWhenSettled self.new.answer self.new.work }
-        ensures work { (self.new.work ≡ self.old.work) ⊎ (self.new.work ≡ new_work self.old.work.batch) }
-        ensures invoked { self.new.invoked ≡ self.old.invoked }
-        ensures turn { self.new.turn ≡ self.old.turn }
-        ensures replied { self.new.replied ≡ self.old.replied }
-    {
-        if let Status::Settled = self.work.status() {
-            let work = replace(&mut self.work, Work::new(alloc, batch));
-            let Some(reply) = work.into_reply() else {
-                unreachable!()
-            };
-            self.answer = Some(CallAnswer::Replied(reply));
-        }
-    }
-
-    /// Keeps the call's answer, and replaces the finished work by a new one of this batch, which drops its versions.
-    fn finish_with(&mut self, alloc: Global, batch: Batch, answer: CallAnswer)
-        ensures { self.new ≡ record self.old { work = new_work batch; answer = Some answer } }
-    {
-        let work = replace(&mut self.work, Work::new(alloc, batch));
-        drop(work.into_batch());
-        drop(self.answer.replace(answer));
     }
 
     /// Begins on the head's window, under this accepted number.
-    pub(crate) fn begin(
-        &mut self,
-        alloc: Global,
-        head: &Head,
-        turn: u64,
-    ) -> Result<Status, EventRefusal>
+    pub(crate) fn begin(&mut self, head: &Head, turn: u64) -> Result<Status, EventRefusal>
         requires whole { IsWhole head.now }
-        requires rests { RestsOn (domain_of head.now) head.now.kept self.old.work }
+        requires rests { SlotRests (domain_of head.now) head.now.kept self.old }
         ensures ok { IfOk result (λ status. SlotBegins head.now self.old turn status self.new) }
         ensures err { IfErr result (SlotRefuses (is_waiting_slot self.old)) }
         ensures stays { OnErr result (self.new ≡ self.old) }
@@ -164,49 +137,48 @@ impl Slot {
         let Status::New = self.status() else {
             return Err(EventRefusal::NotNow);
         };
-        let Ok(batch) = self.work.batch().clone() else {
+        let SlotState::Open(work) = &mut self.state else {
+            unreachable!()
+        };
+        let Ok(()) = work.begin(head.window()) else {
             return Err(EventRefusal::NoMemory);
         };
-        let Ok(()) = self.work.begin(head.window()) else {
-            return Err(EventRefusal::NoMemory);
-        };
-        self.let_go(alloc, batch);
+        let_go(&mut self.state);
         self.turn = turn;
         Ok(self.status())
     }
 
     /// Makes the next read.
-    pub(crate) fn step(&mut self, alloc: Global) -> Result<(Mark, Status), EventRefusal>
-        ensures ok { (own : Bytes) (items : List Item) → RestsOn own items self.old.work → IfOk result (λ read. SlotSteps own items self.old read.0 read.1 self.new) }
+    pub(crate) fn step(&mut self) -> Result<(Mark, Status), EventRefusal>
+        ensures ok { (own : Bytes) (items : List Item) → SlotRests own items self.old → IfOk result (λ read. SlotSteps own items self.old read.0 read.1 self.new) }
         ensures err { IfErr result (SlotRefuses (is_running_slot self.old)) }
         ensures stays { OnErr result (self.new ≡ self.old) }
     {
         let Status::Running = self.status() else {
             return Err(EventRefusal::NotNow);
         };
-        let Ok(batch) = self.work.batch().clone() else {
+        let SlotState::Open(work) = &mut self.state else {
+            unreachable!()
+        };
+        let Ok(mark) = work.next_mark() else {
             return Err(EventRefusal::NoMemory);
         };
-        let Ok(mark) = self.work.next_mark() else {
+        let Ok(()) = work.step() else {
             return Err(EventRefusal::NoMemory);
         };
-        let Ok(()) = self.work.step() else {
-            return Err(EventRefusal::NoMemory);
-        };
-        self.let_go(alloc, batch);
+        let_go(&mut self.state);
         Ok((mark, self.status()))
     }
 
     /// Commits its changes on the head, under the call's number; the accepted number is that of its commit.
     pub(crate) fn commit(
         &mut self,
-        alloc: Global,
         head: &mut Head,
         number: u64,
         turn: u64,
     ) -> Result<(Decision, u64), EventRefusal>
         requires whole { IsWhole head.old }
-        requires rests { RestsOn (domain_of head.old) head.old.kept self.old.work }
+        requires rests { SlotRests (domain_of head.old) head.old.kept self.old }
         ensures ok { IfOk result (λ decided. SlotDecides head.old self.old turn decided.0 decided.1 self.new head.new) }
         ensures err { IfErr result (SlotRefuses (is_ready_slot self.old)) }
         ensures stays { OnErr result (self.new ≡ self.old) }
@@ -215,20 +187,20 @@ impl Slot {
         let Status::Ready = self.status() else {
             return Err(EventRefusal::NotNow);
         };
-        let Ok(batch) = self.work.batch().clone() else {
+        let SlotState::Open(work) = &self.state else {
+            unreachable!()
+        };
+        let Some((answer, decision, place)) = decide(head, number, work) else {
             return Err(EventRefusal::NoMemory);
         };
-        let Some((answer, decision, place)) = decide(head, number, &self.work) else {
-            return Err(EventRefusal::NoMemory);
-        };
-        self.finish_with(alloc, batch, answer);
+        drop(replace(&mut self.state, SlotState::Over(answer)));
         self.turn = turn;
         Ok((decision, place))
     }
 
     /// Gives its answer out, once, under this accepted number.
     pub(crate) fn reply(&mut self, number: u64) -> Result<CallAnswer, EventRefusal>
-        requires answered { AnsweredWhenSettled self.old.answer self.old.work }
+        requires answered { AnsweredWhenSettled self.old.state }
         ensures ok { IfOk result (λ answer. (self.old.replied ≡ None) × (answer_of (stage_of_slot self.old) ≡ Some answer) × (self.new ≡ record self.old { replied = Some number })) }
         ensures err { IfErr result (SlotRefuses (may_reply self.old)) }
         ensures stays { OnErr result (self.new ≡ self.old) }
@@ -236,14 +208,55 @@ impl Slot {
         if self.replied.is_some() {
             return Err(EventRefusal::NotNow);
         }
-        match self.answer() {
-            Ok(answer) => {
-                self.replied = Some(number);
-                Ok(answer)
-            }
-            Err(refusal) => Err(refusal),
-        }
+        let Some(answer) = self.answer() else {
+            return Err(EventRefusal::NotNow);
+        };
+        let Ok(answer) = answer.clone() else {
+            return Err(EventRefusal::NoMemory);
+        };
+        self.replied = Some(number);
+        Ok(answer)
     }
+}
+
+/// Is the work of an open call settled?
+fn is_settled(state: &SlotState) -> bool
+    ensures settled { result ≡ true → IsSettled state.now }
+    ensures answered { result ≡ false → AnsweredWhenSettled state.now }
+{
+    match state {
+        SlotState::Open(work) => matches!(&work.status(), Status::Settled),
+        SlotState::Over(_) => false,
+    }
+}
+
+/// Where a call stands after its work was settled. Drops the work, but for its reply.
+fn over(work: Work) -> SlotState
+    requires settled { status_of work ≡ Status.Settled }
+    ensures stage { stage_kept result ≡ stage_kept (slot.Open work) }
+    ensures over { IsOver result }
+{
+    let Some(reply) = work.into_reply() else {
+        unreachable!()
+    };
+    SlotState::Over(CallAnswer::Replied(reply))
+}
+
+/// Ends a call whose work is settled.
+fn let_go(state: &mut SlotState)
+    ensures stage { stage_kept state.new ≡ stage_kept state.old }
+    ensures answered { AnsweredWhenSettled state.new }
+    ensures kept { (state.new ≡ state.old) ⊎ IsOver state.new }
+{
+    if !is_settled(state) {
+        return;
+    }
+    // the conflict holds the place until the reply is there
+    let place = SlotState::Over(CallAnswer::Conflict(0));
+    let SlotState::Open(work) = replace(state, place) else {
+        unreachable!()
+    };
+    drop(replace(state, over(work)));
 }
 
 /// Was the batch of this reply committed by its call?

@@ -37,7 +37,7 @@ pub begin-requires-clause-whole : goal.begin-requires-clause-whole
 begin-requires-clause-whole c = c.self.invariant.whole
 
 pub begin-requires-clause-rests : goal.begin-requires-clause-rests
-begin-requires-clause-rests c = (rests_at (domain_of c.self.inside.head) c.self.inside.head.kept c.args.number c.self.inside.calls.entries c.in-Some.slot.now c.self.invariant.rest (sym c.in-Some.ensures.value)).work
+begin-requires-clause-rests c = rests_at (domain_of c.self.inside.head) c.self.inside.head.kept c.args.number c.self.inside.calls.entries c.in-Some.slot.now c.self.invariant.rest (sym c.in-Some.ensures.value)
 
 pub invariant_of-self-2 : goal.invariant_of-self-2
 invariant_of-self-2 c =

@@ -1,4 +1,5 @@
 use Rattle.std.proofs.Common.{◌+◌, sym, ap, subst, ◌∙◌, inl, arith}
+use Rattle.entry_book.specs.Batches.{IsMadeFor}
 use Rattle.call_machine.specs.Machine.{Commits, is_ready}
 use Rattle.call_answers.specs.declared.answer.Done.TheVariants.{Decided}
 use Rattle.call_machine.specs.Kept.{Holds, domain_of, state_of}
@@ -34,7 +35,7 @@ pub commit-requires-clause-whole : goal.commit-requires-clause-whole
 commit-requires-clause-whole c = c.self.invariant.whole
 
 pub commit-requires-clause-rests : goal.commit-requires-clause-rests
-commit-requires-clause-rests c = (rests_at (domain_of c.self.inside.head) c.self.inside.head.kept c.args.number c.self.inside.calls.entries c.in-Some.slot.now c.self.invariant.rest (sym c.in-Some.ensures.value)).work
+commit-requires-clause-rests c = rests_at (domain_of c.self.inside.head) c.self.inside.head.kept c.args.number c.self.inside.calls.entries c.in-Some.slot.now c.self.invariant.rest (sym c.in-Some.ensures.value)
 
 pub invariant_of-self-2 : goal.invariant_of-self-2
 invariant_of-self-2 c =
@@ -44,7 +45,7 @@ invariant_of-self-2 c =
     let old = c.in-Some.slot.now in
     let found = sym c.in-Some.ensures.value in
     let rests = rests_at (domain_of h) h.kept c.args.number es old c.self.invariant.rest found in
-    holds_on h c.commit.new.head c.self.inside.count c.args.number es _ old c.commit.new.self old.work.batch c.self.invariant d.goes_on found (c.get_mut.follows.holds c.commit.new.self).0 rests.work.made d.let_go
+    holds_on h c.commit.new.head c.self.inside.count c.args.number es _ old c.commit.new.self c.self.invariant d.goes_on found (c.get_mut.follows.holds c.commit.new.self).0 (subst (IsMadeFor (domain_of h)) (sym d.batch) rests.made) d.over
     (more_decided h c.commit.new.head old c.commit.new.self _ _ _ d)
 
 pub returns-clause-ok : goal.returns-clause-ok

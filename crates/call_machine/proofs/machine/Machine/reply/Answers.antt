@@ -44,7 +44,7 @@ invariant_of-self-2 c =
     let found = sym c.in-Some.ensures.value in
     let b = c.in-Ok.ensures.ok in
     let rests = rests_at (domain_of h) h.kept c.args.number es old c.self.invariant.rest found in
-    holds_set h c.self.inside.count c.args.number es _ old c.reply.new.self c.self.invariant found (c.get_mut.follows.holds c.reply.new.self).0 (subst (SlotRests (domain_of h) h.kept) (sym b.2) (record { work = rests.work; answered = rests.answered }))
+    holds_set h c.self.inside.count c.args.number es _ old c.reply.new.self c.self.invariant found (c.get_mut.follows.holds c.reply.new.self).0 (subst (SlotRests (domain_of h) h.kept) (sym b.2) (record { made = rests.made; state = rests.state; answered = rests.answered }))
     (more_replied old c.reply.new.self _ b.0 b.2)
 
 pub returns-clause-ok : goal.returns-clause-ok

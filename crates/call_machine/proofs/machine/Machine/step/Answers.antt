@@ -39,9 +39,9 @@ invariant_of-self-2 c =
     let old = c.in-Some.slot.now in
     let found = sym c.in-Some.ensures.value in
     let rests = rests_at (domain_of h) h.kept c.args.number es old c.self.invariant.rest found in
-    let steps = c.in-Ok.ensures.ok (domain_of h) h.kept rests.work in
+    let steps = c.in-Ok.ensures.ok (domain_of h) h.kept rests in
     holds_set h c.self.inside.count c.args.number es _ old c.step.new.self c.self.invariant found (c.get_mut.follows.holds c.step.new.self).0 steps.rests
-    (more_stepped h old c.step.new.self _ _ c.self.invariant.whole rests.work.made steps)
+    (more_stepped h old c.step.new.self _ _ c.self.invariant.whole rests.made steps)
 
 pub returns-clause-ok : goal.returns-clause-ok
 returns-clause-ok c =
@@ -51,7 +51,7 @@ returns-clause-ok c =
     let old = c.in-Some.slot.now in
     let later = c.step.new.self in
     let entries = (c.get_mut.follows.lender later).entries in
-    let b = c.in-Ok.ensures.ok (domain_of h) h.kept (rests_at (domain_of h) h.kept n es old c.self.invariant.rest (sym c.in-Some.ensures.value)).work in
+    let b = c.in-Ok.ensures.ok (domain_of h) h.kept (rests_at (domain_of h) h.kept n es old c.self.invariant.rest (sym c.in-Some.ensures.value)) in
     let steps : Steps (state_of h c.self.inside.count es) n (Stepped n c.in-Ok.read.0 c.in-Ok.read.1) (state_of h (c.self.inside.count + 1) entries) = record {
       call = call_kept n old;
       found = lookup_call n es ∙ ap (option_map (call_kept n)) (sym c.in-Some.ensures.value);
