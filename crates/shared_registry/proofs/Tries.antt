@@ -1,6 +1,6 @@
 -- What the tries of a batch of changes come to.
 use Rattle.std.proofs.Common.{◌≡◌, ℕ, zero, suc, ◌+◌, ◌≤◌, List, [], ◌∷◌, ◌++◌, length, length-append, take, refl, sym, ap, subst, ◌∙◌, arith}
-use Rattle.std.proofs.lemmas.List.{append_assoc, take-append-le}
+use Rattle.std.proofs.lemmas.List.{append_assoc, length-take, take-append-le}
 use mathlib.Core.List.{IsPrefix}
 use Rattle.commit_head.specs.declared.item.Item.{Item}
 use Rattle.entry_book.specs.Batches.{Batch}
@@ -43,17 +43,13 @@ overtaken_on : (journal more : List Batch) (batch : Batch) (base place end : ℕ
 overtaken_on journal more batch base place end le o =
     let l = ap length o.split in
     let n = length-append o.before (o.other ∷ o.later) in
-    let short = take_short place journal in
+    let short = length-take place journal in
     let within : base ≤ length journal = let s = o.since in omega arith in
     let first : take base (journal ++ more) ≡ take base journal = take-append-le base journal more within in
     let front = front_on place end journal more le in
-    subst (λ marks. IsHitSince (take end (journal ++ more)) base (footprint_of batch (books_of marks))) (sym first)
-    (subst (λ l. IsHitSince l base (footprint_of batch (books_of (take base journal)))) (sym front.1) (hit_on (take place journal) front.0 base (footprint_of batch (books_of (take base journal))) o))
-  where
-    take_short : (n : ℕ) (xs : List Batch) → length (take n xs) ≤ length xs
-    take_short zero xs = omega arith
-    take_short (suc n) [] = omega arith
-    take_short (suc n) (x ∷ xs) = let k = take_short n xs in omega arith
+    let marks = footprint_of batch (books_of (take base journal)) in
+    subst (λ l. IsHitSince (take end (journal ++ more)) base (footprint_of batch (books_of l))) (sym first)
+    (subst (λ l. IsHitSince l base marks) (sym front.1) (hit_on (take place journal) front.0 base marks o))
 
 are_on : (journal more : List Batch) (batch : Batch) (least place end : ℕ) (bases : List ℕ) → place ≤ end → AreOvertaken journal batch least place bases → AreOvertaken (journal ++ more) batch least end bases
 are_on journal more batch least place end [] le o = tt
