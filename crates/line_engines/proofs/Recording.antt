@@ -112,10 +112,6 @@ told_line calls n r known x of t has = ap record_line (told_same_record calls n 
 pub told_written : (calls : List Call) (n : ℕ) (r : Recorded) (known : KnownCall) (x : CallRecord) → IsRecordOf calls n r → Tells (call_at n calls) (Some known) → HasRecord n known (Some x) → IsWrittenBatch x.batch.now → IsWrittenCall x.call x.invoked x.replied x.reply.now → IsWritten r
 told_written calls n r known x of t has batch call = subst IsWritten (told_same_record calls n r known x of t has) (batch, call)
 
--- a call with a reply has a record
-pub told_there : (calls : List Call) (n : ℕ) (r : Recorded) (known : KnownCall) → IsRecordOf calls n r → Tells (call_at n calls) (Some known) → HasRecord n known None → ⊥
-told_there calls n r known of t has = known_answer calls n r known of t None has
-
 -- ---- the records of an order
 
 abbrev recorded : (call : Call) (number : ℕ) (books : List Book) → Recorded
@@ -227,8 +223,8 @@ gave_out log s h n call found reply out =
     let same : kept.0 ≡ call = same_call s.calls kept.0 call h.sound.numbers kept.1 within.0 (kept.2 ∙ sym within.1) in
     (out.1.0 + 1, ap (λ (c : Call). c.replied) (sym same) ∙ kept.3)
 
-none_some : (k : ℕ) → None ≡ Some k → ⊥
-none_some k e = cc
+not_stamped : (replied of_call : Option ℕ) (k : ℕ) → replied ≡ None → replied ≡ of_call → of_call ≡ Some k → ⊥
+not_stamped replied of_call k none same e = cc
 
 ended_by : (replied : Option ℕ) (invoked : ℕ) (reply : Reply) → (replied ≡ None → is_committed reply.outcome ≡ true) → ((k : ℕ) → replied ≡ Some k → invoked < k) → IsEndedAt replied invoked reply
 ended_by None invoked reply f g = f refl
@@ -254,7 +250,7 @@ have_ended log s h one stamps books (n ∷ ns) (r ∷ rs) listed are legal runs 
       ended_by r.replied r.invoked r.reply
           (λ none. ⊎_elim
           (λ c. (is_reply.committed c.0 c.1).1)
-          (λ g. let k = gave_out log s h n call of.found g.0 g.1 in absurd (none_some k.0 (sym none ∙ (of.replied_is ∙ k.1))))
+          (λ g. let k = gave_out log s h n call of.found g.0 g.1 in absurd (not_stamped r.replied call.replied k.0 none of.replied_is k.1))
           (listed n (inl refl)))
           (λ k e.
           let late = (stamp.over k (sym of.replied_is ∙ e)).2 begun in
