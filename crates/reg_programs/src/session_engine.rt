@@ -12,8 +12,8 @@ use call_answers::CallAnswer;
 use entry_book::Batch;
 use line_engines::{Answerer, RunFault, run_lines};
 use reg_lines::{
-    AnsweredCall, Ids, Input, LentCallReply, LineRefusal, Output, Request, SeatRefusal, SeatRefused,
-    Sink, Source, print_line, read_request,
+    AnsweredCall, Ids, Input, LentCallReply, LineRefusal, Output, Request, SeatRefusal,
+    SeatRefused, Sink, Source, print_line, read_request,
 };
 use shared_registry::{Naming, NoAnswer, OpenGate, Outcome, Registry, Seat};
 use spiffe_name::{Failure, TrustDomain};
