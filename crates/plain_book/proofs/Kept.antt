@@ -1,4 +1,4 @@
--- What a plain book keeps after a batch, held against the list of all books.
+-- The state of a plain book after a batch, compared with the list of all books.
 use Rattle.std.proofs.Common.{◌≡◌, ℕ, ◌+◌, ◌*◌, ◌<◌, Bool, true, false, List, [], ◌∷◌, Option, Some, None, Ok, Err, IfOk, refl, sym, ap, subst, ◌∙◌, arith, length-append}
 use Rattle.std.specs.Prelude.{◌^◌, ⊤}
 use Rattle.entry_book.specs.declared.limit.Limit.{Limit}
@@ -44,7 +44,7 @@ next_of state batch m s =
 pub adds_next : (state : PlainState) (batch : Batch) (replies : List OpReply) (c : Book) → batch.domain ≡ state.domain → IsMadeFor batch.domain batch → IsSound state → adds replies c ≡ verdict_of batch state → IsNext state.domain state.place c
 adds_next state batch replies c q m s e = subst (IfAdds (IsNext state.domain state.place)) (sym e) (next_of state batch (subst (λ d. IsMadeFor d batch) q m) s)
 
--- ---- the same on each list of books that what is kept stands for
+-- ---- the same on each list of books that the state represents
 
 same_verdict : (state : PlainState) (books : List Book) (batch : Batch) → Stands state books → verdict batch (place_of books) (book_for (past_place batch.ops) books) ≡ verdict_of batch state
 same_verdict state books batch s =
@@ -70,7 +70,7 @@ books_agree state books batch s m =
     subst (λ v. Stands (state_with state v) (books_after batch books)) (same_verdict state books batch s)
     (stands_with state books (verdict batch (place_of books) (book_for (past_place batch.ops) books)) s (history_goes_on state.domain batch books s.history m))
 
--- ---- the same by what a batch comes to
+-- ---- the same by the verdict on a batch
 
 pub reply_when : (state : PlainState) (books : List Book) (batch : Batch) (v : Verdict) (n : ℕ) → n ≡ state.place → v ≡ verdict_of batch state → Stands state books → reply_with n v ≡ reply_to batch books
 reply_when state books batch v n q e s = ap (λ m. reply_with m v) q ∙ (ap (reply_with state.place) e ∙ replies_agree state books batch s)

@@ -110,7 +110,7 @@ sound_more state c s h l =
       room = omega arith;
     }
 
--- ---- the same on each list of books that what is kept stands for
+-- ---- the same on each list of books that the state represents
 
 module _ (state : PlainState) (books : List Book) (s : Stands state books) where
   pub place_is : place_of books ≡ state.place

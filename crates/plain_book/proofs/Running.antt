@@ -47,7 +47,7 @@ keeps_at batch m n op reply b c made l k e h =
     let q : m + n + 1 ≡ m + (n + 1) = omega arith in
     subst (λ t. Lawful batch.domain t c) q (accepted_is batch.domain (m + n + 1) (op_of batch.domain op b) reply b c (op_keeps batch.domain (m + n) op b proper faultless l) h)
 
--- ---- what the run comes to
+-- ---- the outcome of the run
 
 -- an accepted operation more
 onto_more : (n : ℕ) (replies : List OpReply) (b : Book) (d : OpEffect) (r : RunResult) → resumed n replies b (onto d r) ≡ resumed (n + 1) (replies ++ d.reply ∷ []) (after d.writes b) r
@@ -79,7 +79,7 @@ stops domain ops n op replies b r l e h =
     ∙ (ap (λ x. resumed n replies b (run domain (x ∷ drop (n + 1) ops) b)) (sym e)
     ∙ then_stop n replies b (op_of domain op b) (λ d. run domain (drop (n + 1) ops) (after d.writes b)) r h)
 
--- ---- what an accepted run comes to
+-- ---- the outcome of an accepted run
 
 pub accepted_when : (query : Bool) (batch : Batch) (n : ℕ) (replies : List OpReply) (b c : Book) (r : RunResult) → Accepted replies c ≡ ran b r → verdict_accepted query batch n replies c ≡ verdict_when query batch n b r
 accepted_when query batch n replies b c (Err s) e = cc

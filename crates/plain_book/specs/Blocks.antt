@@ -1,4 +1,4 @@
--- Rows that stand in blocks. For this crate's own contracts.
+-- Rows in blocks. For this crate's own contracts.
 use Rattle.std.specs.Prelude.{◌≡◌, ◌<◌, ◌≤◌, ◌-◌, ℕ, Bool, true, false, List, [], ◌∷◌, ◌++◌, length}
 use Rattle.std.specs.List.{AllByRecursion, HoldsAt}
 use Rattle.entry_book.specs.Rows.{Bytes}
@@ -13,12 +13,12 @@ joined (block ∷ blocks) = block ++ joined blocks
 abbrev pub IsBlock : {X : Type 0} → List X → Type 0
 IsBlock block = (0 < length block) × (length block ≤ 256)
 
--- These are the blocks of so many rows.
+-- These blocks have `count` rows.
 pub record AreBlocks {X : Type 0} (blocks : List (List X)) (count : ℕ) : Type 0 where
   pub filled : AllByRecursion IsBlock blocks
   pub counted : count ≡ length (joined blocks)
 
--- the first row of the block stands behind the key
+-- the first row of the block is behind the key
 abbrev pub begins_behind : {X : Type 0} → (X → Bytes) → Bytes → List X → Bool
 begins_behind key k [] = false
 begins_behind key k (x ∷ xs) = is_before k (key x)

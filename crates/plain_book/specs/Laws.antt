@@ -1,13 +1,13 @@
--- What a plain book keeps, held against the list of all books. Each is a clause of a function of the module `laws`.
+-- The state of a plain book, compared with the list of all books. Each is a clause of a function of the module `laws`.
 use Rattle.std.specs.Prelude.{◌≡◌, List}
 use Rattle.entry_book.specs.Book.{Book}
 use Rattle.entry_book.specs.Batches.{Batch, IsMadeFor}
 use Rattle.entry_book.specs.History.{PlainState, Stands, books_after, reply_on, reply_to, state_after}
 
--- what is answered by what is kept is answered by each list of books that it stands for
+-- the reply that the state gives is that of each list of books that it represents
 abbrev pub RepliesAgree : Type 0
 RepliesAgree = (state : PlainState) (books : List Book) (batch : Batch) → Stands state books → reply_on batch state ≡ reply_to batch books
 
--- what is kept after a batch stands for the books after it
+-- the state after a batch represents the books after it
 abbrev pub BooksAgree : Type 0
 BooksAgree = (state : PlainState) (books : List Book) (batch : Batch) → Stands state books → IsMadeFor state.domain batch → Stands (state_after batch state) (books_after batch books)

@@ -1,4 +1,4 @@
--- What the code of an operation, of a batch's run and of its verdict hands on: the plain op's and the run's answer, with the book after the writes in their place, and the plain verdict.
+-- What the code of an operation, of a batch's run and of its verdict returns: the defined result of the operation and of the run, with the book after the writes in the place of the writes, and the defined verdict.
 use Rattle.std.specs.Prelude.{Bool, true, false, ℕ, ◌+◌, List, ◌++◌, Result, Ok, Err}
 use Rattle.entry_book.specs.declared.reply.OpReply.{OpReply}
 use Rattle.entry_book.specs.declared.reply.OpRefusal.{OpRefusal}
@@ -33,7 +33,7 @@ told (Answers replies) = answers replies
 told (Adds replies b) = adds replies b
 told (Repeats n replies) = repeats n replies
 
--- what a batch comes to, a query or not, whose run is accepted with these replies and this book after it
+-- the verdict on a batch, a query or not, whose run is accepted with these replies and this book after it
 abbrev pub verdict_accepted : Bool → Batch → ℕ → List OpReply → Book → Verdict
 verdict_accepted true batch place replies b = answers replies
 verdict_accepted false batch place replies b = adds_within (limit_passed place (after (token_writes batch.token batch.ops (place + 1) replies) b)) replies (after (token_writes batch.token batch.ops (place + 1) replies) b)

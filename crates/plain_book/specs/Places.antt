@@ -1,4 +1,4 @@
--- Where the row of a key stands among rows in order, or where it would stand. For this crate's own contracts.
+-- The place of a key's row among rows in order, or the place where it is missing. For this crate's own contracts.
 use Rattle.std.specs.Prelude.{◌≡◌, ◌<◌, ◌≤◌, ℕ, suc, List, filter, take, drop, length, Result, Ok, Err}
 use Rattle.std.specs.List.{HoldsAt}
 use Rattle.entry_book.specs.Rows.{Bytes}

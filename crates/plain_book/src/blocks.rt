@@ -9,13 +9,13 @@ use crate::row::BookRow;
 use entry_book::{Sequence, Shared};
 use std::alloc::{AllocError, Global};
 
-/// At most so many rows stand in a block.
+/// The largest number of rows in a block.
 const MOST: usize = 256;
 
-/// A few rows, which stand together. Books share it.
+/// A few rows that are next to each other. Books share it.
 pub(crate) type Block<T> = Shared<Sequence<T>>;
 
-/// Do these bytes stand before the others?
+/// Are these bytes before the others?
 #[tactic(auto, unfolding(entry_book::specs::Order::is_before))]
 fn is_before(bytes: &[u8], others: &[u8]) -> bool
     ensures { result ≡ is_before bytes.now others.now }
@@ -50,7 +50,7 @@ fn block_place<T: BookRow>(blocks: &[Block<T>], key: &[u8]) -> usize
     from
 }
 
-/// Blocks, cut at a key: those whose rows are below it, the rows of the block where it stands or would stand, and the blocks
+/// Blocks, cut at a key: those whose rows are below it, the rows of the block that has it or would have it, and the blocks
 /// whose rows are above it.
 #[derive(Drop)]
 pub(crate) struct Cut<'a, T> {
@@ -81,7 +81,7 @@ pub(crate) fn cut_at<'a, T: BookRow>(blocks: &'a [Block<T>], key: &[u8]) -> Cut<
     }
 }
 
-/// Adds the blocks, each with one more owner. The error, here and below, is want of memory.
+/// Adds the blocks, which are then shared. The error, here and below, is out of memory.
 fn push_shared<T: Drop>(blocks: &[Block<T>], out: &mut Vec<Block<T>>) -> Result<(), AllocError>
     ensures { OnOk result (out.new.items ≡ out.old.items ++ blocks.now) }
 {

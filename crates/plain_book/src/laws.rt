@@ -1,11 +1,10 @@
-//! Does what a plain book keeps tell what the list of all books does?
+//! Does the state of a plain book agree with the list of all books?
 //!
-//! Each function does nothing. What it ensures is a law, stated in `specs/Laws.antt`; a caller that calls it may rest on
-//! the law.
+//! Each function does nothing. What it ensures is a law, stated in `specs/Laws.antt`; a caller of it may use the law.
 
 ghost use Rattle.plain_book.specs.Laws.{BooksAgree, RepliesAgree};
 
-/// What is kept answers a batch as every list of books does that it stands for, and stands for the books after it then.
+/// The state gives a batch the reply that every list of books gives that it represents, and then represents the books after it.
 pub fn kept_state()
     ensures replies { RepliesAgree }
     ensures books { BooksAgree }

@@ -7,8 +7,7 @@ ghost use Rattle.entry_book.specs.History.{among_kept, last_of};
 use crate::book::Book;
 use std::alloc::AllocError;
 
-/// One more book behind the older ones, of which at most 63 stay, the last. The error is want of memory, and they stay as
-/// they were then.
+/// Adds a book behind the older ones, of which the last 63 stay. The error is out of memory, and then they are unchanged.
 pub(crate) fn push_older(older: &mut Vec<Book>, book: Book) -> Result<(), AllocError>
     requires few { length older.old.items ≤ 63 }
     ensures ok { OnOk result (older.new.items ≡ last_of 63 (older.old.items ++ book ∷ [])) }

@@ -43,7 +43,7 @@ use trust::trust;
 use update::update;
 
 /// The operation's reply and the book after it, or why it is refused, in the book of a trust domain. The outer error
-/// is want of memory.
+/// is out of memory.
 pub(crate) fn perform(
     alloc: Global,
     own: &TrustDomain,

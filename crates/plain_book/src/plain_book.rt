@@ -11,9 +11,9 @@ use std::alloc::{AllocError, Global};
 use std::marker::Model;
 use std::mem::replace;
 
-/// A registration book for one thread. It stands for the list of all its books so far, the first one empty: a batch
-/// that is committed adds the next one, and every other batch leaves the list. It keeps the last book, whose number is
-/// the place, and up to 63 before it.
+/// A registration book for one thread. It represents the list of all its books so far, the first one empty: a batch
+/// that is committed adds the next one, and every other batch leaves the list unchanged. It keeps the last book, whose
+/// number is the place, and up to 63 before it.
 #[derive(Drop)]
 pub struct PlainBook {
     alloc: Global,
@@ -50,7 +50,7 @@ impl PlainBook {
     ghost use Rattle.entry_book.specs.History.{Stands, books_after, first_books, reply_on, reply_to, state_after};
     ghost use Rattle.entry_book.specs.Lawful.{Lawful};
 
-    /// The book of a trust domain's server, with no rows, at place 0. The error is want of memory.
+    /// The book of a trust domain's server, with no rows, at place 0. The error is out of memory.
     pub fn new(alloc: Global, domain: TrustDomain) -> Result<PlainBook, AllocError>
         ensures domain { IfOk result (λ book. book.domain ≡ domain) }
         ensures stands { IfOk result (λ book. Stands book first_books) }
@@ -64,9 +64,8 @@ impl PlainBook {
         })
     }
 
-    /// Runs a batch that was made for this book's trust domain. What is answered, and what is kept then, is told by what
-    /// was kept, and so by every list of books that it stands for. The error is want of memory, and nothing has changed
-    /// then.
+    /// Runs a batch that was made for this book's trust domain. The reply and the new state depend on the state alone, and
+    /// agree with every list of books that it represents. The error is out of memory, and then nothing has changed.
     pub fn run(&mut self, batch: &Batch) -> Result<Reply, AllocError>
         requires made_for { batch.now.domain ≡ self.old.domain }
         ensures answered { IfOk result (λ reply. reply ≡ reply_on batch.now self.old) }
@@ -128,7 +127,7 @@ impl PlainBook {
     ghost use Rattle.entry_book.specs.Lawful.{Lawful};
     ghost use Rattle.plain_book.specs.Performed.{told};
 
-    /// What a batch comes to.
+    /// The verdict on a batch.
     fn verdict(&self, batch: &Batch) -> Result<Verdict, AllocError>
         requires made_for { batch.now.domain ≡ self.now.domain }
         ensures comes_to { IfOk result (λ verdict. told verdict ≡ verdict_of batch.now self.now) }

@@ -10,7 +10,7 @@ use crate::ops::perform;
 use entry_book::{Batch, OpRefusal, OpReply, Sequence, beside};
 use std::alloc::{AllocError, Global};
 
-/// What became of the operations of a batch.
+/// The outcome of the operations of a batch.
 #[derive(Drop)]
 pub(crate) enum BatchRun {
     /// Each was accepted: the replies in order, and the book after them.
@@ -20,7 +20,7 @@ pub(crate) enum BatchRun {
 }
 
 /// Runs the operations of a batch in order, each on the book that the earlier ones left. Revisions and sequences have room
-/// to grow. The error is want of memory.
+/// to grow. The error is out of memory.
 pub(crate) fn run_ops(alloc: Global, batch: &Batch, book: &Book) -> Result<BatchRun, AllocError>
     requires lawful { Lawful batch.now.domain (2 ^ 62) book.now }
     ensures { IfOk result

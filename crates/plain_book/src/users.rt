@@ -40,7 +40,7 @@ pub(crate) fn first_user<'a>(blocks: &'a [Block<Entry>], domain: &TrustDomain) -
     None
 }
 
-/// The entries that name a domain. The error, here and below, is want of memory.
+/// The entries that name a domain. The error, here and below, is out of memory.
 pub(crate) fn users_among(
     alloc: Global,
     entries: &[Entry],

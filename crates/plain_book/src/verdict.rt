@@ -1,4 +1,4 @@
-//! What does a batch come to on the book that it reads?
+//! What is the outcome of a batch on the book that it reads?
 
 ghost use Rattle.std.specs.Prelude.{◌≡◌, ◌+◌, ◌^◌, ◌≤◌, IfOk, Some};
 ghost use Rattle.std.specs.Option.{option_copied};
@@ -16,12 +16,12 @@ use entry_book::{Batch, KeptBatch, OpReply, Refusal, Sequence, Shared, beside};
 use std::alloc::{AllocError, Global};
 use uuid::Uuid;
 
-/// What a batch comes to, with the answers to its operations, in order.
+/// The outcome of a batch, with the replies to its operations, in order.
 #[derive(Drop)]
 pub(crate) enum Verdict {
     /// It is refused.
     Refuses(Refusal),
-    /// It only asked.
+    /// It is read-only.
     Answers(Shared<Sequence<OpReply>>),
     /// It adds this book.
     Adds(Shared<Sequence<OpReply>>, Book),
@@ -29,7 +29,7 @@ pub(crate) enum Verdict {
     Repeats(u64, Shared<Sequence<OpReply>>),
 }
 
-/// What a batch comes to at this place on the book that it reads. Here and below, the error is want of memory.
+/// The verdict on a batch at this place, on the book that it reads. Here and below, the error is out of memory.
 pub(crate) fn verdict_on(
     alloc: Global,
     batch: &Batch,
@@ -56,7 +56,7 @@ fn kept_under(token: Option<Uuid>, book: &Book) -> Option<&KeptBatch>
     }
 }
 
-/// What a batch comes to with whose token this one was committed.
+/// The verdict on a batch whose token is that of this committed one.
 fn verdict_again(batch: &Batch, kept: &KeptBatch) -> Result<Verdict, AllocError>
     ensures { IfOk result
         (λ verdict. told verdict ≡ verdict_again (ops_eq kept.now.ops batch.now.ops) kept.now) }
@@ -68,7 +68,7 @@ fn verdict_again(batch: &Batch, kept: &KeptBatch) -> Result<Verdict, AllocError>
     }
 }
 
-/// What a batch comes to when its operations run.
+/// The verdict on a batch whose operations run.
 fn verdict_run(alloc: Global, batch: &Batch, place: u64, book: &Book) -> Result<Verdict, AllocError>
     requires room { place ≤ 2 ^ 48 }
     requires lawful { Lawful batch.now.domain (2 ^ 62) book.now }
@@ -80,7 +80,7 @@ fn verdict_run(alloc: Global, batch: &Batch, place: u64, book: &Book) -> Result<
     }
 }
 
-/// What a batch comes to whose operations are accepted, with these replies and this book after them.
+/// The verdict on a batch whose operations are accepted, with these replies and this book after them.
 fn verdict_accepted(
     alloc: Global,
     batch: &Batch,

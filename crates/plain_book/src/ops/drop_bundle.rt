@@ -1,4 +1,4 @@
-//! `drop_bundle`: removes the bundle of a trust domain; the mode says what becomes of the entries that name it.
+//! `drop_bundle`: removes the bundle of a trust domain; the mode says what happens to the entries that name it.
 
 ghost use Rattle.std.specs.Prelude.{◌≡◌, IfOk};
 ghost use Rattle.entry_book.specs.Book.{bundle_at, users_of};
