@@ -1,9 +1,10 @@
 pub mod Answered
 pub mod Copies
 pub mod Cuts
-pub mod Flags
+pub mod FoundEntries
 pub mod Kept
 pub mod KeptBooks
+pub mod Parents
 pub mod Places
 pub mod Reached
 pub mod Running

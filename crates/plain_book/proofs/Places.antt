@@ -1,17 +1,17 @@
 -- What a binary search finds in rows in order.
-use Rattle.std.proofs.Common.{◌≡◌, ℕ, zero, suc, ◌+◌, ◌<◌, ◌≤◌, Bool, true, false, List, [], ◌∷◌, ◌++◌, length, get_or, take, drop, Some, None, Result, Ok, Err, refl, sym, ap, subst, ◌∙◌, inl, inr, ⊎_elim, arith}
+use Rattle.std.proofs.Common.{◌≡◌, ℕ, zero, suc, ◌+◌, ◌<◌, ◌≤◌, Bool, true, false, List, [], ◌∷◌, ◌++◌, length, get_or, set, take, drop, Some, None, Result, Ok, Err, refl, sym, ap, subst, ◌∙◌, inl, inr, ⊎_elim, arith}
 use Rattle.std.specs.Prelude.{filter, bytes_eq}
-use Rattle.std.specs.List.{AllByRecursion, HoldsAt}
+use Rattle.std.specs.List.{AllByRecursion, HoldsAt, insert}
 use Rattle.std.specs.List.Sorted.{IsBinarySearchResult, IsSearchInRange, IsNonDecreasingBy}
 use Rattle.std.specs.declared.cmp.Ordering.TheVariants.{Less, Equal, Greater}
 use Rattle.std.specs.Ordering.{is_lt, nat_cmp, ordering_index, ordering_reverse}
 use Rattle.std.specs.Cmp.Lexicographic.{slice_cmp, nat_list_cmp_total}
 use Rattle.std.specs.FinMap.{slice_cmp-IsAntisymmetric, nat_cmp-IsAntisymmetric}
 use Rattle.std.proofs.lemmas.Bool.{cases_Bool}
-use Rattle.std.proofs.lemmas.List.{take-append-drop}
+use Rattle.std.proofs.lemmas.List.{set_split, take-append-drop}
 use Rattle.std.proofs.lemmas.List.Sorted.{searchable_from_sorted}
 use Rattle.entry_book.specs.Rows.{Bytes}
-use Rattle.entry_book.specs.Order.{Within, Ascending, first, is_before}
+use Rattle.entry_book.specs.Order.{Within, Ascending, first, is_before, with_row}
 use Rattle.entry_book.proofs.Items.{within_get}
 use Rattle.entry_book.proofs.Keys.{row_alone}
 use Rattle.entry_book.proofs.Sets.{All-within, before-irrefl, before-trans, from_within_append, from_within_filter, text_is}
@@ -140,3 +140,13 @@ module _ {X : Type 0} (key : X → Bytes) where
         (λ l. before-irrefl k (subst (λ t. is_before t k ≡ true) e (from_within_filter (λ x. is_before (key x) k) xs y (subst (λ l. Within l y) p.1 l)).1))
         (λ r. before-irrefl k (subst (λ t. is_before k t ≡ true) e (from_within_filter (λ x. is_before k (key x)) xs y (subst (λ l. Within l y) p.2 r)).1))
         (from_within_append (take n xs) (drop n xs) y v))))
+
+    -- ---- a row that is put at the place
+
+    pub put_at : (xs : List X) (n : ℕ) (x : X) → IsPlace key xs k (Ok n) → set xs n x ≡ with_row key k (Some x) xs
+    unfolding with_row
+    put_at xs n x p = set_split xs n x p.0 ∙ (ap (λ l. l ++ x ∷ drop (suc n) xs) p.2 ∙ ap (λ l. filter (λ x. is_before (key x) k) xs ++ x ∷ l) p.3)
+
+    pub put_in : (xs : List X) (n : ℕ) (x : X) → IsPlace key xs k (Err n) → insert xs n x ≡ with_row key k (Some x) xs
+    unfolding with_row
+    put_in xs n x p = ap (λ l. l ++ x ∷ drop n xs) p.1 ∙ ap (λ l. filter (λ x. is_before (key x) k) xs ++ x ∷ l) p.2

@@ -1,14 +1,16 @@
 -- A walk from the entries that start a chain, along identities, to all in which a chain ends.
-use Rattle.std.proofs.Common.{◌≡◌, ℕ, zero, suc, ◌+◌, ◌<◌, Bool, true, false, not, ◌&&◌, ◌||◌, cond, ◌⊎◌, List, [], ◌∷◌, ◌++◌, length, length-append, map, refl, sym, ap, subst, ◌∙◌, inl, inr, ⊎_elim, arith}
+use Rattle.std.proofs.Common.{◌≡◌, ℕ, zero, suc, ◌+◌, ◌-◌, ◌<◌, Bool, true, false, not, ◌&&◌, ◌||◌, ◌⊎◌, List, [], ◌∷◌, ◌++◌, length, length-append, refl, sym, ap, subst, ◌∙◌, inl, inr, ⊎_elim, arith}
 use Rattle.std.specs.Prelude.{filter, bytes_eq}
-use Rattle.std.proofs.lemmas.List.{length-map}
-use Rattle.std.proofs.lemmas.Bool.{or_cases, or_left, or_right, and_from, and_parts, not_from_false, cases_Bool}
+use Rattle.std.proofs.lemmas.Bool.{or_cases, or_left, or_right, and_from, and_parts, not_from_false, cases_Bool, false≢true}
 use Rattle.entry_book.specs.declared.agent.Agent.{Agent}
-use Rattle.entry_book.specs.Rows.{Bytes, Entry}
-use Rattle.entry_book.specs.Order.{Within}
-use Rattle.entry_book.specs.Authorised.{starts, ends_within}
-use Rattle.entry_book.proofs.Sets.{within_filter, from_within_filter, within_left, within_right, from_within_append, text_is, text_same}
+use Rattle.entry_book.specs.Rows.{Bytes, Entry, entry_key}
+use Rattle.entry_book.specs.Order.{Ascending, Within}
+use Rattle.entry_book.specs.Authorised.{holds, starts, ends_within}
+use Rattle.entry_book.proofs.Sets.{length_filter_le, within_filter, from_within_filter, within_left, within_right, from_within_append, text_is, text_same}
 use Rattle.entry_book.proofs.Chains.{more, less, start, bounded}
+use Rattle.plain_book.specs.Found.{is_missing, with_all}
+use Rattle.plain_book.proofs.FoundEntries.{all_found, counted, new_found, same_filter}
+use Rattle.plain_book.proofs.Places.{none_within}
 
 -- the entry starts a chain, or its parent is one of these identities
 abbrev pub reached : Bytes → Agent → List Bytes → Entry → Bool
@@ -26,11 +28,24 @@ pub record Walked (s : Bytes) (a : Agent) (es : List Entry) (is : List Bytes) (w
   pub closed : (c : Entry) → Within es c → reached s a is c ≡ true → Within waiting c ⊎ Within is c.identity
 
 module _ (s : Bytes) (a : Agent) (es : List Entry) where
-  pub at_start : Walked s a es [] (filter (starts s a) es)
+  -- the agent's children that it doesn't hold
+  abbrev pub own_children : Entry → Bool
+  own_children e = not (holds s a e) && bytes_eq e.parent a.id
+
+  pub at_start : Walked s a es [] (filter (holds s a) es ++ filter own_children es)
   at_start = record {
     known = λ i w. absurd w;
-    inside = λ c w. from_within_filter (starts s a) es c w;
-    closed = λ c w t. inl (within_filter (starts s a) es c w t);
+    inside = λ c w. ⊎_elim
+        (λ l. let r = from_within_filter (holds s a) es c l in (r.0, or_left (holds s a c) _ r.1))
+        (λ r. let k = from_within_filter own_children es c r in (k.0, or_right (holds s a c) _ (and_parts _ _ k.1).1))
+        (from_within_append (filter (holds s a) es) (filter own_children es) c w);
+    closed = λ c w t. inl (⊎_elim
+        (λ h. within_left (filter (holds s a) es) (filter own_children es) c (within_filter (holds s a) es c w h))
+        (λ p. ⊎_elim
+        (λ h. within_left (filter (holds s a) es) (filter own_children es) c (within_filter (holds s a) es c w h))
+        (λ f. within_right (filter (holds s a) es) (filter own_children es) c (within_filter own_children es c w (and_from _ _ (not_from_false _ f) p)))
+        (cases_Bool (holds s a c)))
+        (or_cases (holds s a c) _ t));
   }
 
   -- what is reached ends a chain
@@ -85,52 +100,62 @@ same_test true c f g = sym (f refl)
 same_test false true f g = g refl
 same_test false false f g = refl
 
-same_filter : {X : Type 0} (p q : X → Bool) (xs : List X) → ((x : X) → Within xs x → p x ≡ q x) → filter p xs ≡ filter q xs
-same_filter p q [] f = refl
-same_filter p q (x ∷ xs) f = ap (λ b. cond b (x ∷ filter p xs) (filter p xs)) (f x (inl refl)) ∙ ap (λ l. cond (q x) (x ∷ l) l) (same_filter p q xs (λ y w. f y (inr w)))
-
 -- at the end those reached are those in which a chain ends
 pub at_end : (s : Bytes) (a : Agent) (es : List Entry) (is : List Bytes) → Walked s a es is [] → filter (reached s a is) es ≡ filter (ends_within s a es (length es)) es
 at_end s a es is h = same_filter (reached s a is) (ends_within s a es (length es)) es (λ e w. same_test _ _ (ends s a es is h.known e w) (all_reached s a es is h (length es) e w))
 
--- ---- the walk ends: each turn takes one entry from those that wait, and those it adds were not reached before
+-- ---- the first entries found, and one turn
 
-pub fewer : {X : Type 0} (p q : X → Bool) (xs : List X) → length (filter not (map (λ x. p x || q x) xs)) + length (filter (λ x. not (p x) && q x) xs) ≡ length (filter not (map p xs))
-fewer p q [] = refl
-fewer {X} p q (x ∷ xs) =
-    let either : List Bool = map (λ x. p x || q x) xs in
-    let new : List X = filter (λ x. not (p x) && q x) xs in
-    let rest = fewer p q xs in
-    elim (p x) as (λ b. length (cond (not (b || q x)) ((b || q x) ∷ filter not either) (filter not either)) + length (cond (not b && q x) (x ∷ new) new) ≡ length (cond (not b) (b ∷ filter not (map p xs)) (filter not (map p xs)))) [
-      | true ↦ rest
-      | false ↦ elim (q x) as (λ c. length (cond (not c) (c ∷ filter not either) (filter not either)) + length (cond c (x ∷ new) new) ≡ suc (length (filter not (map p xs)))) [ true ↦ omega arith | false ↦ omega arith ]
-    ]
+module _ (s : Bytes) (a : Agent) (es : List Entry) (order : Ascending entry_key es) where
+  pub first_found : (starts none first : List Entry) → starts ≡ filter (holds s a) es → none ≡ [] → first ≡ with_all starts none → first ≡ filter (holds s a) es
+  first_found starts none first e n h =
+      h ∙ (ap (λ l. with_all l none) e
+      ∙ (ap (with_all (filter (holds s a) es)) (n ∙ sym (none_within (λ x. false) es (λ x w t. false≢true t)))
+      ∙ all_found (λ x. false) (holds s a) es order))
 
--- ---- one turn
+  pub found_at_start : (first own found : List Entry) → first ≡ filter (holds s a) es → own ≡ filter (λ e. bytes_eq e.parent a.id) es → found ≡ with_all own first → found ≡ filter (reached s a []) es
+  found_at_start first own found f o h =
+      h ∙ (ap (λ l. with_all l first) o
+      ∙ (ap (with_all (filter (λ e. bytes_eq e.parent a.id) es)) f
+      ∙ all_found (holds s a) (λ e. bytes_eq e.parent a.id) es order))
 
--- The children of entry `c` are flagged, and those not flagged before wait.
-pub record Turn (s : Bytes) (a : Agent) (es : List Entry) (is : List Bytes) (i : Bytes) (c : Entry) (old new : List Bool) (before after : List Entry) : Type 0 where
-  pub identity : i ≡ c.identity
-  pub flags : old ≡ map (reached s a is) es
-  pub flagged : (test : Entry → Bool) → old ≡ map test es → new ≡ map (λ e. test e || bytes_eq e.parent i) es
-  pub waiting : (test : Entry → Bool) → old ≡ map test es → after ≡ before ++ filter (λ e. not (test e) && bytes_eq e.parent i) es
+  pub waiting_at_start : (starts none first own before waiting : List Entry) → starts ≡ filter (holds s a) es → none ≡ [] → first ≡ filter (holds s a) es → own ≡ filter (λ e. bytes_eq e.parent a.id) es → before ≡ filter (is_missing none) starts → waiting ≡ before ++ filter (is_missing first) own → Walked s a es [] waiting
+  waiting_at_start starts none first own before waiting e n f o b w =
+      let missing = new_found (λ x. false) (holds s a) es order in
+      let all_new : before ≡ filter (holds s a) es =
+      b ∙ (ap (filter (is_missing none)) e ∙ (ap (λ l. filter (is_missing l) (filter (holds s a) es)) (n ∙ sym (none_within (λ x. false) es (λ x w t. false≢true t))) ∙ missing)) in
+      let others : filter (is_missing first) own ≡ filter (own_children s a es) es =
+      ap (filter (is_missing first)) o ∙ (ap (λ l. filter (is_missing l) (filter (λ e. bytes_eq e.parent a.id) es)) f ∙ new_found (holds s a) (λ e. bytes_eq e.parent a.id) es order) in
+      subst (Walked s a es []) (sym (w ∙ (ap (λ l. l ++ filter (is_missing first) own) all_new ∙ ap (λ l. filter (holds s a) es ++ l) others))) (at_start s a es)
 
-module _ {s : Bytes} {a : Agent} {es : List Entry} {is : List Bytes} {i : Bytes} {c : Entry} {old new : List Bool} {before after : List Entry} (t : Turn s a es is i c old new before after) where
-  pub turn : Walked s a es is (before ++ c ∷ []) → (read : List Bytes) × (new ≡ map (reached s a read) es) × Walked s a es read after
-  turn h = (
-    i ∷ is,
-    t.flagged (reached s a is) t.flags,
-    subst (Walked s a es (i ∷ is)) (sym (t.waiting (reached s a is) t.flags)) (subst (λ j. Walked s a es (j ∷ is) (before ++ new_children s a is j es)) (sym t.identity) (further s a es is before c h)),
-  )
+  -- The children of the entry c are found, and those not found before wait.
+  pub record Turn (is : List Bytes) (i : Bytes) (c : Entry) (children old new before after : List Entry) : Type 0 where
+    pub identity : i ≡ c.identity
+    pub read : children ≡ filter (λ e. bytes_eq e.parent i) es
+    pub found_before : old ≡ filter (reached s a is) es
+    pub found : new ≡ with_all children old
+    pub waiting : after ≡ before ++ filter (is_missing old) children
 
-  pub turn_smaller : length after + length (filter not new) < length (before ++ c ∷ []) + length (filter not old)
-  turn_smaller =
-      let f = fewer (reached s a is) (λ e. bytes_eq e.parent i) es in
-      let unset : length (filter not new) ≡ length (filter not (map (λ e. reached s a is e || bytes_eq e.parent i) es)) = ap (λ l. length (filter not l)) (t.flagged (reached s a is) t.flags) in
-      let were_unset : length (filter not old) ≡ length (filter not (map (reached s a is) es)) = ap (λ l. length (filter not l)) t.flags in
-      let wait : length after ≡ length before + length (new_children s a is i es) = ap length (t.waiting (reached s a is) t.flags) ∙ length-append before (new_children s a is i es) in
-      let waited : length (before ++ c ∷ []) ≡ length before + 1 = length-append before (c ∷ []) in
-      omega arith
+  module _ (is : List Bytes) (i : Bytes) (c : Entry) (children old new before after : List Entry) (t : Turn is i c children old new before after) where
+    new_is : new ≡ filter (λ e. reached s a is e || bytes_eq e.parent i) es
+    new_is = t.found ∙ (ap (λ l. with_all l old) t.read ∙ (ap (with_all (filter (λ e. bytes_eq e.parent i) es)) t.found_before ∙ all_found (reached s a is) (λ e. bytes_eq e.parent i) es order))
 
-  pub turn_length : length new ≡ length old
-  turn_length = ap length (t.flagged (reached s a is) t.flags) ∙ (length-map es _ ∙ (sym (length-map es _) ∙ ap length (sym t.flags)))
+    after_is : after ≡ before ++ new_children s a is i es
+    after_is = t.waiting ∙ ap (λ l. before ++ l) (ap (filter (is_missing old)) t.read ∙ (ap (λ l. filter (is_missing l) (filter (λ e. bytes_eq e.parent i) es)) t.found_before ∙ new_found (reached s a is) (λ e. bytes_eq e.parent i) es order))
+
+    pub turn : Walked s a es is (before ++ c ∷ []) → (read : List Bytes) × (new ≡ filter (reached s a read) es) × Walked s a es read after
+    turn h = (
+      i ∷ is,
+      new_is,
+      subst (Walked s a es (i ∷ is)) (sym after_is) (subst (λ j. Walked s a es (j ∷ is) (before ++ new_children s a is j es)) (sym t.identity) (further s a es is before c h)),
+    )
+
+    pub turn_smaller : length after + (length es - length new) < length (before ++ c ∷ []) + (length es - length old)
+    turn_smaller =
+        let grown = counted (reached s a is) (λ e. bytes_eq e.parent i) es in
+        let most = length_filter_le (λ e. reached s a is e || bytes_eq e.parent i) es in
+        let now = ap length new_is in
+        let were = ap length t.found_before in
+        let wait = ap length after_is ∙ length-append before (new_children s a is i es) in
+        let waited = length-append before (c ∷ []) in
+        omega arith

@@ -1,5 +1,7 @@
 pub mod Blocks
+pub mod Found
 pub mod Keeps
 pub mod Laws
 pub mod Performed
 pub mod Places
+pub mod Siblings

@@ -4,8 +4,8 @@ ghost use Rattle.std.specs.Prelude.{◌≡◌};
 
 mod counts;
 
+use crate::entries::Entries;
 use crate::expired::expired_among;
-use crate::find::{children_of, first_similar};
 use crate::rows::Rows;
 use crate::users::{first_user, named_bundles, users_among};
 use crate::worklist::authorised_of;
@@ -21,7 +21,7 @@ use uuid::Uuid;
 /// lists that they have in common, and the rows. A contract sees it as the record of the four lists.
 #[derive(Drop)]
 pub(crate) struct Book {
-    entries: Rows<Entry>,
+    entries: Entries,
     agents: Rows<Agent>,
     bundles: Rows<Bundle>,
     tokens: Rows<Shared<KeptBatch>>,
@@ -63,7 +63,7 @@ impl Book {
     pub(crate) fn entry(&self, id: &Uuid) -> Option<&Entry>
         ensures { option_copied result ≡ entry_at id.now self.now }
     {
-        self.entries.row(id.as_bytes().as_slice())
+        self.entries.entry(id)
     }
 
     /// The agent of an id.
@@ -94,7 +94,7 @@ impl Book {
     pub(crate) fn similar(&self, new: &NewEntry) -> Option<&Entry>
         ensures { option_copied result ≡ similar (at_revision 0 new.now) self.now }
     {
-        first_similar(self.entries.blocks(), new)
+        self.entries.similar(new)
     }
 
     /// The first of these domains that has no bundle.
@@ -116,7 +116,7 @@ impl Book {
         first_user(self.entries.blocks(), domain)
     }
 
-    /// The entries that name a domain, in the order of their ids. The error, here and below, is want of memory.
+    /// The entries that name a domain, in the order of their ids. The error, here and below, is out of memory.
     pub(crate) fn users(
         &self,
         alloc: Global,
@@ -144,8 +144,7 @@ impl Book {
     ) -> Result<Sequence<Entry>, AllocError>
         ensures { IfOk result (λ found. found ≡ children_of parent.now self.now) }
     {
-        let all = self.entries.to_vec(alloc)?;
-        let found = children_of(alloc, all.as_slice(), parent)?;
+        let found = self.entries.children(alloc, parent)?;
         Ok(Sequence::of(found))
     }
 
@@ -173,8 +172,7 @@ impl Book {
     ) -> Result<Sequence<Entry>, AllocError>
         ensures { IfOk result (λ found. found ≡ authorised (server_text own.now) agent.now self.now) }
     {
-        let all = self.entries.to_vec(alloc)?;
-        let found = authorised_of(alloc, own, agent, all.as_slice())?;
+        let found = authorised_of(alloc, own, agent, &self.entries)?;
         Ok(Sequence::of(found))
     }
 
@@ -192,7 +190,7 @@ impl Book {
     }
 }
 
-/// The books that operations make. The error is want of memory.
+/// The books that operations make. The error is out of memory.
 impl Book {
     ghost use Rattle.std.specs.Prelude.{◌≡◌, ◌≤◌, ◌^◌, IfOk, None, Some, map};
     ghost use Rattle.entry_book.specs.Rows.{Entry as EntryRow, agent_key, bundle_key, entry_key};
@@ -207,14 +205,14 @@ impl Book {
         ensures { IfOk result (λ book. book ≡ empty_book) }
     {
         Ok(Book {
-            entries: Rows::empty(alloc)?,
+            entries: Entries::empty(alloc)?,
             agents: Rows::empty(alloc)?,
             bundles: Rows::empty(alloc)?,
             tokens: Rows::empty(alloc)?,
         })
     }
 
-    fn with_entries(&self, entries: Rows<Entry>) -> Result<Book, AllocError>
+    fn with_entries(&self, entries: Entries) -> Result<Book, AllocError>
         requires ascending { Ascending entry_key entries }
         ensures { IfOk result (λ book. book ≡ record self.now { entries = entries }) }
     {
@@ -310,9 +308,7 @@ impl Book {
           entries = with_row entry_key entry.now.id None self.now.entries;
         }) }
     {
-        let entries = self
-            .entries
-            .without(alloc, entry.id().as_bytes().as_slice())?;
+        let entries = self.entries.without(alloc, entry.id())?;
         self.with_entries(entries)
     }
 

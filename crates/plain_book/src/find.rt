@@ -1,6 +1,6 @@
-//! Which rows of a book does an operation look at?
+//! Which entry is similar to a new one?
 
-ghost use Rattle.std.specs.Prelude.{◌≡◌, ◌&&◌, not, bytes_eq, filter, IfOk};
+ghost use Rattle.std.specs.Prelude.{◌≡◌, ◌&&◌, not, bytes_eq, filter};
 ghost use Rattle.std.specs.Option.{option_copied};
 ghost use Rattle.spiffe_name.specs.SelectorSet.{set_eq};
 ghost use Rattle.entry_book.specs.Order.{first};
@@ -9,8 +9,6 @@ ghost use Rattle.plain_book.specs.Blocks.{joined};
 
 use crate::blocks::Block;
 use entry_book::{Entry, NewEntry};
-use spiffe_name::SpiffeId;
-use std::alloc::{AllocError, Global};
 
 fn is_in_group(entry: &Entry, new: &NewEntry) -> bool
     ensures { result ≡ in_group new.now.parent new.now.identity entry.now }
@@ -52,22 +50,4 @@ pub(crate) fn first_similar<'a>(blocks: &'a [Block<Entry>], new: &NewEntry) -> O
         }
     }
     None
-}
-
-/// The entries of a parent. The error is want of memory.
-pub(crate) fn children_of(
-    alloc: Global,
-    entries: &[Entry],
-    parent: &SpiffeId,
-) -> Result<Vec<Entry>, AllocError>
-    ensures { IfOk result
-        (λ found. found.items ≡ filter (λ entry. bytes_eq entry.parent parent.now) entries.now) }
-{
-    let mut found = Vec::new(alloc);
-    for entry in entries {
-        if entry.parent().get() == parent {
-            found.push(entry.clone()?)?;
-        }
-    }
-    Ok(found)
 }

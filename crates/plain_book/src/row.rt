@@ -19,7 +19,7 @@ pub(crate) trait BookRow: Drop {
     fn key(&self) -> &[u8]
         ensures { result.now ≡ key self.now };
 
-    /// One more owner of the same row. The error is want of memory.
+    /// A copy, which increments the row's reference count. The error is out of memory.
     fn again(&self) -> Result<Self, AllocError>
         ensures { IfOk result (λ copy. copy ≡ self.now) };
 }
@@ -110,7 +110,7 @@ fn around<'a, T: BookRow>(rows: &'a [T], key: &[u8]) -> (&'a [T], &'a [T])
     }
 }
 
-/// Copies the rows to the end of others. The error is want of memory.
+/// Copies the rows to the end of others. The error is out of memory.
 pub(crate) fn push_all<T: BookRow>(rows: &[T], out: &mut Vec<T>) -> Result<(), AllocError>
     ensures { OnOk result (out.new.items ≡ out.old.items ++ rows.now) }
 {
@@ -120,7 +120,7 @@ pub(crate) fn push_all<T: BookRow>(rows: &[T], out: &mut Vec<T>) -> Result<(), A
     Ok(())
 }
 
-/// The rows with this one in the place of the one of its key. The error is want of memory.
+/// The rows with this one in the place of the one of its key. The error is out of memory.
 pub(crate) fn with_row<T: BookRow>(alloc: Global, rows: &[T], row: T) -> Result<Vec<T>, AllocError>
     requires order { Ascending T.key rows.now }
     ensures { IfOk result (λ new. new.items ≡ with_row T.key (T.key row) (Some row) rows.now) }
@@ -133,7 +133,7 @@ pub(crate) fn with_row<T: BookRow>(alloc: Global, rows: &[T], row: T) -> Result<
     Ok(out)
 }
 
-/// The rows without the one of this key. The error is want of memory.
+/// The rows without the one of this key. The error is out of memory.
 #[tactic(auto, unfolding(entry_book::specs::Order::with_row))]
 pub(crate) fn without_row<T: BookRow>(
     alloc: Global,
@@ -148,4 +148,22 @@ pub(crate) fn without_row<T: BookRow>(
     push_all(before, &mut out)?;
     push_all(behind, &mut out)?;
     Ok(out)
+}
+
+/// Puts the row in the place of the one of its key. The error is out of memory.
+pub(crate) fn put_row<T: BookRow>(rows: &mut Vec<T>, row: T) -> Result<(), AllocError>
+    requires order { Ascending T.key rows.old.items }
+    ensures rows { OnOk result (rows.new.items ≡ with_row T.key (T.key row) (Some row) rows.old.items) }
+    ensures order { OnOk result (Ascending T.key rows.new.items) }
+{
+    match place_of(rows.as_slice(), row.key()) {
+        Ok(place) => {
+            rows[place] = row;
+            Ok(())
+        }
+        Err(place) => {
+            rows.insert(place, row)?;
+            Ok(())
+        }
+    }
 }

@@ -1,7 +1,7 @@
 //! How are the rows of one kind kept?
 //!
-//! Among n rows, to find one takes about log n comparisons. A change copies the list of blocks and the block that it changes:
-//! some n / 128 owners of blocks and 256 of rows, where rows come in order.
+//! Finding a row among n takes about log n comparisons. A change copies the list of blocks and the block that it changes: it
+//! increments the reference counts of some n / 128 blocks, where rows come in order, and of at most 256 rows.
 
 ghost use Rattle.std.specs.Prelude.{◌≡◌, ◌≤◌, ◌+◌, ◌++◌, IfOk, length};
 ghost use Rattle.std.specs.List.{AllByRecursion};
@@ -13,8 +13,8 @@ use entry_book::{Sequence, Shared};
 use std::alloc::{AllocError, Global};
 use std::marker::Model;
 
-/// Rows in the order of their keys, in blocks of at most 256. Books share the list of blocks, and the blocks: a copy is one
-/// more owner. A contract sees the list of the rows.
+/// Rows in the order of their keys, in blocks of at most 256. Books share the list of blocks, and the blocks: a copy
+/// increments one reference count. A contract sees the list of the rows.
 #[derive(Drop)]
 pub(crate) struct Rows<T> {
     blocks: Shared<Sequence<Block<T>>>,
@@ -37,7 +37,7 @@ impl<T> Rows<T> {
     ghost use Rattle.std.specs.List.{AllByRecursion};
     ghost use Rattle.plain_book.specs.Blocks.{IsBlock, joined};
 
-    /// No rows. The error, here and below, is want of memory.
+    /// No rows. The error, here and below, is out of memory.
     pub(crate) fn empty(alloc: Global) -> Result<Rows<T>, AllocError>
     where
         T: Drop,
@@ -66,9 +66,17 @@ impl<T> Rows<T> {
 }
 
 impl<T: BookRow> Rows<T> {
-    ghost use Rattle.std.specs.Prelude.{◌≡◌, IfOk, None, Some, bytes_eq, filter};
+    ghost use Rattle.std.specs.Prelude.{◌≡◌, ◌∷◌, [], IfOk, None, Some, bytes_eq, filter};
     ghost use Rattle.std.specs.Option.{option_copied};
     ghost use Rattle.entry_book.specs.Order.{Ascending, first, with_row};
+
+    /// This row alone.
+    pub(crate) fn only(alloc: Global, row: T) -> Result<Rows<T>, AllocError>
+        ensures { IfOk result (λ rows. rows ≡ row ∷ []) }
+    {
+        let none = Rows::empty(alloc)?;
+        none.with(alloc, row)
+    }
 
     /// The row of a key.
     pub(crate) fn row(&self, key: &[u8]) -> Option<&T>
@@ -101,7 +109,7 @@ impl<T: BookRow> Rows<T> {
         changed(alloc, self.len(), &cut, rows)
     }
 
-    /// All rows, each with one more owner.
+    /// All rows. Each one's reference count is incremented.
     pub(crate) fn to_vec(&self, alloc: Global) -> Result<Vec<T>, AllocError>
         ensures { IfOk result (λ all. all.items ≡ self.now) }
     {
@@ -109,7 +117,7 @@ impl<T: BookRow> Rows<T> {
     }
 }
 
-/// The rows of all blocks, each with one more owner. The error is want of memory.
+/// The rows of all blocks. The error is out of memory.
 fn all_of<T: BookRow>(alloc: Global, blocks: &[Block<T>]) -> Result<Vec<T>, AllocError>
     ensures { IfOk result (λ all. all.items ≡ joined blocks.now) }
 {
@@ -120,7 +128,7 @@ fn all_of<T: BookRow>(alloc: Global, blocks: &[Block<T>]) -> Result<Vec<T>, Allo
     Ok(all)
 }
 
-/// The rows of blocks, of which there are so many, with others in the place of those at the cut. The error is want of memory.
+/// The rows of blocks, with others in the place of those at the cut. The blocks have `count` rows. The error is out of memory.
 fn changed<T: Drop>(
     alloc: Global,
     count: usize,

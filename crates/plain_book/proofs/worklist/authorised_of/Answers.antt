@@ -1,62 +1,71 @@
-use Rattle.std.proofs.Common.{◌≡◌, ◌+◌, ◌<◌, ◌++◌, ◌∷◌, [], not, length, map, sym, ap, subst, ◌∙◌, arith}
-use Rattle.std.specs.Prelude.{filter}
-use Rattle.std.specs.Vec.{with_items}
-use Rattle.std.proofs.lemmas.List.{length-map, map-append, nil_from_length, with_items_is}
-use Rattle.std.proofs.lemmas.Result.{IfOk-weaker}
+use Rattle.std.proofs.Common.{◌++◌, [], length, sym, ap, subst, ◌∙◌, arith}
+use Rattle.std.specs.Prelude.{filter, bytes_eq}
+use Rattle.std.proofs.lemmas.List.{nil_from_length}
 use Rattle.spiffe_name.specs.Id.{server_text}
-use Rattle.entry_book.specs.Authorised.{starts}
-use Rattle.plain_book.proofs.Reached.{Walked, at_end, at_start, Turn, reached, turn, turn_length, turn_smaller}
+use Rattle.spiffe_name.specs.SelectorSet.{is_within}
+use Rattle.plain_book.specs.Found.{is_missing}
+use Rattle.plain_book.proofs.FoundEntries.{filter_both}
+use Rattle.plain_book.proofs.Reached.{Turn, Walked, at_end, first_found, found_at_start, turn, turn_smaller, waiting_at_start}
 use Rattle.plain_book.proofs.worklist.authorised_of.Goals as goal
 
 pub loop-parent-init : goal.loop-parent-init
 loop-parent-init c =
-    let server = server_text c.args.own.now in
-    let agent = c.args.agent.now in
-    let all = c.args.entries.now in
-    let first = filter (starts server agent) all in
-    let waiting = c.in_ok-reach_starts.ensures.pending ∙ ap (λ l. map (λ entry. entry.now) l ++ first) c.new-pending.ensures.items in (
+    let s = server_text c.args.own.now in
+    let a = c.args.agent.now in
+    let es = c.args.entries.now in
+    let order = c.in_ok-aliases.ensures.order in
+    let aliases = c.in_ok-aliases.ensures.found ∙ ap (λ k. filter (λ e. bytes_eq e.parent k) es) c.in_ok-server.ensures.id in
+    let starts =
+    c.in_ok-starts.ensures
+    ∙ (ap (filter (λ e. is_within e.selectors a.selectors)) (c.as_slice.ensures.value ∙ aliases)
+    ∙ filter_both (λ e. bytes_eq e.parent s) (λ e. is_within e.selectors a.selectors) es) in
+    let own = c.in_ok-own_children.ensures.found ∙ ap (λ k. filter (λ e. bytes_eq e.parent k) es) c.get-own_id.ensures in
+    let starts_now = c.as_slice-2.ensures.value ∙ starts in
+    let own_now = c.as_slice-3.ensures.value ∙ own in
+    let none = c.new-found.ensures.items in
+    let first = first_found s a es order c.as_slice-2.result.now c.new-found.result.items c.reach.new.found.items starts_now none c.in_ok-reach.ensures.found in
+    let before = c.in_ok-reach.ensures.pending ∙ ap (λ l. l ++ filter (is_missing c.new-found.result.items) c.as_slice-2.result.now) c.new-pending.ensures.items in (
       [],
-      c.in_ok-reach_starts.ensures.flags ∙ ap (λ l. l ++ map (starts server agent) all) c.new-reached.ensures.items,
-      subst (Walked server agent all []) (sym waiting) (at_start server agent all),
+      found_at_start s a es order c.reach.new.found.items c.as_slice-3.result.now c.reach-2.new.found.items first own_now c.in_ok-reach-2.ensures.found,
+      waiting_at_start s a es order c.as_slice-2.result.now c.new-found.result.items c.reach.new.found.items c.as_slice-3.result.now c.reach.new.pending.items c.reach-2.new.pending.items starts_now none first own_now before c.in_ok-reach-2.ensures.pending,
+      order,
+      c.in_ok-reach-2.ensures.order,
     )
 
-module _ (c : goal.In_ok-reach_children) where
-  this_turn : Turn (server_text c.args.own.now) c.args.agent.now c.args.entries.now c.loop-parent.invariant.0 c.get.result.now c.in-Some.parent.now c.deref_mut.result.now c.reach_children.new.reached (map (λ entry. entry.now) c.pop.new.self.items) (map (λ entry. entry.now) c.reach_children.new.pending.items)
+module _ (c : goal.After-drop-parent-inside-in-Some) where
+  this_turn : Turn (server_text c.args.own.now) c.args.agent.now c.args.entries.now c.in_ok-aliases.ensures.order c.loop-parent.invariant.0 c.get-identity.result.now c.in-Some.parent c.as_slice-in-Some.result.now c.loop-parent.found.items c.reach-in-Some.new.found.items c.pop.new.self.items c.reach-in-Some.new.pending.items
   this_turn = record {
-    identity = c.get.ensures ∙ c.identity.ensures;
-    flags = c.deref_mut.ensures.value ∙ c.loop-parent.invariant.1;
-    flagged = c.in_ok-reach_children.ensures.flags;
-    waiting = c.in_ok-reach_children.ensures.pending;
+    identity = c.get-identity.ensures ∙ c.identity.ensures;
+    read = c.as_slice-in-Some.ensures.value ∙ c.in_ok-children.ensures.found;
+    found_before = c.loop-parent.invariant.1;
+    found = c.in_ok-reach-3.ensures.found;
+    waiting = c.in_ok-reach-3.ensures.pending;
   }
-
-  popped : map (λ entry. entry.now) c.loop-parent.pending.items ≡ map (λ entry. entry.now) c.pop.new.self.items ++ c.in-Some.parent.now ∷ []
-  popped = ap (λ l. map (λ entry. entry.now) l) c.in-Some.ensures.items ∙ map-append (λ entry. entry.now) c.pop.new.self.items (c.in-Some.parent ∷ [])
-
-  written : (with_items c.loop-parent.reached c.reach_children.new.reached).items ≡ c.reach_children.new.reached
-  written = with_items_is c.loop-parent.reached c.reach_children.new.reached (turn_length this_turn ∙ (ap length c.deref_mut.ensures.value ∙ sym c.loop-parent.reached.ok.0))
 
 pub loop-parent-preserved : goal.loop-parent-preserved
 loop-parent-preserved c =
-    let walked = subst (Walked (server_text c.args.own.now) c.args.agent.now c.args.entries.now c.loop-parent.invariant.0) (popped c) c.loop-parent.invariant.2 in
-    let t = turn (this_turn c) walked in
-    (t.0, written c ∙ t.1, t.2)
+    let s = server_text c.args.own.now in
+    let a = c.args.agent.now in
+    let es = c.args.entries.now in
+    let read = c.loop-parent.invariant.0 in
+    let walked = subst (Walked s a es read) c.in-Some.ensures.items c.loop-parent.invariant.2 in
+    let t = turn s a es c.in_ok-aliases.ensures.order read c.get-identity.result.now c.in-Some.parent c.as_slice-in-Some.result.now c.loop-parent.found.items c.reach-in-Some.new.found.items c.pop.new.self.items c.reach-in-Some.new.pending.items (this_turn c) walked in
+    (t.0, t.1, t.2, c.in_ok-aliases.ensures.order, c.in_ok-reach-3.ensures.order)
 
 pub loop-parent-smaller : goal.loop-parent-smaller
 loop-parent-smaller c =
-    let smaller = turn_smaller (this_turn c) in
-    let unset = ap (λ l. length (filter not l)) (written c) in
-    let were_unset = ap (λ l. length (filter not l)) c.deref_mut.ensures.value in
-    let wait = length-map c.reach_children.new.pending.items (λ entry. entry.now) in
-    let waited = sym (ap length (popped c)) ∙ length-map c.loop-parent.pending.items (λ entry. entry.now) in
-    let less : length c.reach_children.new.pending.items + length (filter not (with_items c.loop-parent.reached c.reach_children.new.reached).items) < length c.loop-parent.pending.items + length (filter not c.loop-parent.reached.items) = omega arith in
-    less
+    let s = server_text c.args.own.now in
+    let a = c.args.agent.now in
+    let es = c.args.entries.now in
+    let smaller = turn_smaller s a es c.in_ok-aliases.ensures.order c.loop-parent.invariant.0 c.get-identity.result.now c.in-Some.parent c.as_slice-in-Some.result.now c.loop-parent.found.items c.reach-in-Some.new.found.items c.pop.new.self.items c.reach-in-Some.new.pending.items (this_turn c) in
+    let waited = ap length c.in-Some.ensures.items in
+    omega arith
 
 pub returns : goal.returns
 returns c =
-    let server = server_text c.args.own.now in
-    let agent = c.args.agent.now in
-    let all = c.args.entries.now in
+    let s = server_text c.args.own.now in
+    let a = c.args.agent.now in
+    let es = c.args.entries.now in
     let read = c.loop-parent.invariant.0 in
-    let none : map (λ entry. entry.now) c.loop-parent.pending.items ≡ [] = nil_from_length _ (length-map c.loop-parent.pending.items (λ entry. entry.now) ∙ (sym c.loop-parent.pending.ok.0 ∙ c.in_default.ensures.cases.0)) in
-    let end = at_end server agent all read (subst (Walked server agent all read) none c.loop-parent.invariant.2) in
-    IfOk-weaker c.copies_of.result _ _ (λ found h. h (reached server agent read) (c.deref.ensures.value ∙ c.loop-parent.invariant.1) ∙ end) c.copies_of.ensures
+    let none = nil_from_length c.loop-parent.pending.items (sym c.loop-parent.pending.ok.0 ∙ c.in_default.ensures.cases.0) in
+    c.loop-parent.invariant.1 ∙ at_end s a es read (subst (Walked s a es read) none c.loop-parent.invariant.2)

@@ -1,0 +1,27 @@
+-- The entries of a book by their parents: a second list of the entries. For this crate's own contracts.
+use Rattle.std.specs.Prelude.{◌≡◌, Bool, List, [], ◌∷◌, filter, not, Option, Some, None, bytes_eq, is_some}
+use Rattle.plain_book.specs.declared.siblings.Siblings.{Siblings}
+use Rattle.entry_book.specs.Rows.{Bytes, Entry, entry_key}
+use Rattle.entry_book.specs.Order.{Ascending, first, with_row}
+
+abbrev pub parent_key : Siblings → Bytes
+parent_key s = s.parent
+
+abbrev pub entries_of : Option Siblings → List Entry
+entries_of None = []
+entries_of (Some s) = s.entries
+
+-- the entries that the list has of a parent
+abbrev pub siblings_at : Bytes → List Siblings → List Entry
+siblings_at p all = entries_of (first (filter (λ s. bytes_eq s.parent p) all))
+
+-- The list has the entries of each parent.
+pub record IsByParent (entries : List Entry) (all : List Siblings) : Type 0 where
+  pub order : Ascending parent_key all
+  pub each : (p : Bytes) → siblings_at p all ≡ filter (λ e. bytes_eq e.parent p) entries
+
+-- The new list has these entries of one parent, and those of the old one of each other parent.
+pub record ChangesAt (parent : Bytes) (entries : List Entry) (old new : List Siblings) : Type 0 where
+  pub order : Ascending parent_key new
+  pub here : siblings_at parent new ≡ entries
+  pub others : (p : Bytes) → (p ≡ parent → ⊥) → siblings_at p new ≡ siblings_at p old
