@@ -241,7 +241,7 @@ module _ {X : Type 0} where
   joined_more blocks i b l e = at_drop_more joined blocks i b l ∙ ap (λ y. y ++ joined (drop (i + 1) blocks)) (sym e)
 
   module _ (search : List X → List X) (parts : (xs ys : List X) → search (xs ++ ys) ≡ search xs ++ search ys) (blocks : List (List X)) (i : ℕ) (b : List X) (l : i < length blocks) (e : b ≡ get_or blocks i b) where
-    block_first : search (joined (drop i blocks)) ≡ search b ++ search (joined (drop (i + 1) blocks))
+    pub block_first : search (joined (drop i blocks)) ≡ search b ++ search (joined (drop (i + 1) blocks))
     block_first = ap search (joined_more blocks i b l e) ∙ parts b (joined (drop (i + 1) blocks))
 
     pub found_here : (x : X) → Some x ≡ first (search b) → Some x ≡ first (search (joined (drop i blocks)))

@@ -4,6 +4,7 @@ pub mod Cuts
 pub mod FoundEntries
 pub mod Kept
 pub mod KeptBooks
+pub mod Listed
 pub mod Parents
 pub mod Places
 pub mod Reached

@@ -6,6 +6,7 @@ mod counts;
 
 use crate::entries::Entries;
 use crate::expired::expired_among;
+use crate::listing::page_among;
 use crate::rows::Rows;
 use crate::users::{first_user, named_bundles, users_among};
 use crate::worklist::authorised_of;
@@ -157,8 +158,7 @@ impl Book {
     ) -> Result<(Sequence<Entry>, Option<Uuid>), AllocError>
         ensures { IfOk result (λ page. page ≡ (listed query.now self.now, next_of query.now self.now)) }
     {
-        let all = self.entries.to_vec(alloc)?;
-        let (found, next) = query.page_of(alloc, all.as_slice())?;
+        let (found, next) = page_among(alloc, query, self.entries.blocks())?;
         Ok((Sequence::of(found), next))
     }
 

@@ -17,7 +17,8 @@
 //! - `children` finds the entries of a parent and copies them.
 //! - `authorised` compares the agent with each alias. For each entry that it reaches, it finds the children and puts the entry into
 //!   a sorted vector. `trust` does the same, and then compares each bundle with these entries.
-//! - `page`, `prune` and `drop_bundle` scan the entries. `prune` and `drop_bundle` then change each entry that they find.
+//! - `page` scans the entries until one more is found than it has room for. `prune` and `drop_bundle` scan all of them, and then
+//!   change each entry that they find.
 //! - A batch with a token finds the token; if it is committed, it changes the list of tokens.
 //!
 //! - `plain_book`: what is kept from batch to batch; `older`: the books before the last one.
@@ -26,7 +27,7 @@
 //! - `book`: the four lists of rows, what operations read from them, and the books that they make.
 //! - `rows`: a list of rows; `blocks`, `row`: how a row is found in blocks, put there or taken out.
 //! - `entries`: both lists of entries; `siblings`, `by_parent`: the entries of one parent, and the list of all parents.
-//! - `find`, `users`, `expired`: the rows that an operation looks at; `worklist`: the entries that an agent may hand out.
+//! - `find`, `listing`, `users`, `expired`: the rows that an operation looks at; `worklist`: the entries that an agent may hand out.
 //! - [`laws`]: the state and the list of all books agree.
 #![tactic(auto)]
 
@@ -37,6 +38,7 @@ mod entries;
 mod expired;
 mod find;
 pub mod laws;
+mod listing;
 mod older;
 mod ops;
 mod plain_book;
