@@ -94,6 +94,7 @@ func TestTokens(t *testing.T) {
 		{"another batch", tokened(1, 5), `"code":"O9","place":1,"result":"refused"}`},
 		{"too early", strings.Replace(tokened(1, 0), "{", `{"after":2,`, 1), `"code":"W1","place":1,"result":"refused"}`},
 		{"too early and another batch", strings.Replace(tokened(1, 5), "{", `{"after":2,`, 1), `"code":"W1","place":1,"result":"refused"}`},
+		{"malformed", strings.Replace(tokened(1, 0), `"before"`, `"hint":"L5","before"`, 1), `{"code":"L5"`},
 		{"another token", tokened(2, 0), committed(2)},
 		{"in time", strings.Replace(tokened(1, 0), "{", `{"after":2,`, 1), repeated(1)},
 		{"a refused batch", strings.Replace(tokened(3, 0), "prune", "delete", 1), `"code":"O3","op":0,"place":2,"result":"refused"}`},
