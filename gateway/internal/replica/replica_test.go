@@ -84,6 +84,11 @@ func TestApply(t *testing.T) {
 	if other.State().Sum == r.State().Sum {
 		t.Error("a refused line makes no difference to the checksum")
 	}
+	apply(t, r, 3, prune, `{`)
+	apply(t, other, 4, prune, `{`)
+	if other.State().Sum == r.State().Sum {
+		t.Error("a reply makes no difference to the checksum when others follow")
+	}
 }
 
 func TestTokens(t *testing.T) {
@@ -139,8 +144,8 @@ func TestRestore(t *testing.T) {
 	r, _ := start(t)
 	apply(t, r, 1, tokened(1, 0), prune, tokened(2, 0))
 	other, _ := start(t)
-	if err := other.Restore(r.State(), []string{prune, prune, prune}, r.Tokens()); err != nil {
-		t.Fatal(err)
+	if err := other.Restore(r.State(), []string{prune, prune, prune}, r.Tokens()); err != nil || other.State() != r.State() {
+		t.Fatalf("got %v, %v", other.State(), err)
 	}
 	for _, line := range []string{tokened(1, 0), tokened(2, 0), tokened(2, 9), prune} {
 		if first, second := apply(t, r, 2, line)[0], apply(t, other, 2, line)[0]; first != second {
