@@ -1,6 +1,7 @@
 package server
 
 import (
+	"context"
 	"fmt"
 	"strings"
 	"testing"
@@ -42,8 +43,9 @@ func TestLooks(t *testing.T) {
 	voteTime = 20 * time.Millisecond
 	s := newSite(t)
 	g := New(s.log, Options{Program: "p", Name: "a"})
+	ctx, stop := context.WithCancel(s.ctx)
 	ended := make(chan error, 1)
-	go func() { ended <- g.compare(s.ctx) }()
+	go func() { ended <- g.compare(ctx) }()
 	g.marks <- replica.State{Entry: voteInterval}
 	vote := func(name, sum string) { s.log.Put(s.ctx, "sum/p/00000000000003e8/"+name, []byte(sum)) }
 	vote("b", "1")
@@ -59,10 +61,10 @@ func TestLooks(t *testing.T) {
 	within(t, "an old dispute", func() bool { return !g.isDisputed.Load() })
 	vote("b", "2")
 	vote("c", "2")
-	select {
-	case err := <-ended:
+	time.Sleep(200 * time.Millisecond)
+	stop()
+	if err := <-ended; err != context.Canceled {
 		t.Errorf("ended with %v", err)
-	case <-time.After(10 * voteTime):
 	}
 }
 
