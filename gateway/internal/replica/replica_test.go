@@ -366,4 +366,45 @@ func TestStartFails(t *testing.T) {
 			t.Errorf("%v started", options)
 		}
 	}
+	program, pid := script(t, "exec %s \"$@\"")
+	if _, err := Start(context.Background(), Options{program, "shared.org", 2}, nil); err == nil {
+		t.Error("it started")
+	}
+	waits(t, "regd stays", func() bool { return syscall.Kill(pid(), 0) != nil })
+}
+
+// script returns a script that runs this program, and what returns the number of its process.
+func script(t *testing.T, command string) (string, func() int) {
+	folder := t.TempDir()
+	text := fmt.Sprintf("#!/bin/sh\necho $$ > %s/pid\n"+command+"\nexit 0\n", folder, os.Args[0])
+	if err := os.WriteFile(folder+"/regd", []byte(text), 0o700); err != nil {
+		t.Fatal(err)
+	}
+	return folder + "/regd", func() (number int) {
+		written, _ := os.ReadFile(folder + "/pid")
+		fmt.Sscan(string(written), &number)
+		return number
+	}
+}
+
+// TestWrapper checks that Close ends the connections to a regd that is not the process which was started, so that regd ends too.
+func TestWrapper(t *testing.T) {
+	program, pid := script(t, "%s \"$@\"")
+	r, err := Start(context.Background(), Options{program, "ex.org", 2}, nil)
+	if err != nil {
+		t.Fatal(err)
+	}
+	if pid() != r.Pid() {
+		t.Errorf("the process is %d and not %d", r.Pid(), pid())
+	}
+	closed := make(chan struct{})
+	go func() {
+		r.Close()
+		close(closed)
+	}()
+	select {
+	case <-closed:
+	case <-time.After(10 * time.Second):
+		t.Error("Close waits")
+	}
 }
