@@ -205,7 +205,7 @@ FEATURES = [
     ("the log is read in pages", LOG, "EntryKey(next + pageSize)", "EntryKey(next + 1000*pageSize)", "TestBounds"),
     ("the end is announced when all is read", LOG, "err == nil && next > last {", "err == nil {", "TestFollow"),
     ("a watch begins after what was read", LOG, "page.Header.Revision+1", "page.Header.Revision*0", "TestFollow"),
-    ("a watch shows nothing but entries", LOG, '"key": l.key("log/"), "range_end": l.key("log0")', '"key": l.key("a"), "range_end": l.key("z")', "TestEndedWatch"),
+    ("a watch shows nothing but entries", LOG, '"key": l.key("log/"), "range_end": l.key("log0")', '"key": l.key("a"), "range_end": l.key("z")', "TestFollow"),
     ("a watch shows no deletions", LOG, '"filters": []string{"NODELETE"}', '"filters": []string{}', "TestFollow"),
     ("a canceled watch ends", LOG, " || news.Result.Canceled", "", "TestEndedWatch"),
     ("a watch with an error ends", LOG, " || news.Error != nil", "", "TestEndedWatch"),
