@@ -14,6 +14,7 @@ import (
 
 const (
 	callTime  = 1500 * time.Millisecond // long enough for etcd to elect a leader
+	byteTime  = 10 * time.Microsecond   // more for each byte of an entry
 	pageTime  = 15 * time.Second        // for a page of large entries
 	retryTime = 100 * time.Millisecond  // between a request and the same one again
 )

@@ -11,6 +11,7 @@ import (
 	"net/http"
 	"strconv"
 	"sync/atomic"
+	"time"
 
 	"regd/gateway/internal/logline"
 )
@@ -113,7 +114,8 @@ func (l *Log) Append(ctx context.Context, number uint64, value []byte) (last uin
 	for isOpen := false; ; {
 		var had []pair
 		var done transaction
-		err := l.call(ctx, callTime, "/v3/kv/txn", object{
+		most := callTime + time.Duration(len(value))*byteTime // the answer may have a value of another gateway, which is about as large
+		err := l.call(ctx, most, "/v3/kv/txn", object{
 			"compare": []object{{"target": "VALUE", "key": l.key("head"), "value": decimal(number - 1)}},
 			"success": []object{l.writing(EntryKey(number), value), l.writing("head", decimal(number))},
 			"failure": []object{l.reading(EntryKey(number)), l.reading("head")},

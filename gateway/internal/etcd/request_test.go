@@ -95,16 +95,50 @@ func TestSlowPage(t *testing.T) {
 	}
 }
 
-// TestLongError checks that little is read of what a member says about an error.
-func TestLongError(t *testing.T) {
-	server := httptest.NewServer(http.HandlerFunc(func(w http.ResponseWriter, _ *http.Request) {
-		w.WriteHeader(http.StatusServiceUnavailable)
-		fmt.Fprint(w, "reason", strings.Repeat("x", 1<<20))
+// TestLargeAppend checks that the append of a large entry may take longer than another request.
+func TestLargeAppend(t *testing.T) {
+	store, _, ctx := openLog(t)
+	slow := httptest.NewServer(http.HandlerFunc(func(w http.ResponseWriter, r *http.Request) {
+		select {
+		case <-time.After(callTime * 3 / 2):
+			store.Config.Handler.ServeHTTP(w, r)
+		case <-r.Context().Done():
+		}
 	}))
-	defer server.Close()
-	err := New([]string{server.URL}, "r/", nil).call(context.Background(), pageTime, "/", object{}, &found{})
-	if err == nil || len(err.Error()) > 1000 || !strings.Contains(err.Error(), "503") || !strings.Contains(err.Error(), "reason") {
-		t.Errorf("got %.2000v", err)
+	defer slow.Close()
+	begin := time.Now()
+	last, err := New([]string{slow.URL}, "r/", nil).Append(ctx, 1, make([]byte, 1<<20))
+	if took := time.Since(begin); last != 1 || err != nil || took > 3*callTime {
+		t.Errorf("got %d, %v after %v", last, err, took)
+	}
+}
+
+// TestLongAnswers checks that little is read of a long error, and that a connection whose answer isn't read to its end is closed.
+func TestLongAnswers(t *testing.T) {
+	for _, status := range []int{http.StatusServiceUnavailable, http.StatusOK} {
+		var open atomic.Int64
+		server := httptest.NewUnstartedServer(http.HandlerFunc(func(w http.ResponseWriter, _ *http.Request) {
+			w.WriteHeader(status)
+			fmt.Fprint(w, "{}", strings.Repeat(" reason", 1<<20))
+		}))
+		server.Config.ConnState = func(_ net.Conn, state http.ConnState) {
+			if state == http.StateNew {
+				open.Add(1)
+			} else if state == http.StateClosed {
+				open.Add(-1)
+			}
+		}
+		server.Start()
+		err := New([]string{server.URL}, "r/", nil).call(context.Background(), pageTime, "/", object{}, &found{})
+		if isError := status != http.StatusOK; (err != nil) != isError || isError && (len(err.Error()) > 1000 || !strings.Contains(err.Error(), "503 Service Unavailable {} reason")) {
+			t.Errorf("got %.2000v", err)
+		}
+		for begin := time.Now(); open.Load() != 0; time.Sleep(time.Millisecond) {
+			if time.Since(begin) > 10*time.Second {
+				t.Fatalf("%d: the connection stays", status)
+			}
+		}
+		server.Close()
 	}
 }
 
