@@ -211,6 +211,7 @@ func TestGateways(t *testing.T) {
 
 // TestLateWorkers lets the workers for queries see a change two seconds late. A query on the usual port may miss the change; a fresh one sees it.
 func TestLateWorkers(t *testing.T) {
+	t.Parallel()
 	s := newSite(t)
 	_, usual, fresh := s.gateway("a")
 	s.expect("a change", s.call(usual, `{"ops":[{"op":"prune","hint":"LATE"}]}`), committed(1, 1))
@@ -226,6 +227,7 @@ func TestLateWorkers(t *testing.T) {
 // TestSilentWatch holds the watch of one gateway. Its usual port doesn't see a change of another one. A fresh query does: the gateway notices that
 // the watch is silent, and reads the log again.
 func TestSilentWatch(t *testing.T) {
+	t.Parallel()
 	s := newSite(t)
 	_, first, _ := s.gateway("a")
 	g, usual, fresh := s.gateway("b")
@@ -247,6 +249,7 @@ func TestSilentWatch(t *testing.T) {
 
 // TestCutLog cuts the log behind a snapshot while the watch of a gateway is held: it makes another replica from the snapshot.
 func TestCutLog(t *testing.T) {
+	t.Parallel()
 	s := newSite(t)
 	_, first, _ := s.gateway("a")
 	_, _, fresh := s.gateway("b")
@@ -440,6 +443,7 @@ func TestStatus(t *testing.T) {
 
 // TestSilent checks that the status says for how long etcd has not answered.
 func TestSilent(t *testing.T) {
+	t.Parallel()
 	s := newSite(t)
 	g, _, _ := s.gateway("a")
 	silent := func() float64 { _, values := status(t, g); return values["silent"].(float64) }

@@ -239,6 +239,7 @@ func TestPastAfter(t *testing.T) {
 
 // TestAsksAgain checks that there is a pause before a query is asked again.
 func TestAsksAgain(t *testing.T) {
+	t.Parallel()
 	s := newSite(t)
 	g, usual, fresh := s.gateway("a")
 	for _, address := range []string{usual, fresh} { // one for each of the workers
@@ -256,6 +257,7 @@ func TestAsksAgain(t *testing.T) {
 
 // TestPausesOfReplicas checks that there are pauses before the log is read again, and before another replica is started.
 func TestPausesOfReplicas(t *testing.T) {
+	t.Parallel()
 	s := newSite(t)
 	g, _, _ := s.gateway("a")
 	within(t, "no watch", func() bool { return s.store.Counts().Watches == 1 })
@@ -279,6 +281,7 @@ func TestPausesOfReplicas(t *testing.T) {
 
 // TestSlowReplica checks that the log isn't read again while a replica is behind but executes entries.
 func TestSlowReplica(t *testing.T) {
+	t.Parallel()
 	s := newSite(t)
 	for entry := uint64(1); entry <= 50; entry++ { // a tenth of a second each
 		s.log.Append(s.ctx, entry, etcd.JoinEntry(fmt.Sprint(entry), [][]byte{[]byte(`{"ops":[{"op":"prune","hint":"SLOW"}]}`)}))
