@@ -287,6 +287,7 @@ func TestSlowReplica(t *testing.T) {
 		s.log.Append(s.ctx, entry, etcd.JoinEntry(fmt.Sprint(entry), [][]byte{[]byte(`{"ops":[{"op":"prune","hint":"SLOW"}]}`)}))
 	}
 	g, _, _ := s.gateway("a")
+	time.Sleep(3 * againTime)
 	if _, state := g.board.read(); state.Entry != 50 || s.store.Counts().Pages != 1 {
 		t.Errorf("at entry %d, %v", state.Entry, s.store.Counts())
 	}
@@ -301,8 +302,9 @@ func TestFreshHead(t *testing.T) {
 	short, cancel := context.WithTimeout(s.ctx, 500*time.Millisecond)
 	defer cancel()
 	heads, failed := make(chan uint64, 20), make(chan error, 1)
+	g.fresh.mu.Lock() // so that all wait before the first request begins, which fails
 	go func() { _, err := g.freshHead(short); failed <- err }()
-	within(t, "no request", func() bool { return g.fresh.begun.Load() == 1 })
+	time.Sleep(100 * time.Millisecond)
 	for i := 0; i < 20; i++ {
 		go func() {
 			head, err := g.freshHead(s.ctx)
@@ -312,10 +314,11 @@ func TestFreshHead(t *testing.T) {
 			heads <- head
 		}()
 	}
+	time.Sleep(100 * time.Millisecond)
+	g.fresh.mu.Unlock()
 	if err := <-failed; err != context.DeadlineExceeded {
 		t.Errorf("got %v", err)
 	}
-	time.Sleep(200 * time.Millisecond)
 	s.store.Refuse(0)
 	for i := 0; i < 20; i++ {
 		if head := <-heads; head != 1 {
