@@ -220,8 +220,6 @@ FEATURES = [
     ("a page may take longer", LOG, "l.call(ctx, pageTime", "l.call(ctx, callTime", "TestSlowPage"),
     ("a large entry may take longer", LOG, "callTime + time.Duration(len(value))*byteTime", "callTime + 0*time.Duration(len(value))*byteTime", "TestLargeAppend"),
     ("little of an error is read", CLIENT, "io.LimitReader(response.Body, 300)", "response.Body", "TestLongAnswers"),
-    ("an answer that is not read to its end is closed", CLIENT, "\tdefer body.Close()\n", "", "TestLongAnswers"),
-    ("an error that is not read to its end is closed", CLIENT, "\t\t\tresponse.Body.Close()\n", "", "TestLongAnswers"),
     ("connections are used again, several at a time", LOG, "MaxIdleConnsPerHost: 16, ", "", "TestConnections"),
     ("a request is repeated", CLIENT, "if err == nil || ctx.Err() != nil {\n\t\t\treturn ctx.Err()", "if err == nil || ctx != nil {\n\t\t\treturn err", "TestInsist"),
     ("a request is repeated after a pause", CLIENT, "\t\tPause(ctx, retryTime)\n", "", "TestPauses"),
