@@ -221,6 +221,9 @@ func TestClose(t *testing.T) {
 	}
 	close(goOn)
 	<-closed
+	if r.Context().Err() == nil {
+		t.Error("the context goes on")
+	}
 }
 
 // TestContext checks that regd ends with the context.

@@ -255,7 +255,7 @@ FEATURES = [
     ("a regd ends with the context", PROCESS, "exec.CommandContext(ctx, ", "exec.CommandContext(context.Background(), ", "TestContext"),
     ("a failed start leaves no regd", PROCESS, "\t\tr.Close()\n\t\treturn nil, err\n", "\t\treturn nil, err\n", "TestStartFails"),
     ("the end of a connection ends the replica", PROCESS, "\t\t\tr.Close()\n\t\t}(i, l)", "\t\t}(i, l)", "TestEnd"),
-    ("Close ends regd", PROCESS, "\t\tr.cancel() // which also kills regd\n", "", "TestHang"),
+    ("Close ends the context", PROCESS, "\t\tr.cancel() // which also kills regd\n", "", "TestClose"),
     ("Close ends the connections", PROCESS, "\t\tfor _, l := range r.links {\n\t\t\tl.close()\n\t\t}\n", "", "TestWrapper"),
     ("Close leaves no zombie", PROCESS, "\t\tr.command.Wait()\n", "", "TestClose"),
     ("Close waits for the last reply", PROCESS, "\t\tr.reading.Wait()\n", "", "TestClose"),
