@@ -295,7 +295,6 @@ FEATURES = [
     ("a UUID in upper case", UUID, "text = strings.ToLower(text)", "", "TestReadTokened"),
     ("a UUID in braces", UUID, "|\\{` + hyphened + `\\}", "", "TestReadTokened"),
     ("a UUID with urn", UUID, "|urn:uuid:` + hyphened + `", "", "TestReadTokened"),
-    ("a token is a text", TOKEN, "!ok || !isText || ", "!ok || !isText && false || ", "TestReadTokened"),
     ("a token of a query", TOKEN, "b.changes == 0 || ", "", "TestReadTokened"),
     ("a token of a create without an id", TOKEN, " || len(b.missing) > 0", "", "TestReadTokened"),
     ("a malformed after", TOKEN, "err != nil {\n\t\t\treturn t, false", "err != nil && text == \"\" {\n\t\t\treturn t, false", "TestReadTokened"),
