@@ -73,7 +73,13 @@ func TestPublish(t *testing.T) {
 		t.Fatal(err)
 	}
 	keys := []string{"r/head", "r/domain", "r/" + chunkKey(7, 0), "r/" + chunkKey(7, 1), "r/" + chunkKey(7, 2), "r/snapshot"}
-	if puts := store.Puts(); !reflect.DeepEqual(puts, keys) {
+	var puts []string
+	for _, key := range store.Puts() {
+		if len(puts) == 0 || puts[len(puts)-1] != key { // a request without an answer is repeated
+			puts = append(puts, key)
+		}
+	}
+	if !reflect.DeepEqual(puts, keys) {
 		t.Errorf("stored %v", puts)
 	}
 	if got, err := read(ctx, log); err != nil || !reflect.DeepEqual(got, c) {
