@@ -228,17 +228,20 @@ func TestBounds(t *testing.T) {
 func TestEndedWatch(t *testing.T) {
 	for _, line := range []string{`{"result":{"canceled":true}}`, `{"error":{"message":"x"}}`, `{`} {
 		server, log, ctx := openLog(t)
+		seen := make(chan struct{}, 1)
 		next, err := log.Follow(ctx, 1, func(uint64) {
 			go func() {
 				for server.Counts().Watches == 0 {
 					time.Sleep(time.Millisecond)
 				}
-				if log.Append(ctx, 1, []byte("a")); line == "{" {
+				log.Append(ctx, 1, []byte("a"))
+				<-seen
+				if line == "{" {
 					server.CloseClientConnections()
 				}
 				server.TellWatches(line)
 			}()
-		}, func(uint64, []byte) {})
+		}, func(uint64, []byte) { seen <- struct{}{} })
 		if err == nil || ctx.Err() != nil || next != 2 {
 			t.Errorf("%s: got %d, %v", line, next, err)
 		}
