@@ -86,14 +86,21 @@ func TestRow(t *testing.T) {
 	for line, want := range map[string]int{short: mostRow, short + strings.Repeat(" ", wire.MaxLine-len(short)): 1} {
 		g := New(s.log, Options{}) // which makes no entries of its changes
 		inner, outer := net.Pipe()
-		go g.receive(s.ctx, inner, false)
+		ctx, cancel := context.WithCancel(s.ctx)
+		ended := make(chan struct{})
+		go func() {
+			defer close(ended)
+			g.receive(ctx, inner, false)
+		}()
 		go outer.Write([]byte(strings.Repeat(line+"\n", 2*want)))
 		within(t, "too few lines are read", func() bool { return len(g.changes) == want })
 		time.Sleep(100 * time.Millisecond)
 		if count := len(g.changes); count != want {
 			t.Errorf("%.30s: %d lines are under way", line, count)
 		}
+		cancel()
 		outer.Close()
+		<-ended
 	}
 }
 
