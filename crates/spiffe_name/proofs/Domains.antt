@@ -1,4 +1,4 @@
--- A trust domain is what isn't refused as one.
+-- A text is a valid trust domain exactly if it isn't refused as one.
 use Rattle.std.proofs.Common.{◌≡◌, ◌∙◌, List, ℕ, None}
 use Rattle.std.proofs.lemmas.Bool.{ltb-false}
 use Rattle.spiffe_name.specs.Domain.{IsDomain, domain_refusal}

@@ -1,4 +1,4 @@
--- What the table of refusals says of the text's parts.
+-- What the table of refusals says about the parts of a text.
 use Rattle.std.proofs.Common.{ltb, zero, suc, lit<, ◌≡◌, ℕ, ◌<◌, ◌≤◌, ◌+◌, Bool, true, false, ◌||◌, List, [], ◌∷◌, ◌++◌, length, get_or, take, drop, Option, None, Some, refl, sym, ap, ◌∙◌, arith, nat_eq, slice_index, not, length-drop, length-append, codes}
 use Rattle.std.specs.List.{AllByRecursion, All, slice_split, position_or_len, list_all, join_with_byte, starts_with}
 use Rattle.std.specs.Option.{is_some}
@@ -18,7 +18,7 @@ use Rattle.spiffe_name.proofs.Domains.{IsDomain-from_none, none_from_IsDomain}
 use Rattle.std.specs.Prelude.{bytes_eq}
 use Rattle.spiffe_name.specs.Id.{is_slash, server_segments, is_path_byte, IsSegment, Spells, path_text, prefix, or_else, segment_refusal, segments_refusal, parts_refusal, id_refusal, domain_of, path_of, server_text}
 
--- ---- what the code's two calls give
+-- ---- the results of the two calls in the code
 
 pub or_else-none : {A : Type 0} (o : Option A) → or_else o None ≡ o
 or_else-none (Some x) = refl
@@ -48,7 +48,7 @@ parts_refusal-cut xs n e l = rw e (ap parts_refusal (slice_split_first is_slash 
 
 pub ruleset parts_lemmas = (or_else-none, or_else-left, or_else-right, parts_refusal-whole, parts_refusal-cut)
 
--- ---- what spells an ID is not refused
+-- ---- a text that spells an ID is not refused
 
 not_slash : (b : ℕ) → is_path_byte b ≡ true → is_slash b ≡ false
 not_slash b h = grind (arith, nat_tests)
@@ -68,7 +68,7 @@ both_none : {A : Type 0} (o p : Option A) → or_else o p ≡ None → (o ≡ No
 both_none (Some x) p e = cc
 both_none None p e = (refl, e)
 
--- ---- a segment is what is not refused
+-- ---- a segment is valid exactly if it isn't refused
 
 abbrev dots : List ℕ → Bool
 dots s = bytes_eq s (codes ".") || bytes_eq s (codes "..")
@@ -95,7 +95,7 @@ none_from_IsSegments : (ss : List (List ℕ)) → AllByRecursion IsSegment ss �
 none_from_IsSegments [] h = refl
 none_from_IsSegments (s ∷ ss) h = or_else-none_left _ _ (none_from_IsSegment s h.0) ∙ none_from_IsSegments ss h.1
 
--- ---- both ways
+-- ---- both directions
 
 tests_prefix : (text : List ℕ) → (starts_with nat_eq text prefix ≡ true → text ≡ prefix ++ drop 9 text) × ((rest : List ℕ) → text ≡ prefix ++ rest → starts_with nat_eq text prefix ≡ true)
 tests_prefix text = starts_is Decides-eqb text prefix (starts_with nat_eq text prefix) refl
@@ -175,7 +175,7 @@ pub path_of-Spells : (text d : List ℕ) (ss : List (List ℕ)) → Spells text 
 path_of-Spells text d ss h =
     ap (λ e. drop (9 + length e) text) (domain_of-Spells text d ss h) ∙ (ap (drop (9 + length d)) h.joined ∙ (drop-append-add prefix (d ++ path_text ss) (length d) ∙ drop-append_seam d (path_text ss)))
 
--- where the domain ends, no character is cut
+-- the domain ends within the text
 pub domain_end-within : (text : List ℕ) → id_refusal text ≡ None → 9 + position_or_len is_slash (drop 9 text) ≤ length text
 domain_end-within text e = omega (arith, long_enough text e, prefix_len-le-length (λ b. not (is_slash b)) (drop 9 text), length-drop 9 text)
 

@@ -1,4 +1,4 @@
--- A selector is what isn't refused as one, and a text spells one pair.
+-- A text is a selector exactly if it isn't refused as one, and it spells one pair.
 use Rattle.std.proofs.Common.{◌≡◌, ◌∙◌, ℕ, ◌+◌, ◌<◌, ◌≤◌, Bool, true, false, cond, not, ◌||◌, List, [], ◌∷◌, ◌++◌, length, take, drop, suc, Option, Some, None, refl, sym, ap, subst, arith}
 use Rattle.std.specs.Prelude.{bytes_eq}
 use Rattle.std.specs.Cmp.Lexicographic.{bytes_decides}
@@ -30,7 +30,7 @@ position-none (x ∷ xs) e =
       | false ↦ λ k. let h = position-none xs k in omega arith
     ] e
 
--- a text with a colon is its two parts round the first one
+-- a text with a colon is its two parts around the first one
 pub joined-any : (xs : List ℕ) → list_any is_colon xs ≡ true → xs ≡ selector_text (pair_of xs)
 joined-any xs e =
     let l = position-any xs e in
@@ -48,7 +48,7 @@ no_colon-before (x ∷ xs) =
       | false ↦ λ e. take-front (λ b. not (is_colon b)) (position_or_len is_colon xs) x xs (ap not e) (no_colon-before xs)
     ] refl
 
--- ---- a joining has its first colon behind the type
+-- ---- in a concatenation, the first colon is the one after the type
 
 one_more : (b : Bool) (n k : ℕ) → b ≡ true → n ≡ k → cond b (1 + n) 0 ≡ suc k
 one_more true n k t e = omega arith
@@ -75,7 +75,7 @@ any-joined : (t v : List ℕ) → list_any is_colon (t ++ 58 ∷ v) ≡ true
 any-joined [] v = refl
 any-joined (b ∷ t) v = elim (is_colon b) as (λ c. (c || list_any is_colon (t ++ 58 ∷ v)) ≡ true) [ true ↦ refl | false ↦ any-joined t v ]
 
--- ---- a selector is what is not refused
+-- ---- a text that isn't refused is a selector
 
 pub SpellsSelector-from_none : (text : List ℕ) → selector_refusal text ≡ None → SpellsSelector text (pair_of text)
 unfolding selector_refusal
@@ -106,7 +106,7 @@ none_from_SpellsSelector text pair h =
     ∙ (if_not _ _ _ (ap (list_any is_colon) h.joined ∙ any-joined pair.type pair.value)
     ∙ (if_false _ _ _ (zero_not _ t) ∙ if_false _ _ _ (zero_not _ v)))
 
--- ---- what a cut says that finds no colon
+-- ---- if no colon is found, the text has none
 
 none-colon : (xs : List ℕ) (b : Bool) → list_any is_colon xs ≡ b → position_or_len is_colon xs ≡ length xs → b ≡ false
 none-colon xs true e h = let l = position-any xs e in absurd (omega arith)
@@ -132,7 +132,7 @@ pair_is a b e = let k = both_true _ _ e in same_pair a b ((bytes_decides a.type 
 pub pair_same : (a b : SelectorPair) → a ≡ b → selector_eq a b ≡ true
 pair_same a b e = ap (selector_eq a) (sym e) ∙ selector_eq_equiv.refl a
 
--- texts are equal where their pairs are
+-- texts are equal exactly if their pairs are
 pub bytes_eq-Spells : (t u : List ℕ) (a b : SelectorPair) → SpellsSelector t a → SpellsSelector u b → bytes_eq t u ≡ selector_eq a b
 bytes_eq-Spells t u a b g h =
     elim (selector_eq a b) as (λ s. selector_eq a b ≡ s → bytes_eq t u ≡ s) [

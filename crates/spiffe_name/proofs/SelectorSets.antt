@@ -1,4 +1,4 @@
--- The set of the members of a list has them in order.
+-- The set of the members of a list has them in ascending order.
 use Rattle.std.proofs.Common.{◌≡◌, ◌∙◌, List, [], ◌∷◌, inl, inr, ⊎_elim, ap, subst}
 use Rattle.std.specs.declared.cmp.Ordering.TheVariants.{Equal}
 use Rattle.std.specs.Ordering.{is_eq}

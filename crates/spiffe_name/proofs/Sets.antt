@@ -1,4 +1,4 @@
--- Lists in strictly ascending order are equal where they have the same members.
+-- Lists in strictly ascending order are equal if they have the same members.
 use Rattle.std.proofs.Common.{ap, Bool, true, false, cond, ◌++◌, ◌≡◌, ◌⊎◌, List, [], ◌∷◌, zero, suc, refl, sym, subst, ◌∙◌, inl, inr, ⊎_elim, arith, ℕ, ◌<◌, length, get_or}
 use Rattle.std.specs.declared.cmp.Ordering.{Ordering}
 use Rattle.std.specs.declared.cmp.Ordering.TheVariants.{Less, Equal, Greater}

@@ -1,4 +1,4 @@
--- What it says that a test of a table of faults was passed.
+-- What follows if a test in a table of refusals is passed.
 use Rattle.std.proofs.Common.{ltb, not, ◌≡◌, ◌≢◌, List, ℕ, ◌<◌, ◌≤◌, Bool, true, false, cond, ◌&&◌, ◌==◌, Option, None, Some, refl, ap, arith}
 use Rattle.std.specs.Prelude.{bytes_eq}
 use Rattle.std.specs.Cmp.Lexicographic.{bytes_decides}
@@ -34,7 +34,7 @@ pub both_true : (a b : Bool) → (a && b) ≡ true → (a ≡ true) × (b ≡ tr
 both_true true b e = (refl, e)
 both_true false b e = cc
 
--- texts that differ are told apart
+-- texts that differ compare as unequal
 pub bytes_eq-differ : (xs ys : List ℕ) → xs ≢ ys → bytes_eq xs ys ≡ false
 bytes_eq-differ xs ys h =
     elim (bytes_eq xs ys) as (λ b. bytes_eq xs ys ≡ b → b ≡ false) [ true ↦ λ e. absurd (h ((bytes_decides xs ys).0 e)) | false ↦ λ e. refl ] refl

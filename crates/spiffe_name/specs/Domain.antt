@@ -15,7 +15,7 @@ pub record IsDomain (domain : List ℕ) : Type 0 where
   pub short : length domain ≤ 255
   pub bytes : IsTrue (list_all is_domain_byte domain)
 
--- the first line of the table that holds
+-- the first refusal that applies to the text, if any
 unfoldable pub domain_refusal : List ℕ → Option IdRefusal
 domain_refusal d =
     refuse_if (length d == 0) NoDomain (

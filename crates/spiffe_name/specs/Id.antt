@@ -1,4 +1,4 @@
--- The grammar of a SPIFFE ID (SPIFFE-ID, sections 2.1 to 2.3), as a joining of parts.
+-- The grammar of a SPIFFE ID (SPIFFE-ID, sections 2.1 to 2.3), as a concatenation of parts.
 use Rattle.std.specs.Prelude.{◌≡◌, ◌≢◌, ℕ, ◌<◌, ◌≤◌, ◌+◌, Bool, ◌||◌, ◌==◌, not, List, [], ◌∷◌, ◌++◌, length, drop, codes, bytes_eq, nat_lt, nat_eq, IsTrue, Option, Some, None}
 use Rattle.std.specs.Char.{is_ascii_uppercase}
 use Rattle.std.specs.List.{AllByRecursion, list_all, slice_split, starts_with, before_first}
@@ -17,7 +17,7 @@ pub record IsSegment (segment : List ℕ) : Type 0 where
   pub no_dots : segment ≢ codes ".."
   pub bytes : IsTrue (list_all is_path_byte segment)
 
--- a slash before each segment
+-- the text of a path: a slash before each segment
 abbrev pub path_text : List (List ℕ) → List ℕ
 path_text [] = []
 path_text (s ∷ ss) = codes "/" ++ s ++ path_text ss
@@ -25,21 +25,22 @@ path_text (s ∷ ss) = codes "/" ++ s ++ path_text ss
 abbrev pub prefix : List ℕ
 prefix = codes "spiffe://"
 
--- The text is the prefix, the domain, and a slash before each segment.
+-- The text spells a valid domain and valid segments: it is the prefix, the domain, and a slash before each segment, in at
+-- most 2,048 bytes.
 pub record Spells (text domain : List ℕ) (segments : List (List ℕ)) : Type 0 where
   pub joined : text ≡ prefix ++ domain ++ path_text segments
   pub fits : length text ≤ 2048
   pub is_domain : IsDomain domain
   pub are_segments : AllByRecursion IsSegment segments
 
--- the ID of the server of a trust domain
+-- the path segments of a server's ID, and the text of the ID of a domain's server
 abbrev pub server_segments : List (List ℕ)
 server_segments = codes "spire" ∷ codes "server" ∷ []
 
 abbrev pub server_text : List ℕ → List ℕ
 server_text domain = prefix ++ domain ++ path_text server_segments
 
--- ---- the first line of the table that holds, over the parts between slashes
+-- ---- the first refusal that applies to a text, over its parts between slashes
 
 abbrev pub is_slash : ℕ → Bool
 is_slash b = b == 47
@@ -55,12 +56,12 @@ segment_refusal s =
     refuse_if (not (list_all is_path_byte s)) PathChar
     None))
 
--- that of the first segment that is refused
+-- that of the first segment that has one
 abbrev pub segments_refusal : List (List ℕ) → Option IdRefusal
 segments_refusal [] = None
 segments_refusal (s ∷ ss) = or_else (segment_refusal s) (segments_refusal ss)
 
--- the first part is the domain (a text always has a first part), and the others are the segments
+-- the first part is the domain, and the others are the segments; a text always has a first part
 abbrev pub parts_refusal : List (List ℕ) → Option IdRefusal
 parts_refusal [] = Some NoDomain
 parts_refusal (d ∷ ss) = or_else (domain_refusal d) (segments_refusal ss)
@@ -73,10 +74,10 @@ id_refusal text =
 
 -- ---- the parts of an ID, found in its text
 
--- what stands between the prefix and the first slash behind it
+-- the text after the prefix, up to the first slash there
 abbrev pub domain_of : List ℕ → List ℕ
 domain_of text = before_first is_slash (drop (length prefix) text)
 
--- what follows the domain
+-- the text after the domain
 abbrev pub path_of : List ℕ → List ℕ
 path_of text = drop (length prefix + length (domain_of text)) text

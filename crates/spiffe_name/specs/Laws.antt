@@ -1,11 +1,11 @@
--- One name has one text, in the standard's words.
+-- Theorems: one name has one text.
 use Rattle.std.specs.Prelude.{◌≡◌, ◌↔◌, ℕ, Contains, IsTrue, List}
 use Rattle.spiffe_name.specs.Id.{Spells}
 use Rattle.spiffe_name.specs.Selector.{SelectorPair, SpellsSelector}
 use Rattle.spiffe_name.specs.SelectorOrder.{selector_eq}
 use Rattle.spiffe_name.specs.SelectorSet.{IsSelectorSet}
 
--- a text spells one domain and one list of segments
+-- a text spells at most one domain and one list of segments
 abbrev pub OneIdOfText : Type 0
 OneIdOfText = (text d e : List ℕ) (ss ts : List (List ℕ)) → Spells text d ss → Spells text e ts → (d ≡ e) × (ss ≡ ts)
 
@@ -13,7 +13,7 @@ OneIdOfText = (text d e : List ℕ) (ss ts : List (List ℕ)) → Spells text d 
 abbrev pub OneTextOfId : Type 0
 OneTextOfId = (text other d : List ℕ) (ss : List (List ℕ)) → Spells text d ss → Spells other d ss → text ≡ other
 
--- a text spells one pair of a type and a value
+-- a text spells at most one pair of a type and a value
 abbrev pub OneSelectorOfText : Type 0
 OneSelectorOfText = (text : List ℕ) (a b : SelectorPair) → SpellsSelector text a → SpellsSelector text b → a ≡ b
 
@@ -25,6 +25,6 @@ OneTextOfSelector = (text other : List ℕ) (pair : SelectorPair) → SpellsSele
 abbrev pub OneListOfSet : Type 0
 OneListOfSet = (a b : List SelectorPair) → IsSelectorSet a → IsSelectorSet b → ((s : SelectorPair) → Contains a s ↔ Contains b s) → a ≡ b
 
--- selectors that compare as equal are the same
+-- selectors compare as equal exactly if they are the same
 abbrev pub EqualSelectorsAreOne : Type 0
 EqualSelectorsAreOne = (a b : SelectorPair) → IsTrue (selector_eq a b) ↔ (a ≡ b)

@@ -1,4 +1,4 @@
--- A set of selectors, as the list of its members in order.
+-- A set of selectors, represented by the ascending list of its members.
 use Rattle.std.specs.Prelude.{Bool, List, [], ◌∷◌, ◌++◌, filter}
 use Rattle.std.specs.Ordering.{is_lt}
 use Rattle.std.specs.Cmp.{IsEquivalence}
@@ -12,7 +12,7 @@ use Rattle.spiffe_name.specs.SelectorOrder.{selector_cmp, selector_eq, selector_
 abbrev pub IsSelectorSet : List SelectorPair → Type 0
 IsSelectorSet set = IsStrictlySortedBy selector_cmp set
 
--- the set with one member more: those before it, the member, those behind it
+-- the set with one more member: the members below it, the member, the members above it
 abbrev pub with_member : SelectorPair → List SelectorPair → List SelectorPair
 with_member s set = filter (λ t. is_lt (selector_cmp t s)) set ++ s ∷ filter (λ t. is_lt (selector_cmp s t)) set
 
@@ -28,7 +28,7 @@ has set s = list_any (λ t. selector_eq t s) set
 abbrev pub is_within : List SelectorPair → List SelectorPair → Bool
 is_within a b = list_all (λ s. has b s) a
 
--- a selector of a is in b
+-- some selector of a is in b
 abbrev pub meets : List SelectorPair → List SelectorPair → Bool
 meets a b = list_any (λ s. has b s) a
 

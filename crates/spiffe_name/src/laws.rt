@@ -1,16 +1,16 @@
-//! What follows from the grammar of names, for whoever compares names. These functions have no code: they are facts
-//! to cite.
+//! Theorems about the grammar of names, for callers that compare names. The bodies are empty: a proof calls a function
+//! to cite its contract.
 
 ghost use Rattle.spiffe_name.specs.Laws.{EqualSelectorsAreOne, OneIdOfText, OneListOfSet, OneSelectorOfText, OneTextOfId, OneTextOfSelector};
 
-/// One ID has one text: a text spells one trust domain and one list of segments, and two texts that spell the same
-/// are equal. So whoever compares texts compares IDs.
+/// One ID has one text: a text spells at most one trust domain and one list of segments, and two texts that spell the
+/// same are equal. So comparing texts compares IDs.
 pub fn one_id_has_one_text()
     ensures id { OneIdOfText }
     ensures text { OneTextOfId }
 {}
 
-/// One selector has one text, likewise, and selectors that compare as equal are one.
+/// One selector has one text, likewise. Two selectors compare as equal exactly if they are the same.
 pub fn one_selector_has_one_text()
     ensures selector { OneSelectorOfText }
     ensures text { OneTextOfSelector }

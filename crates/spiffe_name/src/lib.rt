@@ -1,17 +1,16 @@
 //! Which texts are names of workloads: trust domains, SPIFFE IDs and selectors.
 //!
-//! A value of one of these types is a proof that its text is in the grammar: a parse accepts exactly the texts that the
-//! grammar spells and names the first fault of every other text, and no value is ever changed. The layers above test
-//! no name again.
+//! The types guarantee the grammar: `parse` accepts exactly the texts that the grammar spells, and returns the first
+//! fault of any other text. Values never change. So the layers above don't validate names again.
 //!
 //! - [`TrustDomain`]: the name of a trust domain, such as `ex.org`.
 //! - [`SpiffeId`]: a trust domain and a path, such as `spiffe://ex.org/web`. One ID has one text.
 //! - [`Selector`]: one attribute of a process or a node, such as `unix:uid:1000`.
 //! - [`SelectorSet`]: a finite set of selectors, each once, in order.
-//! - [`IdRefusal`] and [`SelectorRefusal`]: why a text is refused, in the order in which the reasons are looked for.
-//! - [`Failure`]: what a call answers in place of its value: a refusal, or that memory was wanting.
+//! - [`IdRefusal`] and [`SelectorRefusal`]: why a text is refused, in the order in which the reasons are checked.
+//! - [`Failure`]: the error of a call: a refusal, or out of memory.
 //!
-//! The rules are those of the SPIFFE-ID specification, narrowed in places; `docs/NAMES.md` tells them.
+//! The rules are those of the SPIFFE-ID specification, narrowed in places: see `docs/NAMES.md`.
 #![tactic(auto)]
 
 mod laws;

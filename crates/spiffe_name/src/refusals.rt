@@ -1,4 +1,4 @@
-//! Why is a text no name?
+//! Why is a text not a valid name?
 
 ghost use Rattle.std.specs.Prelude.{◌≡◌};
 ghost use Rattle.spiffe_name.specs.Codes.{id_code, selector_code};
@@ -6,7 +6,7 @@ ghost use Rattle.spiffe_name.specs.declared.refusals.Failure.TheVariants.{NoMemo
 
 use std::alloc::AllocError;
 
-/// Why a text is no trust domain or no SPIFFE ID: the reasons in the order in which they are looked for.
+/// Why a text is not a valid trust domain or SPIFFE ID: the reasons in the order in which they are checked.
 #[derive(Clone, Copy, Debug, PartialEq, Eq, Drop)]
 pub enum IdRefusal {
     /// The text has over 2,048 bytes.
@@ -45,16 +45,16 @@ impl IdRefusal {
     }
 }
 
-/// Why a text is no selector, the reasons in the order in which they are looked for.
+/// Why a text is not a valid selector: the reasons in the order in which they are checked.
 #[derive(Clone, Copy, Debug, PartialEq, Eq, Drop)]
 pub enum SelectorRefusal {
     /// The text has over 512 bytes.
     TooLong,
     /// The text has no colon.
     NoColon,
-    /// Nothing stands before the first colon.
+    /// The text before the first colon is empty.
     EmptyType,
-    /// Nothing stands behind the first colon.
+    /// The text after the first colon is empty.
     EmptyValue,
 }
 
@@ -72,12 +72,12 @@ impl SelectorRefusal {
     }
 }
 
-/// What a call answers in place of its value.
+/// The error of a call.
 #[derive(Clone, Copy, Debug, PartialEq, Eq, Drop)]
 pub enum Failure<R> {
-    /// Memory was wanting. Asked again, the call may succeed.
+    /// Out of memory. A retry may succeed.
     NoMemory,
-    /// The call refuses what it was given, for this reason.
+    /// The call refuses its input for this reason.
     Refused(R),
 }
 

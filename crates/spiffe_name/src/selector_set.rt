@@ -1,4 +1,4 @@
-//! What is a set of selectors, and when does one lie in another?
+//! What is a set of selectors, and when is one a subset of another?
 
 ghost use Rattle.std.specs.Prelude.{Bool, ◌≡◌};
 ghost use Rattle.std.specs.Cmp.{partial_equiv_from_equiv};
@@ -9,8 +9,8 @@ use std::alloc::AllocError;
 use std::marker::Model;
 use std::slice::Iter;
 
-/// A finite set of selectors: each once, ordered by type, then by value, in bytes. Equal sets are equal lists. A
-/// contract sees it as this list.
+/// A finite set of selectors, as a list without duplicates in the order of the bytes of the type, then of the value.
+/// Equal sets are equal lists. The model in contracts is this list.
 #[derive(Debug, Drop)]
 pub struct SelectorSet {
     selectors: Vec<Selector>,
@@ -34,7 +34,7 @@ impl SelectorSet {
     ghost use Rattle.spiffe_name.specs.Selector.{SelectorPair};
     ghost use Rattle.spiffe_name.specs.SelectorSet.{IsSelectorSet, has, is_within, meets, set_of};
 
-    /// The set of these selectors, in order: repeats collapse. The error is want of memory; the list is then gone.
+    /// Makes the set of these selectors: sorts them and drops duplicates. If out of memory, returns an error and drops them.
     pub fn of(selectors: Vec<Selector>) -> Result<SelectorSet, AllocError>
         ensures members { IfOk result (λ set. (s : SelectorPair) → Contains set s ↔ Contains selectors.items s) }
         ensures ordered { IfOk result IsSelectorSet }
@@ -46,21 +46,21 @@ impl SelectorSet {
         Ok(SelectorSet { selectors })
     }
 
-    /// How many selectors there are.
+    /// Returns the number of selectors.
     pub fn len(&self) -> usize
         ensures { result ≡ length self.now }
     {
         self.selectors.len()
     }
 
-    /// Is there no selector?
+    /// Returns true if the set is empty.
     pub fn is_empty(&self) -> bool
         ensures { IsTrue result ↔ (self.now ≡ []) }
     {
         self.selectors.is_empty()
     }
 
-    /// The selectors in order.
+    /// Returns the selectors in order.
     pub fn as_slice(&self) -> &[Selector]
         ensures items { result.now ≡ self.now }
         ensures set { IsSelectorSet self.now }
@@ -68,7 +68,7 @@ impl SelectorSet {
         self.selectors.as_slice()
     }
 
-    /// The selectors one after another, in order.
+    /// Iterates over the selectors in order.
     pub fn iter(&self) -> Iter<'_, Selector>
         ensures items { iter_rest result ≡ self.now }
         ensures set { IsSelectorSet self.now }
@@ -76,7 +76,7 @@ impl SelectorSet {
         self.selectors.iter()
     }
 
-    /// Is this selector in the set?
+    /// Returns true if this selector is in the set.
     pub fn contains(&self, selector: &Selector) -> bool
         ensures computed { result ≡ has self.now selector.now }
         ensures member { IsTrue result ↔ Contains self.now selector.now }
@@ -84,7 +84,7 @@ impl SelectorSet {
         self.selectors.contains(selector)
     }
 
-    /// Is each selector of this set in the other one? So it is for the empty set.
+    /// Returns true if each selector of this set is in the other one, as for the empty set.
     pub fn within(&self, other: &SelectorSet) -> bool
         ensures computed { result ≡ is_within self.now other.now }
         ensures subset { IsTrue result ↔ ((s : SelectorPair) → Contains self.now s → Contains other.now s) }
@@ -94,7 +94,7 @@ impl SelectorSet {
             .all(|selector| other.contains(selector))
     }
 
-    /// Is one selector in both sets?
+    /// Returns true if the two sets have a selector in common.
     pub fn meets(&self, other: &SelectorSet) -> bool
         ensures computed { result ≡ meets self.now other.now }
         ensures common { IsTrue result ↔ ((s : SelectorPair) × Contains self.now s × Contains other.now s) }
@@ -115,7 +115,7 @@ impl Clone for SelectorSet {
     }
 }
 
-/// Two sets are equal where they have the same selectors.
+/// Two sets are equal if they have the same selectors.
 impl PartialEq for SelectorSet {
     ghost eq = { set_eq };
 

@@ -11,9 +11,8 @@ use std::cmp::Ordering;
 use std::fmt;
 use std::marker::Model;
 
-/// One attribute that is found at a process or a node: a text `type:value` of at most 512 bytes, cut at its first
-/// colon, neither part empty. Any other character may stand in it. A contract sees it as the pair of its type and its
-/// value.
+/// One attribute of a process or a node: a text `type:value` of at most 512 bytes, split at its first colon. Neither
+/// part is empty; any other character is allowed. The model in contracts is the pair of its type and its value.
 #[derive(Debug, Drop)]
 pub struct Selector {
     text: String,
@@ -36,7 +35,7 @@ impl Selector {
     ghost use Rattle.spiffe_name.specs.Failures.{FailsBy, IsNoMemory};
     ghost use Rattle.spiffe_name.specs.Selector.{SelectorPair, SpellsSelector, pair_of, selector_refusal, selector_text};
 
-    /// Reads a selector. The error is the first of [`SelectorRefusal`] that holds, in its order, or want of memory.
+    /// Parses a selector. The error is the first [`SelectorRefusal`] that applies, in their order, or out of memory.
     pub fn parse(alloc: Global, text: &str) -> Result<Selector, Failure<SelectorRefusal>>
         ensures table { MatchResult result
             (λ selector. (selector ≡ pair_of text.now) × (selector_refusal text.now ≡ None))
@@ -53,7 +52,7 @@ impl Selector {
         }
     }
 
-    /// The text.
+    /// Returns the text.
     pub fn as_str(&self) -> &str
         ensures text { result.now ≡ selector_text self.now }
         ensures selector { SpellsSelector result.now self.now }
@@ -61,14 +60,14 @@ impl Selector {
         self.text.as_str()
     }
 
-    /// The type: what stands before the first colon.
+    /// Returns the type: the text before the first colon.
     pub fn selector_type(&self) -> &str
         ensures { result.now ≡ self.now.type }
     {
         self.parts().0
     }
 
-    /// The value: what stands behind the first colon. It may have colons of its own.
+    /// Returns the value: the text after the first colon. It may contain further colons.
     pub fn value(&self) -> &str
         ensures { result.now ≡ self.now.value }
     {
@@ -93,7 +92,7 @@ impl Clone for Selector {
     }
 }
 
-/// Two selectors are equal where their types and their values are, and so where their texts are.
+/// Two selectors are equal if their types and their values are, and so if their texts are.
 impl PartialEq for Selector {
     ghost eq = { selector_eq };
 
@@ -118,7 +117,7 @@ impl PartialOrd for Selector {
     }
 }
 
-/// The order is that of the types' bytes, then of the values': `a:x` stands before `a!:y`.
+/// Selectors are ordered by the bytes of the type, then of the value: `a:x` comes before `a!:y`.
 impl Ord for Selector {
     ghost cmp = { selector_cmp };
 
@@ -143,7 +142,7 @@ impl fmt::Display for Selector {
     }
 }
 
-/// The first fault of a text.
+/// Returns the first fault of a text, if it has one.
 #[tactic(auto, unfolding(crate::specs::Selector::selector_refusal))]
 fn selector_refusal(text: &str) -> Option<SelectorRefusal>
     ensures { result ≡ selector_refusal text.now }

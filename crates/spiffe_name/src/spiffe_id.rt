@@ -16,7 +16,7 @@ use std::marker::Model;
 
 /// A SPIFFE ID: `spiffe://` in lower case, a trust domain, and a path of segments each after a `/`, in at most 2,048
 /// bytes. A segment is one or more of `a-z`, `A-Z`, `0-9`, `.`, `-`, `_`, and isn't `.` or `..` (SPIFFE-ID, sections
-/// 2.1 to 2.3, narrowed as `docs/NAMES.md` tells). A contract sees it as its text.
+/// 2.1 to 2.3, narrowed as `docs/NAMES.md` says). The model in contracts is its text.
 #[derive(Debug, Drop)]
 pub struct SpiffeId {
     text: String,
@@ -39,7 +39,7 @@ impl SpiffeId {
     ghost use Rattle.spiffe_name.specs.Id.{Spells, domain_of, id_refusal, path_of, path_text, server_segments, server_text};
     ghost use Rattle.spiffe_name.specs.Failures.{FailsBy, IsNoMemory};
 
-    /// Reads an ID. The error is the first of [`IdRefusal`] that holds, in its order, or want of memory.
+    /// Parses an ID. The error is the first [`IdRefusal`] that applies, in their order, or out of memory.
     pub fn parse(alloc: Global, text: &str) -> Result<SpiffeId, Failure<IdRefusal>>
         ensures table { MatchResult result
             (λ id. (id ≡ text.now) × (id_refusal text.now ≡ None))
@@ -57,7 +57,7 @@ impl SpiffeId {
         }
     }
 
-    /// The ID of the server of a trust domain: `spiffe://`, the domain, and the path `/spire/server`.
+    /// Makes the ID of the server of a trust domain: `spiffe://`, the domain, and the path `/spire/server`.
     pub fn server_of(alloc: Global, domain: &TrustDomain) -> Result<SpiffeId, AllocError>
         ensures id { IfOk result (λ id. id ≡ server_text domain.now) }
         ensures spelled { OnOk result (Spells (server_text domain.now) domain.now server_segments) }
@@ -68,7 +68,7 @@ impl SpiffeId {
         Ok(SpiffeId { text })
     }
 
-    /// The trust domain's text: what stands between `spiffe://` and the path.
+    /// Returns the trust domain's text, which is between `spiffe://` and the path.
     pub fn domain(&self) -> &str
         ensures computed { result.now ≡ domain_of self.now }
         ensures part { (segments : List (List ℕ)) × Spells self.now result.now segments }
@@ -77,7 +77,7 @@ impl SpiffeId {
         &text[9..domain_end(text.as_bytes())]
     }
 
-    /// The path: each segment after a `/`; the empty text for an ID with no segment.
+    /// Returns the path: a `/` before each segment. It is empty if the ID has no segment.
     pub fn path(&self) -> &str
         ensures computed { result.now ≡ path_of self.now }
         ensures part { (domain : List ℕ) × (segments : List (List ℕ))
@@ -87,7 +87,7 @@ impl SpiffeId {
         &text[domain_end(text.as_bytes())..]
     }
 
-    /// The text.
+    /// Returns the text.
     pub fn as_str(&self) -> &str
         ensures text { result.now ≡ self.now }
         ensures id { (domain : List ℕ) × (segments : List (List ℕ)) × Spells self.now domain segments }
@@ -106,7 +106,7 @@ impl Clone for SpiffeId {
     }
 }
 
-/// Two IDs are equal where their texts are.
+/// Two IDs are equal if their texts are.
 impl PartialEq for SpiffeId {
     ghost eq = { bytes_eq };
 
@@ -131,7 +131,7 @@ impl PartialOrd for SpiffeId {
     }
 }
 
-/// The order is that of the texts' bytes.
+/// IDs are ordered by the bytes of their texts.
 impl Ord for SpiffeId {
     ghost cmp = { slice_cmp nat_cmp };
 
@@ -154,7 +154,7 @@ impl fmt::Display for SpiffeId {
     }
 }
 
-/// Is this one of the characters of a path's segment?
+/// Returns true if a path segment may contain this byte.
 fn is_path_byte(byte: u8) -> bool
     ensures { result ≡ is_path_byte byte }
 {
@@ -167,7 +167,7 @@ fn all_path_bytes(bytes: &[u8]) -> bool
     bytes.iter().all(|byte| is_path_byte(*byte))
 }
 
-/// The first fault of one segment.
+/// Returns the first fault of one segment, if it has one.
 #[tactic(auto, unfolding(crate::specs::Id::segment_refusal))]
 fn segment_refusal(segment: &[u8]) -> Option<IdRefusal>
     ensures { result ≡ segment_refusal segment.now }
@@ -184,7 +184,7 @@ fn segment_refusal(segment: &[u8]) -> Option<IdRefusal>
     None
 }
 
-/// The fault of the first bad segment of a path, whose first `/` is left out.
+/// Returns the fault of the first bad segment of a path, which is given without its first `/`.
 fn segments_refusal(path: &[u8]) -> Option<IdRefusal>
     ensures { result ≡ segments_refusal (slice_split is_slash path.now) }
 {
@@ -197,7 +197,7 @@ fn segments_refusal(path: &[u8]) -> Option<IdRefusal>
     None
 }
 
-/// The index of the first `/`, or the length where there is none.
+/// Returns the index of the first `/`, or the length if there is none.
 fn first_slash(bytes: &[u8]) -> usize
     ensures first { result ≡ position_or_len is_slash bytes.now }
     ensures bound { result ≤ length bytes.now }
@@ -208,7 +208,7 @@ fn first_slash(bytes: &[u8]) -> usize
         .unwrap_or(bytes.len())
 }
 
-/// The index at which the trust domain of an ID ends.
+/// Returns the index at which the trust domain of an ID ends.
 fn domain_end(text: &[u8]) -> usize
     requires { 9 ≤ length text.now }
     ensures end { result ≡ 9 + position_or_len is_slash (drop 9 text.now) }
@@ -217,7 +217,7 @@ fn domain_end(text: &[u8]) -> usize
     9 + first_slash(&text[9..])
 }
 
-/// The first fault of what stands behind `spiffe://`.
+/// Returns the first fault of the text after `spiffe://`, if it has one.
 #[tactic(auto, using(crate::proofs::Ids::parts_lemmas))]
 fn parts_refusal(rest: &[u8]) -> Option<IdRefusal>
     ensures { result ≡ parts_refusal (slice_split is_slash rest.now) }
@@ -232,7 +232,7 @@ fn parts_refusal(rest: &[u8]) -> Option<IdRefusal>
     }
 }
 
-/// The first fault of a text.
+/// Returns the first fault of a text, if it has one.
 #[tactic(auto, unfolding(crate::specs::Id::id_refusal))]
 fn refusal_of(text: &[u8]) -> Option<IdRefusal>
     ensures { result ≡ id_refusal text.now }

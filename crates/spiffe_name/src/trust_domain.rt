@@ -13,8 +13,8 @@ use std::cmp::Ordering;
 use std::fmt;
 use std::marker::Model;
 
-/// The name of a trust domain: 1 to 255 bytes of `a-z`, `0-9`, `.`, `-`, `_` (SPIFFE-ID, sections 2.1 and 2.3). A
-/// contract sees it as its text.
+/// The name of a trust domain: 1 to 255 bytes of `a-z`, `0-9`, `.`, `-`, `_` (SPIFFE-ID, sections 2.1 and 2.3). The
+/// model in contracts is its text.
 #[derive(Debug, Drop)]
 pub struct TrustDomain {
     text: String,
@@ -37,8 +37,8 @@ impl TrustDomain {
     ghost use Rattle.spiffe_name.specs.Domain.{domain_refusal, IsDomain};
     ghost use Rattle.spiffe_name.specs.Failures.{FailsBy, IsNoMemory};
 
-    /// Reads a trust domain. The error is the first of `NoDomain`, `DomainTooLong` and `DomainChar` that holds, or
-    /// want of memory.
+    /// Parses a trust domain. The error is the first of `NoDomain`, `DomainTooLong` and `DomainChar` that applies, or
+    /// out of memory.
     pub fn parse(alloc: Global, text: &str) -> Result<TrustDomain, Failure<IdRefusal>>
         ensures table { MatchResult result
             (λ domain. (domain ≡ text.now) × (domain_refusal text.now ≡ None))
@@ -54,7 +54,7 @@ impl TrustDomain {
         }
     }
 
-    /// The text.
+    /// Returns the text.
     pub fn as_str(&self) -> &str
         ensures text { result.now ≡ self.now }
         ensures domain { IsDomain self.now }
@@ -73,7 +73,7 @@ impl Clone for TrustDomain {
     }
 }
 
-/// Two trust domains are equal where their texts are.
+/// Two trust domains are equal if their texts are.
 impl PartialEq for TrustDomain {
     ghost eq = { bytes_eq };
 
@@ -98,7 +98,7 @@ impl PartialOrd for TrustDomain {
     }
 }
 
-/// The order is that of the texts' bytes.
+/// Trust domains are ordered by the bytes of their texts.
 impl Ord for TrustDomain {
     ghost cmp = { slice_cmp nat_cmp };
 
@@ -121,7 +121,7 @@ impl fmt::Display for TrustDomain {
     }
 }
 
-/// Is this one of the characters of a trust domain?
+/// Returns true if a trust domain may contain this byte.
 pub(crate) fn is_domain_byte(byte: u8) -> bool
     ensures { result ≡ is_domain_byte byte }
 {
@@ -134,7 +134,7 @@ fn all_domain_bytes(bytes: &[u8]) -> bool
     bytes.iter().all(|byte| is_domain_byte(*byte))
 }
 
-/// The first fault of a trust domain.
+/// Returns the first fault of a trust domain, if it has one.
 #[tactic(auto, unfolding(crate::specs::Domain::domain_refusal))]
 pub(crate) fn domain_refusal(domain: &[u8]) -> Option<IdRefusal>
     ensures { result ≡ domain_refusal domain.now }

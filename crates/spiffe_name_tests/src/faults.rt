@@ -6,7 +6,7 @@ use std::alloc::Global;
 use std::process::Abort;
 use std::test::Fail;
 
-/// The code of a text that is no ID; `ok` for an ID, whose text is the one that was read.
+/// Returns the code of the refusal of a text as an ID, or `ok`; then also checks the text of the parsed ID.
 fn id_fault(rt: &impl Abort, alloc: Global, text: &str) -> Result<&'static str, Fail> {
     match SpiffeId::parse(alloc, text) {
         Ok(id) => {
@@ -40,7 +40,7 @@ fn selector_fault(rt: &impl Abort, alloc: Global, text: &str) -> Result<&'static
     }
 }
 
-/// The fault of a text as a name of this kind.
+/// Returns the code of the refusal of a text as a name of this kind, or `ok`.
 fn fault(rt: &impl Abort, alloc: Global, kind: &str, text: &str) -> Result<&'static str, Fail> {
     match kind {
         "ID" => id_fault(rt, alloc, text),
@@ -50,7 +50,7 @@ fn fault(rt: &impl Abort, alloc: Global, kind: &str, text: &str) -> Result<&'sta
     }
 }
 
-/// The text that is told: what stands before a star, and then a piece as often as the count says that stands between them.
+/// Expands `START*COUNT PIECE` to the start and that many copies of the piece. A text without a star stays as it is.
 fn text_of(alloc: Global, told: &str) -> Result<String, Fail> {
     let (start, pieces) = told.split_once('*').unwrap_or((told, "0 "));
     let (count, piece) = pieces.split_once(' ').unwrap_or((pieces, ""));
@@ -65,8 +65,8 @@ fn check_line(rt: &impl Abort, alloc: Global, kind: &str, line: &str) -> Result<
     Ok(())
 }
 
-/// Is the code at the start of each line that of the text which is told behind it, as a name of this kind? A code alone is that of the
-/// empty text.
+/// Checks a table. Each line has a code and a text, which gets this code as a name of this kind. A line with a code alone is about
+/// the empty text.
 pub(crate) fn check(rt: &impl Abort, alloc: Global, kind: &str, table: &str) -> Result<(), Fail> {
     for line in table.lines() {
         check_line(rt, alloc, kind, line)?;

@@ -77,24 +77,24 @@ fn the_longest_ids_and_domains(rt: HostRuntime) -> Result<(), Fail> {
     check(&rt, rt.alloc(), "trust domain", DOMAINS)
 }
 
-/// The ID of a text. Nothing is said of it, so that no caller's proof computes what the grammar says of a literal.
+/// The ID of a text. It has no contract, so that callers' proofs don't evaluate the grammar on a literal.
 fn id_of(alloc: Global, text: &str) -> Result<SpiffeId, Fail> {
     Ok(SpiffeId::parse(alloc, text)?)
 }
 
-/// The trust domain of a text. Nothing is said of it either.
+/// The trust domain of a text. It has no contract either.
 fn domain_of(alloc: Global, text: &str) -> Result<TrustDomain, Fail> {
     Ok(TrustDomain::parse(alloc, text)?)
 }
 
-/// In each line an ID, its trust domain, and its path, if it has one.
+/// Each line has an ID, its trust domain, and its path, if it has one.
 const PARTS: &str = "\
 spiffe://ex.org ex.org
 spiffe://ex.org/web ex.org /web
 spiffe://ex.org/spire/agent/n1 ex.org /spire/agent/n1
 ";
 
-/// The ID of the line has these parts, and equals its clone.
+/// Asserts that the ID of the line has these parts, and equals its clone.
 fn has_parts(rt: &impl Abort, alloc: Global, line: &str) -> Result<(), Fail> {
     let (text, parts) = line.split_once(' ').unwrap_or((line, ""));
     let (domain, path) = parts.split_once(' ').unwrap_or((parts, ""));
@@ -105,7 +105,7 @@ fn has_parts(rt: &impl Abort, alloc: Global, line: &str) -> Result<(), Fail> {
     Ok(())
 }
 
-/// The ID of a trust domain's server is this one, and the domain equals its clone.
+/// Asserts that the ID of a trust domain's server is this one, and that the domain equals its clone.
 fn has_server(rt: &impl Abort, alloc: Global, text: &str, want: &str) -> Result<(), Fail> {
     let domain = domain_of(alloc, text)?;
     holds(rt, domain.clone()? == domain, text);
@@ -114,7 +114,7 @@ fn has_server(rt: &impl Abort, alloc: Global, text: &str, want: &str) -> Result<
     Ok(())
 }
 
-/// The first ID is another one than the second, and below it.
+/// Asserts that the first ID differs from the second and is less.
 fn is_below(rt: &impl Abort, alloc: Global, text: &str, other: &str) -> Result<(), Fail> {
     let id = id_of(alloc, text)?;
     let other = id_of(alloc, other)?;
@@ -123,14 +123,14 @@ fn is_below(rt: &impl Abort, alloc: Global, text: &str, other: &str) -> Result<(
     Ok(())
 }
 
-/// The first trust domain is below the second.
+/// Asserts that the first trust domain is less than the second.
 fn is_domain_below(rt: &impl Abort, alloc: Global, text: &str, other: &str) -> Result<(), Fail> {
     let domain = domain_of(alloc, text)?;
     holds(rt, domain < domain_of(alloc, other)?, text);
     Ok(())
 }
 
-/// An ID and a trust domain are printed as their texts.
+/// Asserts that an ID and a trust domain are printed as their texts.
 fn are_printed(rt: &impl Abort, alloc: Global, id: &str, domain: &str) -> Result<(), Fail> {
     let printed = format!(in alloc; "{}", id_of(alloc, id)?)?;
     is_text(rt, printed.as_str(), id, "print of an ID");

@@ -6,7 +6,7 @@
 //! - `selectors`: selectors.
 //! - `selector_sets`: sets of selectors.
 //! - `faults`: tables of texts, each with its first fault.
-//! - `wanted`: what a test wants to see.
+//! - `wanted`: assertions.
 #![tactic(auto)]
 
 #[cfg(test)]

@@ -1,4 +1,4 @@
-//! Sets of selectors: their order, and how two of them lie to one another.
+//! Sets of selectors: their order, subsets and common members.
 
 use crate::wanted::{holds, is_number, is_text};
 use spiffe_name::{Selector, SelectorSet, one_set_is_one_list};
@@ -6,7 +6,7 @@ use std::alloc::Global;
 use std::process::Abort;
 use std::test::Fail;
 
-/// The set of the selectors whose texts stand here, with spaces between them.
+/// Makes the set of the selectors in a text, where spaces separate them.
 fn set_of(alloc: Global, texts: &str) -> Result<SelectorSet, Fail> {
     let mut selectors = Vec::new(alloc);
     for text in texts.split_whitespace() {
@@ -15,14 +15,14 @@ fn set_of(alloc: Global, texts: &str) -> Result<SelectorSet, Fail> {
     Ok(SelectorSet::of(selectors)?)
 }
 
-/// In each line selectors that are given, and those of their set in order.
+/// Each line has some selectors, and the selectors of their set in order.
 const ORDERED: &str = "\
 u:2 u:1 u:2 => u:1 u:2
 a!:y a:x a:b:c A:z a:x => A:z a:b:c a:x a!:y
 =>
 ";
 
-/// The set of the selectors that are given has these in order.
+/// Asserts that the set of the given selectors has the wanted ones, in order.
 fn is_ordered(rt: &impl Abort, alloc: Global, given: &str, wanted: &str) -> Result<(), Fail> {
     let set = set_of(alloc, given)?;
     let count = wanted.split_whitespace().count();
@@ -47,7 +47,7 @@ fn sets_are_ordered_by_type_then_value(rt: HostRuntime) -> Result<(), Fail> {
     Ok(())
 }
 
-/// In each line two sets, and how they lie to one another.
+/// Each line has two sets, and how they are related.
 const PAIRS: &str = "\
 x:1 x:2 and x:1 x:2 => within, meets, is met
 x:1 x:2 and x:3 x:2 x:1 => within, meets, is met
@@ -58,7 +58,7 @@ and x:2 => within
 x:1 and => apart
 ";
 
-/// Is the first set within the other one, does it meet that, and does that meet it?
+/// Describes whether the first set is a subset of the second, and whether each meets the other.
 fn told(own: &SelectorSet, other: &SelectorSet) -> &'static str {
     match (own.within(other), own.meets(other), other.meets(own)) {
         (true, true, true) => "within, meets, is met",
@@ -69,7 +69,7 @@ fn told(own: &SelectorSet, other: &SelectorSet) -> &'static str {
     }
 }
 
-/// The two sets of a line lie so to one another.
+/// Asserts that the two sets of a line are related as it says.
 fn lie(rt: &impl Abort, alloc: Global, case: &str) -> Result<(), Fail> {
     let (sets, want) = case.split_once(" => ").unwrap_or((case, "no arrow"));
     let (own, other) = sets.split_once("and").unwrap_or((sets, "no other set"));

@@ -24,12 +24,12 @@ ok ü:*254 é
 S1 ü:*255 é
 ";
 
-/// The selector of a text. Nothing is said of it, so that no caller's proof computes what the grammar says of a literal.
+/// The selector of a text. It has no contract, so that callers' proofs don't evaluate the grammar on a literal.
 fn selector_of(alloc: Global, text: &str) -> Result<Selector, Fail> {
     Ok(Selector::parse(alloc, text)?)
 }
 
-/// The type and the value of the selector are these, it equals its clone and is printed as its text.
+/// Asserts the type and the value of the selector, that it equals its clone, and that it is printed as its text.
 fn has_parts(
     rt: &impl Abort,
     alloc: Global,
