@@ -1,4 +1,4 @@
--- In a lawful book an authorised alias is held by the agent itself: no identity and no agent has the server's ID.
+-- In a lawful book, the agent itself holds each of its authorised aliases: no identity and no agent has the server's ID.
 use Rattle.std.proofs.Common.{◌≡◌, ◌≢◌, ℕ, ◌+◌, Bool, true, false, not, cond, ◌++◌, length, drop, Option, Some, None, refl, sym, ap, ◌∙◌, ⊎_elim}
 use Rattle.std.specs.Prelude.{bytes_eq, nat_lt}
 use Rattle.std.proofs.Math.Seq.{drop-append-add, drop-append_seam}
@@ -21,7 +21,7 @@ use Rattle.entry_book.proofs.Servers.{server_path}
 
 -- ---- an agent's ID isn't the server's
 
--- the table, with the answers to its tests
+-- the table, with the results of its tests
 abbrev lines : Bool → Bool → Bool → Option OpFault
 lines foreign many agents = cond foreign (Some ForeignId) (cond many (Some Selectors) (cond (not agents) (Some AgentPath) None))
 

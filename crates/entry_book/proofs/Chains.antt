@@ -19,7 +19,7 @@ module _ (s : Bytes) (a : Agent) (es : List Entry) where
   pub more : (n : ℕ) (e c : Entry) → Within es c → e.parent ≡ c.identity → ends_within s a es n c ≡ true → ends_within s a es (suc n) e ≡ true
   more n e c w q t = or_right (starts s a e) _ (within_any (λ c. bytes_eq e.parent c.identity && ends_within s a es n c) es c w (and_from _ _ (text_same e.parent c.identity q) t))
 
-  -- by what an entry ends a chain of at most n + 2 entries
+  -- why an entry ends a chain of at most n + 2 entries
   pub less : (n : ℕ) (e : Entry) → ends_within s a es (suc n) e ≡ true → (starts s a e ≡ true) ⊎ ((c : Entry) × Within es c × (e.parent ≡ c.identity) × (ends_within s a es n c ≡ true))
   less n e h = ⊎_elim (λ t. inl t) (λ v. let r = from_any (λ c. bytes_eq e.parent c.identity && ends_within s a es n c) es v in let k = and_parts _ _ r.2 in inr (r.0, r.1, text_is e.parent (r.0).identity k.0, k.1)) (or_cases (starts s a e) _ h)
 
@@ -96,7 +96,7 @@ begins_is s a e h = ⊎_elim (λ k. inl (holds_is s a e k)) (λ k. inr (text_is 
 is_begins : (s : Bytes) (a : Agent) (e : Entry) → Begins s a e → starts s a e ≡ true
 is_begins s a e h = ⊎_elim (λ k. or_left _ _ (is_holds s a e k)) (λ k. or_right (holds s a e) _ (text_same e.parent a.id k)) h
 
--- ---- from the computation to a chain: one entry more at the end
+-- ---- from the computation to a chain: one more entry at the end
 
 starts_more : (s : Bytes) (a : Agent) (xs : List Entry) (e : Entry) → Starts s a xs → Starts s a (xs ++ e ∷ [])
 starts_more s a [] e h = absurd h
@@ -149,7 +149,7 @@ pub authorised_in_order : (s : Bytes) (a : Agent) (b : Book) → Ascending entry
 unfolding authorised
 authorised_in_order s a b h = ascending_filter entry_key (ends_within s a b.entries (length b.entries)) b.entries h
 
--- ---- entries that a chain reaches at once, or with one step more
+-- ---- entries that a chain reaches immediately, or with one more step
 
 pub begun_is_authorised : (s : Bytes) (a : Agent) (b : Book) (e : Entry) → Within b.entries e → Holds s a e ⊎ (e.parent ≡ a.id) → Within (authorised s a b) e
 begun_is_authorised s a b e w h = (ends_of_chains s a b e).1 ([], record { of_book = (w, tt); start = h; linked = tt })
@@ -163,7 +163,7 @@ next_is_authorised s a b c e w v q =
 pub child_is_authorised : (s : Bytes) (a : Agent) (b : Book) (e : Entry) → Within b.entries e → (e.parent ≡ a.id) ⊎ ((c : Entry) × Within (authorised s a b) c × (e.parent ≡ c.identity)) → Within (authorised s a b) e
 child_is_authorised s a b e w h = ⊎_elim (λ p. begun_is_authorised s a b e w (inr p)) (λ r. next_is_authorised s a b r.0 e w r.1 r.2) h
 
--- by what an entry is one of them
+-- why an entry is one of them
 last_step : (s : Bytes) (a : Agent) (b : Book) (n : ℕ) (e : Entry) → ends_within s a b.entries n e ≡ true → (Holds s a e ⊎ (e.parent ≡ a.id)) ⊎ ((c : Entry) × Within b.entries c × (e.parent ≡ c.identity))
 last_step s a b zero e h = inl (begins_is s a e h)
 last_step s a b (suc n) e h = ⊎_elim (λ u. inl (begins_is s a e u)) (λ r. inr (r.0, r.1, r.2)) (less s a b.entries n e h)

@@ -1,4 +1,4 @@
--- What a list of writes of entries leaves: each entry of the list is replaced by another of its id, or taken away.
+-- The effect of a list of writes of entries: each entry of the list is replaced by another of its id, or removed.
 use Rattle.std.proofs.Common.{◌≡◌, Bool, true, false, not, ◌⊎◌, List, [], ◌∷◌, ◌++◌, Option, Some, None, refl, sym, ap, subst, ◌∙◌, inl, inr, ⊎_elim, IfSome}
 use Rattle.std.specs.Prelude.{filter, map, option_to_list, if◌then◌else◌}
 use Rattle.std.proofs.lemmas.Bool.{both_ways, cases_Bool}
@@ -47,7 +47,7 @@ module _ {X : Type 0} (key : X → Bytes) where
     ascending_map f k xs a.1,
   )
 
--- ---- each entry of a list is replaced by what f says of it
+-- ---- each entry of a list is replaced by the result of f
 
 abbrev pub rewritten : (Entry → Option Entry) → Entry → RowWrite
 rewritten f e = wrote_entry (record { key = e.id; old = Some e; new = f e })
@@ -113,7 +113,7 @@ module _ (f : Entry → Option Entry) (keyed : (e : Entry) → IfSome (f e) (λ 
         (λ d v. within_with_row entry_key e.id (f e) b.entries d (h d (inr v)) (apart entry_key e es s d v)),
   )
 
-  -- and then a bundle is taken away
+  -- and then a bundle is removed
   pub rewritten_then_fits : (es : List Entry) (d : Bundle) (b : Book) → AscendingBook b → Ascending entry_key es → ((e : Entry) → Within es e → Within b.entries e) → Within b.bundles d → FitAll (map (rewritten f) es ++ bundle_removed d ∷ []) b
   rewritten_then_fits es d b a s h w = fit-append (map (rewritten f) es) (bundle_removed d ∷ []) b
       (rewritten_fits es b a.entries s h)
@@ -130,7 +130,7 @@ gone_keyed e = tt
 freed_keyed : (domain : Bytes) (e : Entry) → IfSome (Some (dissociated domain e)) (λ x. x.id ≡ e.id)
 freed_keyed domain e = refl
 
--- an entry that none of those that pass has the id of doesn't pass, and an entry that doesn't pass has no id of theirs
+-- an entry doesn't pass exactly if none of those that pass has its id
 fails : (p : Entry → Bool) (b : Book) (x : Entry) → Within b.entries x → Untouched (filter p b.entries) x → p x ≡ false
 fails p b x w n = ⊎_elim (λ t. absurd (n x (within_filter p b.entries x w t) refl)) (λ t. t) (cases_Bool (p x))
 
@@ -158,7 +158,7 @@ after_removed p b a =
     kept_in_changed gone gone_keyed es b.entries x r.0 (untouched p b a x r.0 (not_is (p x) r.1))) in
     after-rewritten gone es b ∙ ap (λ rows. record b { entries = rows }) same
 
--- what passes the test is freed
+-- an entry that passes the test is freed
 abbrev pub freed_if : Bytes → (Entry → Bool) → Entry → Entry
 freed_if domain p e = if p e then dissociated domain e else e
 
@@ -195,7 +195,7 @@ after_freed domain p b a =
     (cases_Bool (p r.0))) in
     after-rewritten new es b ∙ ap (λ rows. record b { entries = rows }) same
 
--- ---- and then a bundle is taken away
+-- ---- and then a bundle is removed
 
 pub after_removed_then : (p : Entry → Bool) (d : Bundle) (b : Book) → AscendingBook b → after (map removed (filter p b.entries) ++ bundle_removed d ∷ []) b ≡ record b { entries = filter (λ e. not (p e)) b.entries; bundles = with_row bundle_key d.domain None b.bundles }
 after_removed_then p d b a = after-append (map removed (filter p b.entries)) (bundle_removed d ∷ []) b ∙ ap (after (bundle_removed d ∷ [])) (after_removed p b a)

@@ -1,4 +1,4 @@
--- The set of the domains of a list is the one set of its members.
+-- The set of the domains of a list is the only set with its members.
 use Rattle.std.proofs.Common.{◌≡◌, ℕ, zero, suc, ◌<◌, true, List, [], ◌∷◌, length, get_or, Some, refl, sym, subst, inl, inr, ⊎_elim, ◌↔◌, arith}
 use Rattle.std.specs.List.{Contains}
 use Rattle.entry_book.specs.Order.{Within, is_before, with_row}
@@ -7,7 +7,7 @@ use Rattle.entry_book.proofs.InOrder.{ascending-with_row}
 use Rattle.entry_book.proofs.Keys.{from_with_row, within_with_row, new_with_row}
 use Rattle.entry_book.proofs.Sets.{before-irrefl, before-total, same_sets}
 
--- ---- members, counted from the list's front
+-- ---- members of a list, from its first one on
 
 contains : (xs : List Bytes) (x : Bytes) → Within xs x → Contains xs x
 contains [] x w = absurd w

@@ -1,4 +1,4 @@
--- What drop_bundle comes to, in each mode.
+-- The effect of drop_bundle, in each mode.
 use Rattle.std.proofs.Common.{◌≡◌, ◌≢◌, ◌↔◌, ◌+◌, false, not, ◌⊎◌, List, [], ◌∷◌, Option, Some, None, refl, sym, ap, subst, ◌∙◌, inl, inr, ⊎_elim}
 use Rattle.std.specs.Prelude.{MatchResult, filter, map, bytes_eq}
 use Rattle.std.proofs.lemmas.Bool.{both_ways, cases_Bool}
@@ -113,7 +113,7 @@ freed_from d b s w =
       bundle = subst (DropsOne d.domain b) is (drops_one d b s w (map (freed_if d.domain (names d.domain)) b.entries));
     }
 
--- ---- the bundle, or none
+-- ---- the bundle, or a missing one
 
 by_mode : (m : DropMode) (d : Bundle) (b : Book) → AscendingBook b → Within b.bundles d → MatchResult (drop_in m (users_of d.domain b) d) (DropsBundle d.domain m b) (DropBundleRefused d.domain m b)
 by_mode mode.Restrict d b s w = restricted d b s w (users_of d.domain b) refl

@@ -1,4 +1,4 @@
--- What create, update and delete come to.
+-- The effects of create, update and delete.
 use Rattle.std.proofs.Common.{◌≡◌, ◌≢◌, ℕ, ◌+◌, Bool, true, false, not, ◌⊎◌, ◌∷◌, [], Option, Some, None, refl, sym, inl, inr, ⊎_elim}
 use Rattle.std.specs.Prelude.{MatchResult, bytes_eq, nat_eq, ◌&&◌}
 use Rattle.std.specs.List.{AllByRecursion}
@@ -22,7 +22,7 @@ use Rattle.entry_book.proofs.Sets.{from_within_filter, text_same}
 
 -- ---- an entry that is put into the book
 
--- a similar entry is another one
+-- a similar entry has another id
 is_another : (e : Entry) (b : Book) (f : Entry) → similar e b ≡ Some f → f.id ≡ e.id → ⊥
 is_another e b f h q =
     let r = from_within_filter (λ o. set_eq o.selectors e.selectors && not (bytes_eq o.id e.id)) (group_of e.parent e.identity b) f (first_within entry_key _ f h) in

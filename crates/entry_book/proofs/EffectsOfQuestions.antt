@@ -1,4 +1,4 @@
--- What the questions come to.
+-- The results of the queries.
 use Rattle.std.proofs.Common.{◌≡◌, ◌↔◌, true, List, [], Option, Some, None, refl, subst}
 use Rattle.std.specs.Prelude.{MatchResult, filter, bytes_eq}
 use Rattle.spiffe_name.specs.Id.{server_text}
@@ -42,7 +42,7 @@ children_effect own p b s = record {
   listed = listed_filter entry_key (λ x. bytes_eq x.parent p) (λ x. x.parent ≡ p) b.entries (λ x. (text_is x.parent p, text_same x.parent p)) s.entries;
 }
 
--- ---- questions of an agent
+-- ---- queries of an agent
 
 -- an operation on an agent that the book may lack
 module _ (k : Bytes) (b : Book) (f : Agent → OpResult) (Good : OpEffect → Type 0) (found : (a : Agent) → Within b.agents a → a.id ≡ k → MatchResult (f a) Good (LacksAgent k b)) where

@@ -1,4 +1,4 @@
--- What prune, set_agent, drop_agent and set_bundle come to.
+-- The effects of prune, set_agent, drop_agent and set_bundle.
 use Rattle.std.proofs.Common.{◌≡◌, ◌↔◌, ℕ, true, Option, Some, None, refl, sym, subst}
 use Rattle.std.specs.Prelude.{MatchResult, nat_lt}
 use Rattle.std.proofs.lemmas.Bool.{and_parts, and_from, ltb-true, lt-ltb}

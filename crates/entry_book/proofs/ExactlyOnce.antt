@@ -1,4 +1,4 @@
--- Of the batches with one token at most one is ever committed.
+-- Of the batches with the same token, at most one is ever committed.
 use Rattle.std.proofs.Common.{◌≡◌, ℕ, suc, ◌+◌, ◌-◌, ◌*◌, ◌<◌, Bool, true, false, List, [], ◌∷◌, length, Option, Some, None, Ok, Err, refl, sym, ap, subst, ◌∙◌, IfOk, arith, length-append}
 use Rattle.std.specs.Prelude.{slice_get}
 use Rattle.std.specs.List.{AllByRecursion}
@@ -52,9 +52,9 @@ record Keeps (own token : Bytes) (r : KeptBatch) (books : List Book) : Type 0 wh
 in_order_after : (own : Bytes) (books : List Book) → IsHistory own books → 0 < length books → AscendingBook (last_book books)
 in_order_after own books h s = let l : Lawful own (64 * place_of books) (last_book books) = lawful_history own books h (place_of books) (last_book books) (get_last books s) in l.ascending
 
--- ---- what a batch does to the row of a token
+-- ---- the effect of a batch on the row of a token
 
--- the rows of the run of a batch, and that it leaves those of tokens
+-- the rows of the run of a batch, and that it doesn't change those of tokens
 record RunOf (batch : Batch) (b : Book) (t : RunEffect) : Type 0 where
   order : AscendingBook (after t.writes b)
   leaves : (x : Book) → (after t.writes x).tokens ≡ x.tokens
@@ -108,7 +108,7 @@ stays_all own token r books (x ∷ xs) k m = stays_all own token r (books_after 
 abbrev row : Batch → Bytes → ℕ → List OpReply → KeptBatch
 row batch token n replies = record { token = token; ops = batch.ops; place = n; replies = replies }
 
--- where the verdict is that the batch is committed with these replies, its row is kept with its place
+-- if the batch is committed with these replies, its row is stored with its place
 record IsKept (batch : Batch) (token : Bytes) (books : List Book) (replies : List OpReply) (v : Verdict) : Type 0 where
   kept : HasKept token (Some (row batch token (place_of books + 1) replies)) (books_with books v)
   place : (reply_with (place_of books) v).place ≡ place_of books + 1
@@ -130,7 +130,7 @@ kept_when batch token false books b (Ok t) e a k u =
     let c = after (batch_writes batch (place_of books + 1) t) b in
     kept_within batch token books c t.replies (limit_passed (place_of books) c) (row_kept batch token (place_of books + 1) t b k (sym (ap (λ x. kept_under x b) k) ∙ u) q.leaves)
 
--- a batch with a token doesn't ask for an earlier book
+-- a batch with a token doesn't read an earlier book
 newest : (own token : Bytes) (batch : Batch) → IsMadeFor own batch → batch.token ≡ Some token → past_place batch.ops ≡ None
 newest own token batch m e = of_place (past_place batch.ops) refl
   where

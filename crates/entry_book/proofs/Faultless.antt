@@ -1,4 +1,4 @@
--- What is known of a row that has no fault.
+-- Properties of a row that has no fault.
 use Rattle.std.proofs.Common.{◌≡◌, ◌≢◌, Bool, true, false, ◌||◌, cond, List, length, Option, Some, None, refl, sym, ap, ◌∙◌, arith}
 use Rattle.std.specs.Prelude.{filter, bytes_eq, nat_lt}
 use Rattle.std.proofs.lemmas.Bool.{both_ways}
@@ -13,7 +13,7 @@ use Rattle.entry_book.proofs.Sets.{length_filter_le, text_same}
 
 -- ---- an entry
 
--- the table, with the answers to its tests
+-- the table, with the results of its tests
 abbrev lines : Bool → Bool → Bool → Bool → Bool → Bool → Option OpFault
 lines a b c d t u = cond a (Some ForeignId) (cond b (Some EmptyPath) (cond c (Some ServerIdentity) (cond d (Some Selectors) (cond t (Some TooManyDomains) (cond u (Some HintTooLong) None)))))
 
@@ -45,7 +45,7 @@ not_the_server own e h = λ q. both_ways _ (third _ _ _ _ _ _ (sym (table_is own
 abbrev with_domains : List Bytes → NewEntry → NewEntry
 with_domains ds e = record e { domains = ds }
 
--- with some of its domains it has no fault either
+-- with fewer of its domains it has no fault either
 pub fewer_domains : (own : Bytes) (e : NewEntry) (p : Bytes → Bool) → entry_fault own e ≡ None → entry_fault own (with_domains (filter p e.domains) e) ≡ None
 fewer_domains own e p h =
     let few = length_filter_le p e.domains in

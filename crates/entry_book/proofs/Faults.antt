@@ -29,7 +29,7 @@ refused_of : (domain : Bytes) (ops : List Op) (token : Option Bytes) → batch_r
 unfolding batch_refusal
 refused_of domain ops token = refl
 
--- what comes after the operations is no fault of one of them, and no count
+-- a refusal after the operations is neither the fault of one of them, nor their number
 data Late (ops : List Op) (token : Option Bytes) (r : BatchRefusal) : Type 0 where
   past : (n : ℕ) → beside ops ≡ Some n → r ≡ PastPageNotAlone n → Late ops token r
   asks : beside ops ≡ None → (is_some token && is_query ops) ≡ true → r ≡ TokenOnQuery → Late ops token r
@@ -45,7 +45,7 @@ late_of ops token r None e h = late_when ops token r (is_some token && is_query 
 late : (ops : List Op) (token : Option Bytes) (r : BatchRefusal) → after_ops ops token ≡ Some r → Late ops token r
 late ops token r h = late_of ops token r (beside ops) refl h
 
--- an operation of a list that is refused is at fault, or none is and the refusal comes later
+-- a refused list has an operation with a fault, or none has a fault and it is refused later
 data Refused (domain : Bytes) (ops : List Op) (later : Option BatchRefusal) (r : BatchRefusal) : Type 0 where
   of_op : (n : ℕ) (f : OpFault) → r ≡ OfOp n f → Refused domain ops later r
   after : NoneAtFault domain ops → later ≡ Some r → Refused domain ops later r
@@ -193,7 +193,7 @@ pub page_of : (op : Op) (n : ℕ) → place_asked op ≡ Some n → PageOf op n
 page_of (Page q) n h = record { query = q; is_page = refl; at = h }
 page_of op n h = cc
 
--- operations of which none asks for an earlier book, in both words
+-- no page of these operations gives the number of a book, in both definitions
 pub asks_last : (ops : List Op) → NoneAsks ops → AskForLast ops
 asks_last [] h = λ q w. absurd w
 asks_last (op ∷ ops) h = λ q w. ⊎_elim (λ e. ap place_asked (sym e) ∙ h.0) (λ v. asks_last ops h.1 q v) w
@@ -323,7 +323,7 @@ not_both : (a b : Bool) → (a ≡ true → b ≡ false) → (a && b) ≡ false
 not_both true b h = h refl
 not_both false b h = refl
 
--- the parts of what comes after all operations, where nothing does
+-- the parts of the checks after all operations, if none of them refuses
 after_none : (ops : List Op) (token : Option Bytes) (o : Option ℕ) → beside ops ≡ o → or_token o ops token ≡ None → (beside ops ≡ None) × (is_some token ≡ true → is_query ops ≡ false)
 after_none ops token (Some n) e h = cc
 after_none ops token None e h = (e, not_asking (is_some token) (is_query ops) h)
@@ -339,7 +339,7 @@ not_refused domain ops token = (
 
 -- ---- too few, and too many
 
--- a list is refused for its count, or for one of its operations, or later
+-- a list is refused for its number of operations, or for one of them, or later
 not_late_count : (ops : List Op) (token : Option Bytes) (r : BatchRefusal) → ((n : ℕ) → r ≡ PastPageNotAlone n → ⊥) → (r ≡ TokenOnQuery → ⊥) → Late ops token r → ⊥
 not_late_count ops token r p q (past n e h) = p n h
 not_late_count ops token r p q (asks e t h) = q h

@@ -27,7 +27,7 @@ filter-kept : {X : Type 0} (p : X → Bool) (o : Option X) → filter p (option_
 filter-kept p None = refl
 filter-kept p (Some x) = elim (p x) as (λ c. cond c (x ∷ []) [] ≡ option_to_list (cond c (Some x) None)) [ true ↦ refl | false ↦ refl ]
 
--- the rows that pass, after a write, are the rows that passed after the write of what passes
+-- the rows that pass after a write are the rows that passed, after the write of the new row if it passes
 pub filter-with_row : {X : Type 0} (key : X → Bytes) (p : X → Bool) (k : Bytes) (new : Option X) (rows : List X) → filter p (with_row key k new rows) ≡ with_row key k (kept p new) (filter p rows)
 unfolding with_row
 filter-with_row key p k new rows =

@@ -38,7 +38,7 @@ adds_with books (repeats n replies) l h = cc
 pub commit_adds : (batch : Batch) (books : List Book) → 0 < length books → commits batch books ≡ true → ((b : Book) × (books_after batch books ≡ books ++ b ∷ []) × (last_book (books_after batch books) ≡ b)) × ((reply_to batch books).place ≡ length books)
 commit_adds batch books l h = adds_with books (verdict batch (place_of books) (book_for (past_place batch.ops) books)) l h
 
--- a batch that isn't committed leaves the books, and is answered at the last one's place, or at that of the commit that it repeats
+-- a batch that isn't committed leaves the books; its place is the last one's number, or that of the commit that it repeats
 leaves_with : (books : List Book) (v : Verdict) → is_committed (reply_with (place_of books) v).outcome ≡ false → (books_with books v ≡ books) × (is_repeated (reply_with (place_of books) v).outcome ≡ false → (reply_with (place_of books) v).place ≡ place_of books)
 leaves_with books (refuses r) h = (refl, λ e. refl)
 leaves_with books (answers replies) h = (refl, λ e. refl)
@@ -56,20 +56,20 @@ only_ask n false batch b (Ok t) h = cc
 pub queries_only_ask : (batch : Batch) (books : List Book) → is_query batch.ops ≡ true → commits batch books ≡ false
 queries_only_ask batch books h = of_verdict (λ v. is_committed (reply_with (place_of books) v).outcome ≡ false) batch (place_of books) (λ r. refl) (λ n rs. refl) (book_for (past_place batch.ops) books) (λ b e k. only_ask (place_of books) (is_query batch.ops) batch b (run batch.domain batch.ops b) h)
 
--- what a batch comes to that no operation refuses
+-- the outcome of a batch if no operation refuses it
 pub verdict_answers : (query : Bool) (batch : Batch) (n : ℕ) (b : Book) (r : RunResult) (t : RunEffect) → query ≡ true → r ≡ Ok t → verdict_when query batch n b r ≡ answers t.replies
 verdict_answers query batch n b r t q e = ap (λ x. verdict_when x batch n b r) q ∙ ap (verdict_when true batch n b) e
 
 pub verdict_changes : (query : Bool) (batch : Batch) (n : ℕ) (b : Book) (r : RunResult) (t : RunEffect) (o : Option Limit) → query ≡ false → r ≡ Ok t → limit_passed n (after (batch_writes batch (n + 1) t) b) ≡ o → verdict_when query batch n b r ≡ adds_within o t.replies (after (batch_writes batch (n + 1) t) b)
 verdict_changes query batch n b r t o q e l = ap (λ x. verdict_when x batch n b r) q ∙ (ap (verdict_when false batch n b) e ∙ ap (λ x. adds_within x t.replies (after (batch_writes batch (n + 1) t) b)) l)
 
--- what a query comes to leaves the books
+-- the outcome of a query leaves the books
 pub asks_with : (P : List Book → Type 0) (books : List Book) (query : Bool) (batch : Batch) (n : ℕ) (b : Book) (r : RunResult) → query ≡ true → P books → P (books_with books (verdict_when query batch n b r))
 asks_with P books query batch n b (Err s) q h = h
 asks_with P books true batch n b (Ok t) q h = h
 asks_with P books false batch n b (Ok t) q h = cc
 
--- ---- one batch more
+-- ---- one more batch
 
 books_from-snoc : (books : List Book) (batches : List Batch) (batch : Batch) → books_from books (batches ++ batch ∷ []) ≡ books_after batch (books_from books batches)
 books_from-snoc books [] batch = refl
@@ -117,7 +117,7 @@ history_goes_on own batch books h m =
     (λ t. subst (IsHistory own) (sym (others_leave batch books t).0) h)
     (cases_Bool (commits batch books))
 
--- ---- a history ends
+-- ---- a history is bounded
 
 -- within the limits, the place is below 2^48
 pub place_within : (n : ℕ) (b : Book) → limit_passed n b ≡ None → n < 2 ^ 48
@@ -193,7 +193,7 @@ kept_lawful : (own : Bytes) (m n : ℕ) (batch : Batch) (b : Book) (r : RunResul
 kept_lawful own m n batch b (Ok t) d s l h = writes_keep own (64 * n) n batch t b d s (omega arith) (wider (64 * n) l h)
 kept_lawful own m n batch b (Err r) d s l h = tt
 
--- a batch leads from lawful book n to a book that is lawful as book n + 1
+-- a batch turns lawful book n into a book that is lawful as book n + 1
 pub batch_keeps : (own : Bytes) (batch : Batch) (n : ℕ) (b : Book) → IsMadeFor own batch → Lawful own (64 * n) b → IfOk (run batch.domain batch.ops b) (λ t. Lawful own (64 * (n + 1)) (after (batch_writes batch (n + 1) t) b))
 batch_keeps own batch n b m l =
     let fine : AreFaultless batch.domain batch.ops = no_fault batch.domain batch.ops batch.token m.no_fault in

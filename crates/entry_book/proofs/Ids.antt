@@ -59,7 +59,7 @@ from_id_of own id i = (not_foreign own id (i.0 ∷ i.1) i.2, ap (λ p. length p 
 
 -- ---- an agent's ID
 
--- where a slash ends both, the segments before it are one
+-- if a slash follows both, the segments before it are the same
 cut : (s w r : Bytes) (ss : List Bytes) → list_all is_path_byte s ≡ true → list_all is_path_byte w ≡ true → s ++ path_text ss ≡ w ++ 47 ∷ r → (s ≡ w) × (path_text ss ≡ 47 ∷ r)
 cut [] [] r ss h k e = (refl, e)
 cut [] (x ∷ w) r [] h k e = cc

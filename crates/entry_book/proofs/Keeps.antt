@@ -71,7 +71,7 @@ others_lawful own m b p l = lawful_milder own m b (filter (λ e. not (p e)) b.en
 prune_keeps : (own : Bytes) (m moment : ℕ) (b : Book) → Lawful own m b → Lawful own m (after (map removed (expired_before moment b)) b)
 prune_keeps own m moment b l = rw (after_removed (expires_before moment) b l.ascending) (others_lawful own m b (expires_before moment) l)
 
--- ---- questions of an agent, and an agent that is dropped
+-- ---- queries of an agent, and an agent that is dropped
 
 read_keeps : (own : Bytes) (m : ℕ) (b : Book) (o : Option Agent) (f : Agent → OpResult) → ((a : Agent) → KeepsAnswer own m (f a) b) → KeepsAnswer own m (for_agent o f) b
 read_keeps own m b None f h = tt
@@ -114,7 +114,7 @@ milder_freed own m k e h = record {
   low = omega arith;
 }
 
--- an entry, freed where it names the domain
+-- an entry, freed if it names the domain
 abbrev freed_user : Bytes → Entry → Entry
 freed_user k e = if names k e then dissociated k e else e
 
@@ -139,7 +139,7 @@ freed_names_not k e = elim (names k e) as (λ t. names k e ≡ t → names k (co
   | false ↦ λ h. h
 ] refl
 
--- a book of which no entry names the domain, without the domain's bundle
+-- a book in which no entry names the domain, without the domain's bundle
 without_unused : (own : Bytes) (m : ℕ) (b : Book) (d : Bundle) → Within b.bundles d → Lawful own m b → users_of d.domain b ≡ [] → Lawful own m (after (bundle_removed d ∷ []) b)
 without_unused own m b d w l h = lawful_bundle own m b l d.domain (Some d) None (λ q. l.not_own (d, w, q)) tt (λ _. h)
 
@@ -172,7 +172,7 @@ drop_keeps : (own : Bytes) (m : ℕ) (b : Book) → Lawful own m b → (k : Byte
 drop_keeps own m b l k by None h = tt
 drop_keeps own m b l k by (Some d) h = mode_keeps own m b l d (at_row bundle_key k b.bundles d h).0 by
 
--- ---- an accepted operation leaves a lawful book, and raises no revision or sequence by more than 1
+-- ---- an accepted operation leaves a lawful book, and raises each revision and sequence by at most 1
 
 pub op_keeps : (own : Bytes) (m : ℕ) (op : Op) (b : Book) → IsProperOp op → op_fault own op ≡ None → Lawful own m b → IfOk (op_of own op b) (λ d. Lawful own (m + 1) (after d.writes b))
 op_keeps own m (Create e) b p h l = create_keeps own (m + 1) (at_revision 0 e) b p h (omega arith) (wider (m + 1) (omega arith) l) (entry_at e.id b)
@@ -208,6 +208,6 @@ run_to : (own : Bytes) (m n : ℕ) (ops : List Op) (b : Book) → m + length ops
 run_to own m n [] b e p f l = wider n (omega arith) l
 run_to own m n (op ∷ ops) b e p f l = then_keeps own (m + 1) n b (op_of own op b) (λ d. run own ops (after d.writes b)) (op_keeps own m op b p.0 f.0 l) (λ d k. run_to own (m + 1) n ops (after d.writes b) (omega arith) p.1 f.1 k)
 
--- a batch leaves a lawful book, and raises no revision or sequence by more than it has operations
+-- a batch leaves a lawful book, and raises each revision and sequence by at most its number of operations
 pub run_keeps : (own : Bytes) (m : ℕ) (ops : List Op) (b : Book) → AllByRecursion IsProperOp ops → AllByRecursion (λ op. op_fault own op ≡ None) ops → Lawful own m b → IfOk (run own ops b) (λ t. Lawful own (m + length ops) (after t.writes b))
 run_keeps own m ops b p f l = run_to own m (m + length ops) ops b refl p f l

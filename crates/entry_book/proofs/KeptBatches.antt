@@ -1,4 +1,4 @@
--- What a commit with a token adds to the tokens, and that each batch that is kept was committed.
+-- What a commit with a token adds to the tokens, and that each stored batch was committed.
 use Rattle.std.proofs.Common.{◌≡◌, ◌⊎◌, ℕ, ◌+◌, Bool, true, false, List, [], ◌∷◌, ◌++◌, length, Option, Some, None, Ok, Err, refl, sym, ap, subst, ◌∙◌, inl, inr, ⊎_elim, IfOk, arith}
 use Rattle.std.specs.Prelude.{map, option_to_list}
 use Rattle.std.specs.List.{AllByRecursion}
@@ -28,7 +28,7 @@ use Rattle.entry_book.proofs.TokenRows.{run_leaves}
 abbrev row : Bytes → List Op → ℕ → List OpReply → KeptBatch
 row k ops n replies = record { token = k; ops = ops; place = n; replies = replies }
 
--- it is what a commit keeps
+-- the row that a commit stores
 abbrev IsNew : Option Bytes → List Op → ℕ → List OpReply → KeptBatch → Type 0
 IsNew token ops n replies k = (token ≡ Some k.token) × (k.ops ≡ ops) × (k.place ≡ n) × (k.replies ≡ replies)
 
@@ -94,9 +94,9 @@ written_in batch n b (Err s) f l = tt
 pub tokens_written : (batch : Batch) (n : ℕ) (b : Book) → IsTokenFree batch.token b → IfOk (run batch.domain batch.ops b) (TokenWritten batch n b)
 tokens_written batch n b f = written_in batch n b (run batch.domain batch.ops b) f (run_leaves batch.domain batch.ops b)
 
--- ---- each batch that is kept was committed
+-- ---- each stored batch was committed
 
--- what is in the last book after a batch is in the one before, or it is that of the batch, which is committed
+-- a row of the last book after a batch is in the book before, or it is that of the batch, which is committed
 data FromBatch (batch : Batch) (books : List Book) (v : Verdict) (k : KeptBatch) : Type 0 where
   before : Within (last_book books).tokens k → FromBatch batch books v k
   of_it : batch.token ≡ Some k.token → batch.ops ≡ k.ops → k.place ≡ place_of books + 1 → reply_with (place_of books) v ≡ record { place = k.place; outcome = Committed k.replies } → FromBatch batch books v k
@@ -138,7 +138,7 @@ from_read own batch books b (Some n) p m e = from_asked (is_query batch.ops) (ru
 from_batch : (own : Bytes) (batch : Batch) (books : List Book) → IsMadeFor own batch → KeptFrom batch books (verdict batch (place_of books) (book_for (past_place batch.ops) books))
 from_batch own batch books m = of_verdict (KeptFrom batch books) batch (place_of books) (λ r k w. before w) (λ n rs k w. before w) (book_for (past_place batch.ops) books) (λ b e u. from_read own batch books b (past_place batch.ops) refl m e)
 
--- the same along batches, from some books on
+-- the same for a list of batches, beginning with some books
 data CameFrom (books : List Book) (batches : List Batch) (k : KeptBatch) : Type 0 where
   was_there : Within (last_book books).tokens k → CameFrom books batches k
   came : (front : List Batch) (batch : Batch) (rest : List Batch) → batches ≡ front ++ batch ∷ rest → batch.token ≡ Some k.token → batch.ops ≡ k.ops → k.place ≡ place_of (books_from books front) + 1 → reply_to batch (books_from books front) ≡ record { place = k.place; outcome = Committed k.replies } → CameFrom books batches k

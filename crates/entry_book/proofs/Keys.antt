@@ -7,7 +7,7 @@ use Rattle.entry_book.proofs.Sets.{All-within, within_filter, from_within_filter
 use Rattle.entry_book.proofs.InOrder.{ascending-with_row}
 
 module _ {X : Type 0} (key : X → Bytes) where
-  -- two rows of one key are one row
+  -- two rows with the same key are the same row
   pub same_key : (rows : List X) → Ascending key rows → (x y : X) → Within rows x → Within rows y → key x ≡ key y → x ≡ y
   same_key [] a x y w v e = absurd w
   same_key (z ∷ zs) a x y w v e =
@@ -62,7 +62,7 @@ module _ {X : Type 0} (key : X → Bytes) where
   unfolding with_row
   new_with_row k n rows = within_right (filter (λ x. is_before (key x) k) rows) (n ∷ filter (λ x. is_before k (key x)) rows) n (inl refl)
 
-  -- taking away a key that is not there
+  -- removing a key that is not there
   pub without_none : (k : Bytes) (rows : List X) → Ascending key rows → ((x : X) → Within rows x → key x ≡ k → ⊥) → with_row key k None rows ≡ rows
   without_none k rows a n = same_sets key (with_row key k None rows) rows (ascending-with_row key k None rows a tt) a
       (λ x w. ⊎_elim (λ v. absurd v) (λ r. r.0) (from_with_row k None rows x w))

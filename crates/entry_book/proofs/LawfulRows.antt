@@ -33,7 +33,7 @@ some_or (Some x) = inl (x, refl)
 
 -- ---- an entry
 
--- a row that may come into a lawful book in the place of the one at k
+-- a row that may be put into a lawful book in place of the one at k
 pub record MayCome (own : Bytes) (m : ℕ) (b : Book) (k : Bytes) (x : Entry) : Type 0 where
   pub keyed : x.id ≡ k
   pub apart : (f : Entry) → Within b.entries f → x.parent ≡ f.parent → x.identity ≡ f.identity → x.selectors ≡ f.selectors → f.id ≡ k
@@ -77,7 +77,7 @@ lawful_entry own m b l k o n h =
 
 -- ---- entries that are removed, or changed
 
--- a row that has the parent, identity and selectors of the one that it replaces, and no domain more
+-- a row that has the parent, identity and selectors of the one that it replaces, and no further domain
 pub record Milder (own : Bytes) (m : ℕ) (e x : Entry) : Type 0 where
   pub id : x.id ≡ e.id
   pub parent : x.parent ≡ e.parent
@@ -118,7 +118,7 @@ lawful_milder own m b rows l a from = record {
 
 -- ---- an agent
 
--- an agent that may come into a lawful book in the place of the one at k
+-- an agent that may be put into a lawful book in place of the one at k
 pub record AgentMayCome (own k : Bytes) (a : Agent) : Type 0 where
   pub keyed : a.id ≡ k
   pub proper : IsProperAgent a
@@ -148,9 +148,9 @@ lawful_agent own m b l k o n h =
       places = l.places;
     }
 
--- ---- a bundle, which no entry names where it is removed
+-- ---- a bundle; if it is removed, no entry names it
 
--- a bundle that may come into a lawful book in the place of the one at k
+-- a bundle that may be put into a lawful book in place of the one at k
 pub record BundleMayCome (own : Bytes) (m : ℕ) (k : Bytes) (d : Bundle) : Type 0 where
   pub keyed : d.domain ≡ k
   pub proper : IsDomain d.domain
@@ -188,9 +188,9 @@ lawful_bundle own m b l k o n ne h unused =
       places = l.places;
     }
 
--- ---- what is kept of a batch
+-- ---- what is stored for a batch
 
--- a batch that may be kept in a lawful book under this token
+-- a batch that may be stored in a lawful book under this token
 pub record KeptMayCome (own : Bytes) (m : ℕ) (token : Bytes) (k : KeptBatch) : Type 0 where
   pub keyed : k.token ≡ token
   pub made : IsMadeFor own (record { domain = own; ops = k.ops; after = 0; token = Some k.token })

@@ -19,7 +19,7 @@ module _ {X : Type 0} (key : X → Bytes) where
   row_found k rows None h = λ x w e. no_row key k rows h x w e
   row_found k rows (Some x) h = at_row key k rows x h
 
-  -- the same rows in other words
+  -- the same rows, by an equivalent condition
   pub listed_as : (P Q : X → Type 0) (xs : List X) → ((x : X) → P x ↔ Q x) → IsListOf key P xs → IsListOf key Q xs
   listed_as P Q xs f l = record { members = λ x. (λ w. (f x).0 ((l.members x).0 w), λ q. (l.members x).1 ((f x).1 q)); order = l.order }
 
@@ -38,7 +38,7 @@ module _ {X : Type 0} (key : X → Bytes) where
     λ n. ⊎_elim (λ t. absurd (n ((f x).0 t))) (λ t. rw t refl) (cases_Bool (p x)),
   )) a
 
-  -- after a row is put, and after one is taken away
+  -- after a row is put, and after one is removed
   pub listed_put : (k : Bytes) (n : X) (rows : List X) → key n ≡ k → Ascending key rows → IsListOf key (λ x. (x ≡ n) ⊎ (Within rows x × (key x ≢ k))) (with_row key k (Some n) rows)
   listed_put k n rows e a = record {
     members = λ x. (

@@ -1,4 +1,4 @@
--- What holds of each kind of verdict holds of a batch's verdict.
+-- A property of each kind of verdict is a property of a batch's verdict.
 use Rattle.std.proofs.Common.{◌≡◌, ℕ, Bool, true, false, cond, Option, Some, None, List, refl}
 use Rattle.std.specs.Prelude.{nat_lt}
 use Rattle.entry_book.specs.declared.kept.KeptBatch.{KeptBatch}
@@ -27,6 +27,6 @@ module _ (P : Verdict → Type 0) (batch : Batch) (place : ℕ) (of_refusal : (r
   of_time true v h = of_refusal NotYet
   of_time false v h = h
 
-  -- a verdict is a refusal, a repeat, or that of the run on the book that is read, on which the token isn't kept
+  -- a verdict is a refusal, a repeat, or that of the run on the book that is read, which has no row for the token
   pub of_verdict : (o : Option Book) → ((b : Book) → o ≡ Some b → kept_under batch.token b ≡ None → P (verdict_run batch place b)) → P (verdict batch place o)
   of_verdict o h = of_time (nat_lt place batch.after) (verdict_on batch place o) (of_on o h)

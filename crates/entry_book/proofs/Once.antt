@@ -19,7 +19,7 @@ use Rattle.entry_book.proofs.Keys.{without_none}
 use Rattle.entry_book.proofs.Sets.{All-more, ascending_filter, from_within_filter, text_is}
 use Rattle.entry_book.proofs.Shapes.{Shape, nothing, one_row, entries, entries_then, by_shape}
 
--- ---- what a write leaves of the rows at another key
+-- ---- the rows at other keys after a write
 
 module _ {X : Type 0} (key : X → Bytes) where
   not_kept : (k j : Bytes) (new : Option X) → k ≢ j → IfSome new (λ x. key x ≡ k) → kept (λ x. bytes_eq (key x) j) new ≡ None

@@ -1,4 +1,4 @@
--- What a page lists, and what page after page does.
+-- What a page lists, and what page after page lists.
 use Rattle.std.proofs.Common.{◌≡◌, ◌↔◌, ℕ, zero, suc, ◌<◌, ◌≤◌, Bool, true, false, cond, ◌⊎◌, List, [], ◌∷◌, ◌++◌, length, Option, Some, None, IfSome, refl, sym, ap, subst, ◌∙◌, inl, inr, ⊎_elim, arith, length-append, append-nil}
 use Rattle.std.specs.Prelude.{MatchResult, filter, take, drop, nat_lt, if◌then◌else◌}
 use Rattle.std.specs.List.{AllByRecursion}
@@ -96,12 +96,12 @@ last_of (x ∷ y ∷ front) e = last_of (y ∷ front) e
 ends_last : (es : List Entry) (k : Bytes) → EndsWith es k → last_id es ≡ Some k
 ends_last es k v = ap last_id v.2 ∙ last_of v.0 v.1 ∙ ap Some v.3
 
--- ---- a page, and what it leaves
+-- ---- a page, and the entries after it
 
 abbrev next_in : ℕ → List Entry → Option Bytes
 next_in n es = if nat_lt n (length es) then last_id (take n es) else None
 
--- the page is full, and the next one goes on from its last entry
+-- the page is full, and the next one begins after its last entry
 record IsFull (n : ℕ) (es : List Entry) (next : Option Bytes) : Type 0 where
   more : n < length es
   id : Bytes
@@ -150,7 +150,7 @@ page_said p b a = record {
 pub page_effect : (own : Bytes) (p : PageQuery) (b : Book) → AscendingBook b → MatchResult (op_of own (Page p) b) (ListsPage p b) (λ refusal. ⊥)
 page_effect own p b a = record { shown = listed p b; next = next_of p b; is_page = page_said p b a; reply = refl; writes = refl }
 
--- ---- the words settle the page
+-- ---- the words determine the page
 
 fronts : (es fs left rest : List Entry) → es ++ left ≡ fs ++ rest → length es ≡ length fs → es ≡ fs
 fronts [] [] left rest e l = refl
@@ -186,7 +186,7 @@ one_page p b es fs m n l r =
     (same_sets entry_key (es ++ l.left) (fs ++ r.left) l.all.order r.all.order (λ x w. (r.all.members x).1 ((l.all.members x).0 w)) (λ x w. (l.all.members x).1 ((r.all.members x).0 w)))
     l.goes_on r.goes_on
 
--- ---- what comes after the last entry of a page is what the page leaves
+-- ---- the entries after the last one of a page are those that the page leaves
 
 filter_implied : {X : Type 0} (p q : X → Bool) (xs : List X) → ((x : X) → q x ≡ true → p x ≡ true) → filter q (filter p xs) ≡ filter q xs
 filter_implied p q [] h = refl

@@ -1,4 +1,4 @@
--- A batch that asks for an earlier book is one page, which only asks, and carries no token.
+-- A batch that reads an earlier book is a single page, which is read-only, and has no token.
 use Rattle.std.proofs.Common.{◌≡◌, ℕ, true, false, List, [], ◌∷◌, Option, Some, None, refl, sym, ap, ◌∙◌, arith}
 use Rattle.std.specs.Prelude.{is_some}
 use Rattle.entry_book.specs.declared.op.Op.{Op}
@@ -32,7 +32,7 @@ past_page own batch n m h = let k = (not_refused batch.domain batch.ops batch.to
 pub past_asks : (own : Bytes) (batch : Batch) (n : ℕ) → IsMadeFor own batch → past_place batch.ops ≡ Some n → is_query batch.ops ≡ true
 past_asks own batch n m h = let p : IsPastPage batch n = past_page own batch n m h in ap is_query p.ops
 
--- a batch of changes asks for no earlier book
+-- a batch of changes reads no earlier book
 pub changes_newest : (own : Bytes) (batch : Batch) → IsMadeFor own batch → is_query batch.ops ≡ false → past_place batch.ops ≡ None
 changes_newest own batch m q = none_when batch (past_place batch.ops) refl
   where
@@ -40,7 +40,7 @@ changes_newest own batch m q = none_when batch (past_place batch.ops) refl
     none_when batch' None e = e
     none_when batch' (Some n) e = let a : true ≡ false = sym (past_asks own batch n m e) ∙ q in cc
 
--- operations whose pages ask for the last book ask for no earlier one
+-- operations whose pages give no book's number read no earlier book
 pub asks_newest : (ops : List Op) → AskForLast ops → past_place ops ≡ None
 asks_newest [] h = refl
 asks_newest (op ∷ ops) h = (last_asks (op ∷ ops) h).0

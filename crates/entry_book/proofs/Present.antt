@@ -1,4 +1,4 @@
--- Which rows stand at a key, beside an entry, and for a list of domains.
+-- Which rows a key, an entry and a list of domains find.
 use Rattle.std.proofs.Common.{◌≡◌, ℕ, true, false, not, ◌&&◌, cond, List, [], ◌∷◌, ◌++◌, Some, None, refl, sym, ap, subst, ◌∙◌, ⊎_elim}
 use Rattle.std.specs.Prelude.{filter, bytes_eq, is_some}
 use Rattle.std.specs.List.{AllByRecursion}

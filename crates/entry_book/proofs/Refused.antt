@@ -1,4 +1,4 @@
--- An operation is refused for what is due, and for nothing else.
+-- An operation is refused if a refusal is due, and only then.
 use Rattle.std.proofs.Common.{◌≡◌, ℕ, List, [], ◌∷◌, ◌++◌, Option, Ok, Err, refl, sym, ap, subst, ◌∙◌}
 use Rattle.std.specs.Prelude.{MatchResult}
 use Rattle.std.specs.List.{AllByRecursion}

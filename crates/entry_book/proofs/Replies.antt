@@ -1,4 +1,4 @@
--- How many replies a run has, and what a batch writes that only asks.
+-- The number of replies of a run, and what a read-only batch writes.
 use Rattle.std.proofs.Common.{◌≡◌, ℕ, suc, true, List, [], ◌∷◌, ◌++◌, length, Option, Some, None, Ok, Err, IfOk, refl, ap, ◌∙◌}
 use Rattle.std.proofs.lemmas.Bool.{and_parts}
 use Rattle.entry_book.specs.declared.agent.Agent.{Agent}
@@ -12,7 +12,7 @@ use Rattle.entry_book.specs.Ops.{OpEffect, OpResult, done, for_agent, op_of}
 use Rattle.entry_book.specs.Runs.{RunResult, onto, then_run, run}
 use Rattle.entry_book.specs.Batches.{is_question, is_query}
 
--- ---- each operation has its reply
+-- ---- there is one reply for each operation
 
 abbrev Replies : ℕ → RunResult → Type 0
 Replies n r = IfOk r (λ t. length t.replies ≡ n)
@@ -29,7 +29,7 @@ pub run_replies : (domain : Bytes) (ops : List Op) (b : Book) → IfOk (run doma
 run_replies domain [] b = refl
 run_replies domain (op ∷ ops) b = then_replies (length ops) (op_of domain op b) (λ d. run domain ops (after d.writes b)) (λ d. run_replies domain ops (after d.writes b))
 
--- ---- questions
+-- ---- queries
 
 abbrev WritesNothing : OpResult → Type 0
 WritesNothing o = IfOk o (λ d. d.writes ≡ [])

@@ -1,4 +1,4 @@
--- What the run of a batch's operations comes to.
+-- The result of running a batch's operations.
 use Rattle.std.proofs.Common.{◌≡◌, ℕ, suc, ◌+◌, List, [], ◌∷◌, ◌++◌, length, Result, Ok, Err, IfOk, refl, sym, ap, ◌∙◌, append_assoc, arith}
 use Rattle.std.specs.Prelude.{MatchResult}
 use Rattle.std.proofs.lemmas.List.{append-nil}
@@ -16,7 +16,7 @@ use Rattle.entry_book.proofs.Fits.{in_order, op_fits}
 
 -- ---- two lists of operations, one after the other
 
--- what comes after n operations that ran so
+-- the result of operations that follow n others with this result
 abbrev shifted : ℕ → RunEffect → RunResult → RunResult
 shifted n t (Ok u) = Ok (record { replies = t.replies ++ u.replies; writes = t.writes ++ u.writes })
 shifted n t (Err s) = Err (record s { op = s.op + n })
@@ -56,7 +56,7 @@ run_append domain (x ∷ xs) ys b = over_op (length xs) b (op_of domain x b) (λ
     (λ d. run_append domain xs ys (after d.writes b))
     (λ d t. ap (run domain ys) (sym (after-append d.writes t.writes b)))
 
--- ---- one operation more
+-- ---- one more operation
 
 one_more : (n : ℕ) (t : RunEffect) (o : OpResult) → MatchResult o (λ d. shifted n t (then_run o (λ d. finished [] [])) ≡ finished (t.replies ++ d.reply ∷ []) (t.writes ++ d.writes)) (λ r. shifted n t (then_run o (λ d. finished [] [])) ≡ stop n r)
 one_more n t (Ok d) = ap (λ ws. finished (t.replies ++ d.reply ∷ []) (t.writes ++ ws)) (append-nil d.writes)

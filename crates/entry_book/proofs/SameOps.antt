@@ -20,7 +20,7 @@ use Rattle.entry_book.specs.SameOps.{agent_eq, drop_mode_eq, entry_eq, filter_eq
 use Rattle.entry_book.proofs.Present.{set_is, set_same}
 use Rattle.entry_book.proofs.Sets.{text_is, text_same}
 
--- a test that holds just of what is the same
+-- a test that holds exactly for equal values
 record Tells {X : Type 0} (same : X → X → Bool) : Type 0 where
   is : (x y : X) → same x y ≡ true → x ≡ y
   refl_of : (x : X) → same x x ≡ true

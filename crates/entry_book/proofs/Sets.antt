@@ -112,7 +112,7 @@ module _ {X : Type 0} where
   length_filter_le p [] = omega arith
   length_filter_le p (x ∷ xs) = let h = length_filter_le p xs in elim (p x) as (λ b. length (cond b (x ∷ filter p xs) (filter p xs)) ≤ suc (length xs)) [ true ↦ omega arith | false ↦ omega arith ]
 
-  -- where all pass by count, all pass
+  -- if as many pass as there are, all pass
   pub all_pass : (p : X → Bool) (xs : List X) → length xs ≤ length (filter p xs) → (x : X) → Within xs x → p x ≡ true
   all_pass p [] h x w = absurd w
   all_pass p (y ∷ ys) h x w =
@@ -121,7 +121,7 @@ module _ {X : Type 0} where
         | false ↦ λ e k. let l = length_filter_le p ys in absurd (omega arith)
       ] refl h
 
-  -- a wider test passes more, or the same
+  -- a weaker test passes at least as many
   pub count_grows : (p q : X → Bool) (xs : List X) → ((x : X) → Within xs x → p x ≡ true → q x ≡ true) → (length (filter p xs) < length (filter q xs)) ⊎ ((length (filter p xs) ≤ length (filter q xs)) × ((x : X) → Within xs x → q x ≡ true → p x ≡ true))
   count_grows p q [] f = inr (omega arith, λ x w t. absurd w)
   count_grows p q (y ∷ ys) f =

@@ -1,4 +1,4 @@
--- What an operation that isn't refused writes: nothing, one row, each of the entries that pass a test, or these and then a bundle that is taken away.
+-- What an accepted operation writes: nothing, one row, the entries that pass a test, or these and then a bundle that is removed.
 use Rattle.std.proofs.Common.{◌≡◌, ℕ, ◌+◌, Bool, true, false, List, [], ◌∷◌, ◌++◌, Option, Some, None, Ok, Err, refl, sym, ap, ◌∙◌, IfSome, IfOk}
 use Rattle.std.specs.Prelude.{filter, map, option_to_list}
 use Rattle.entry_book.specs.declared.agent.Agent.{Agent}
@@ -28,7 +28,7 @@ module _ (op : Op) (b : Book) where
   abbrev ShapeAnswer : OpResult → Type 0
   ShapeAnswer o = IfOk o (Shape op b)
 
-  -- ---- an entry that is put in the place of the old one of its id, or taken away
+  -- ---- an entry that is put in place of the old one of its id, or removed
 
   named : (old : Option Entry) (e : Entry) → entry_at e.id b ≡ old → rows_named op b ≡ entry_of e.id ∷ [] → (q : Option Bytes) → ShapeAnswer (put_named q old e)
   named old e h n (Some d) = tt
@@ -58,7 +58,7 @@ module _ (op : Op) (b : Book) where
   delete k expected n None h = tt
   delete k expected n (Some e) h = let r = at_row entry_key k b.entries e h in deleted e r.0 (n ∙ ap (λ j. entry_of j ∷ []) (sym r.1)) (is_stale expected e)
 
-  -- ---- an agent that is asked for, or dropped
+  -- ---- an agent that is queried or dropped
 
   of_agent : (f : Agent → OpResult) (o : Option Agent) → ((a : Agent) → o ≡ Some a → ShapeAnswer (f a)) → ShapeAnswer (for_agent o f)
   of_agent f None h = tt
@@ -99,7 +99,7 @@ shape_of own (DropAgent k) b = of_agent (DropAgent k) b agent_dropped (agent_at 
 shape_of own (SetBundle domain text) b = one_row _ (λ a. record { found = rows_at bundle_key domain b.bundles a.bundles; keyed = refl }) refl refl
 shape_of own (DropBundle domain m) b = drop (DropBundle domain m) b domain m refl (bundle_at domain b) refl
 
--- ---- what holds of each shape holds of each operation
+-- ---- a property of each shape is a property of each operation
 
 pub by_shape : (own : Bytes) (op : Op) (b : Book) (P : OpEffect → Type 0) → ((d : OpEffect) → Shape op b d → P d) → IfOk (op_of own op b) P
 by_shape own op b P f = over (op_of own op b) (shape_of own op b)

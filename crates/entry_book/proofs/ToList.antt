@@ -1,4 +1,4 @@
--- Two filters are one.
+-- Two filters in sequence are one filter.
 use Rattle.std.proofs.Common.{◌≡◌, Bool, true, false, ◌&&◌, cond, List, [], ◌∷◌, refl, ap}
 use Rattle.std.specs.Prelude.{filter}
 use Rattle.entry_book.specs.declared.page.PageQuery.{PageQuery}

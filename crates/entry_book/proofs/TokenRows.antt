@@ -1,4 +1,4 @@
--- What the writes of a batch do to the rows of tokens: those of its operations leave them, and the last one adds a row.
+-- The effect of a batch's writes on the rows of tokens: those of its operations don't change them, and the last one adds a row.
 use Rattle.std.proofs.Common.{◌≡◌, ℕ, ◌*◌, ◌<◌, ◌≤◌, Bool, true, List, [], ◌∷◌, ◌++◌, Option, Some, None, Ok, Err, length, refl, sym, ap, subst, ◌∙◌, IfSome, IfOk}
 use Rattle.std.specs.Prelude.{filter, map, bytes_eq}
 use Rattle.entry_book.specs.declared.kept.KeptBatch.{KeptBatch}
@@ -93,13 +93,13 @@ fits_in : (batch : Batch) (n : ℕ) (b : Book) (r : RunResult) → kept_under ba
 fits_in batch n b (Ok t) h l f = fit-append t.writes (token_writes batch.token batch.ops n t.replies) b f (token_fits batch.token batch.ops n t.replies b (after t.writes b) h (l b))
 fits_in batch n b (Err s) h l f = tt
 
--- the writes of a batch whose token isn't kept find the rows that they name
+-- the writes of a batch without a row for its token find the rows that they name
 pub batch_fits : (batch : Batch) (n : ℕ) (b : Book) → kept_under batch.token b ≡ None → IfOk (run batch.domain batch.ops b) (λ t. FitAll t.writes b) → IfOk (run batch.domain batch.ops b) (λ t. FitAll (batch_writes batch n t) b)
 batch_fits batch n b h f = fits_in batch n b (run batch.domain batch.ops b) h (run_leaves batch.domain batch.ops b) f
 
 -- ---- it keeps a book lawful
 
--- what is kept of a batch that was made for a trust domain was made for it
+-- what is stored for a batch that was made for a trust domain was made for it
 kept_made : (own k : Bytes) (batch : Batch) → IsMadeFor own batch → batch.token ≡ Some k → IsMadeFor own (record { domain = own; ops = batch.ops; after = 0; token = Some k })
 kept_made own k batch m e = record {
   domain_is = refl;
@@ -115,7 +115,7 @@ token_keeps own m n batch (Some k) replies b d e s h l = lawful_kept own m b l k
 pub writes_keep : (own : Bytes) (m n : ℕ) (batch : Batch) (t : RunEffect) (b : Book) → IsMadeFor own batch → 0 < n → 64 * n ≤ m → Lawful own m (after t.writes b) → Lawful own m (after (batch_writes batch n t) b)
 writes_keep own m n batch t b d s h l = subst (Lawful own m) (sym (after-append t.writes (token_writes batch.token batch.ops n t.replies) b)) (token_keeps own m n batch batch.token t.replies (after t.writes b) d refl s h l)
 
--- ---- what is kept after a batch
+-- ---- what is stored after a batch
 
 found_new : (k : Bytes) (r : KeptBatch) (rows : List KeptBatch) → r.token ≡ k → filter (λ x. bytes_eq x.token k) rows ≡ [] → first (filter (λ x. bytes_eq x.token k) (with_row token_key k (Some r) rows)) ≡ Some r
 unfolding with_row
@@ -124,7 +124,7 @@ found_new k r rows e h =
     let t : p r ≡ true = text_same r.token k e in
     ap first (filter-with_row token_key p k (Some r) rows ∙ (ap (with_row token_key k (kept p (Some r))) h)) ∙ rw t refl
 
--- a batch that commits keeps its row
+-- a batch that commits stores its row
 pub row_kept : (batch : Batch) (k : Bytes) (n : ℕ) (t : RunEffect) (b : Book) → batch.token ≡ Some k → token_at k b ≡ None → ((x : Book) → (after t.writes x).tokens ≡ x.tokens) → token_at k (after (batch_writes batch n t) b) ≡ Some (record { token = k; ops = batch.ops; place = n; replies = t.replies })
 row_kept batch k n t b e h l =
     let r : KeptBatch = record { token = k; ops = batch.ops; place = n; replies = t.replies } in
@@ -132,7 +132,7 @@ row_kept batch k n t b e h l =
     ∙ (ap (token_at k) (after-append t.writes (token_writes (Some k) batch.ops n t.replies) b)
     ∙ found_new k r (after t.writes b).tokens refl (ap (filter (λ x. bytes_eq x.token k)) (l b) ∙ token_none k b.tokens h))
 
--- another token's row stays
+-- the row of another token stays
 beside_stays : (token : Option Bytes) (j : Bytes) (ops : List Op) (n : ℕ) (replies : List OpReply) (b : Book) → Ascending token_key b.tokens → (token ≡ Some j → ⊥) → token_at j (after (token_writes token ops n replies) b) ≡ token_at j b
 beside_stays None j ops n replies b a h = refl
 beside_stays (Some k) j ops n replies b a h = ap first (rows_beside token_key k j (Some (record { token = k; ops = ops; place = n; replies = replies })) b.tokens (λ e. h (ap Some e)) refl a)

@@ -1,4 +1,4 @@
--- What has no fault is what the direct words say.
+-- The tables find no fault exactly if the direct words say so.
 use Rattle.std.proofs.Common.{◌≡◌, ◌≢◌, ◌↔◌, ℕ, ◌<◌, ◌≤◌, Bool, true, false, not, ◌||◌, cond, List, [], ◌∷◌, length, Option, Some, None, IfSome, refl, ap, arith}
 use Rattle.std.specs.Prelude.{⊤, bytes_eq, nat_lt}
 use Rattle.std.proofs.lemmas.Bool.{both_ways}
@@ -94,7 +94,7 @@ none_entry own e h =
 pub entry_faults : (own : Bytes) (e : NewEntry) → IsProperEntry e → (entry_fault own e ≡ None) ↔ FaultlessEntry own e
 entry_faults own e p = (entry_none own e p.parent p.identity, none_entry own e)
 
--- ---- a parent and an agent that are asked for
+-- ---- a parent and an agent that are queried
 
 parent_faults : (own id : Bytes) → IsId id → (parent_fault own id ≡ None) ↔ IsIdOf own id
 unfolding parent_fault

@@ -1,4 +1,4 @@
--- What each kind of batch comes to.
+-- The outcome of each kind of batch.
 use Rattle.std.proofs.Common.{◌≡◌, ◌⊎◌, ℕ, zero, suc, ◌+◌, ◌<◌, ◌≤◌, Bool, true, false, List, [], ◌∷◌, ◌++◌, length, Option, Some, None, Ok, Err, refl, sym, ap, ◌∙◌, ⊎_elim, arith}
 use Rattle.std.specs.Prelude.{map, nat_lt, slice_get, take}
 use Rattle.std.proofs.lemmas.Bool.{cases_Bool}
@@ -46,7 +46,7 @@ on_newest batch books k h n e =
     ∙ (ap (λ o. verdict_on batch (place_of books) (book_for o books)) n
     ∙ ap (λ o. verdict_over o batch (place_of books) (last_book books)) e)
 
--- where no batch was committed with the token, none is kept
+-- if no batch was committed with the token, none is stored
 pub free_kept : (token : Option Bytes) (b : Book) → IsTokenFree token b → kept_under token b ≡ None
 free_kept None b h = refl
 free_kept (Some t) b h = none_found (token_at t b) refl
@@ -128,7 +128,7 @@ page_now batch n p = record batch { ops = Page (record p.query { at = None }) �
 now_is : (batch : Batch) (n : ℕ) → (p : IsPastPage batch n) → batch_now batch ≡ page_now batch n p
 now_is batch n p = ap (λ ops. record batch { ops = map asked_now ops; after = 0 }) p.ops ∙ ap (λ t. record batch { ops = Page (record p.query { at = None }) ∷ []; after = 0; token = t }) p.token
 
--- what a page is answered, whatever place it is asked at
+-- the reply to a page, at any place
 outcome_now : (batch : Batch) (n place : ℕ) (books : List Book) (b : Book) → (p : IsPastPage batch n) → last_book books ≡ b → (reply_with place (verdict_run batch place b)).outcome ≡ (reply_to (batch_now batch) books).outcome
 outcome_now batch n place books b p e =
     ap (λ v. (reply_with place v).outcome) (page_alone batch place b n p)

@@ -17,7 +17,7 @@ use Rattle.entry_book.specs.Laws.{IsFirstPassed, IsWithinLimits}
 use Rattle.entry_book.proofs.Sets.{All-more}
 use Rattle.entry_book.proofs.OfVerdict.{of_verdict}
 
--- the table, with the answers to its tests
+-- the table, with the results of its tests
 abbrev lines : Bool → Bool → Bool → Bool → Bool → Option Limit
 lines a b c d e = cond a (Some of.History) (cond b (Some of.Entries) (cond c (Some of.Agents) (cond d (Some of.Bundles) (cond e (Some of.Tokens) None))))
 
@@ -56,7 +56,7 @@ none_is_passed place b = (
       (not_from place (2 ^ 48) p) (not_passed 16384 (length b.entries) w.entries) (not_passed 4096 (length b.agents) w.agents) (not_passed 1024 (length b.bundles) w.bundles) (not_passed 65536 (length b.tokens) w.tokens),
 )
 
--- the tests of which a limit is the first that holds
+-- the tests for which a limit is the first that is passed
 abbrev IsFirst : Limit → Bool → Bool → Bool → Bool → Bool → Type 0
 IsFirst of.History a b c d e = a ≡ true
 IsFirst of.Entries a b c d e = (a ≡ false) × (b ≡ true)
@@ -64,7 +64,7 @@ IsFirst of.Agents a b c d e = (a ≡ false) × (b ≡ false) × (c ≡ true)
 IsFirst of.Bundles a b c d e = (a ≡ false) × (b ≡ false) × (c ≡ false) × (d ≡ true)
 IsFirst of.Tokens a b c d e = (a ≡ false) × (b ≡ false) × (c ≡ false) × (d ≡ false) × (e ≡ true)
 
--- the answers to the tests where a limit is the first one
+-- the results of the tests if a limit is the first one
 first_fails : (limit : Limit) (a b c d e : Bool) → lines a b c d e ≡ Some limit → IsFirst limit a b c d e
 first_fails limit true b c d e h = let q : of.History ≡ limit = cc in subst (λ l. IsFirst l true b c d e) q refl
 first_fails limit false true c d e h = let q : of.Entries ≡ limit = cc in subst (λ l. IsFirst l false true c d e) q (refl, refl)

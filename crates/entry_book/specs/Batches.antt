@@ -1,4 +1,4 @@
--- Which lists of operations are a batch, and which batches only ask.
+-- Which lists of operations are a batch, and which batches are read-only.
 use Rattle.std.specs.Prelude.{◌≡◌, ⊤, ℕ, ◌+◌, Bool, true, false, not, ◌&&◌, ◌||◌, ◌==◌, List, [], ◌∷◌, length, codes, nat_lt, nat_eq, Option, Some, None, IfSome, is_some, bytes_eq, if◌then◌else◌}
 use Rattle.std.specs.List.{AllByRecursion, list_all, starts_with}
 use Rattle.spiffe_name.specs.Failures.{refuse_if}
@@ -17,14 +17,15 @@ use Rattle.entry_book.specs.declared.fault.BatchRefusal.{BatchRefusal}
 use Rattle.entry_book.specs.declared.fault.BatchRefusal.TheVariants.{NoOps, TooManyOps, OfOp, PastPageNotAlone, TokenOnQuery}
 use Rattle.entry_book.specs.Rows.{Bytes, IsId, IsProperEntry, IsProperAgent}
 
--- A batch: the trust domain that it was made for, its operations in order, the least place at which it may run, and the token, a UUID, under which its commit is kept, where it carries one.
+-- A batch: the trust domain that it was made for, its operations in order, the minimum place at which it may run, and optionally a
+-- token, a UUID under which its commit is stored.
 pub record Batch : Type 0 where
   pub domain : Bytes
   pub ops : List Op
   pub after : ℕ
   pub token : Option Bytes
 
--- ---- which batches only ask
+-- ---- which batches are read-only
 
 abbrev pub is_question : Op → Bool
 is_question (Create e) = false
@@ -46,27 +47,27 @@ is_question (DropBundle d mode) = false
 abbrev pub is_query : List Op → Bool
 is_query ops = list_all is_question ops
 
--- ---- which batches ask for an earlier book: a page that gives the number of a book reads that one
+-- ---- which batches read an earlier book: a page that gives the number of a book reads that book
 
 abbrev pub place_asked : Op → Option ℕ
 place_asked (Page q) = q.at
 place_asked op = None
 
--- the book that a batch asks for, where it doesn't run on the last one; its page stands alone
+-- the number that the first operation gives, if it is a page that gives one; in a batch, such a page is the only operation
 abbrev pub past_place : List Op → Option ℕ
 past_place [] = None
 past_place (op ∷ ops) = place_asked op
 
--- ---- the table of faults: the least code first within an operation, then operation by operation
+-- ---- the table of faults: within an operation the fault with the least code, then operation by operation
 
--- an ID of another trust domain
+-- whether an ID is of another trust domain
 abbrev pub is_foreign : Bytes → Bytes → Bool
 is_foreign domain id = not (bytes_eq (domain_of id) domain)
 
 abbrev pub has_no_path : Bytes → Bool
 has_no_path id = length (path_of id) == 0
 
--- not 1 to 16
+-- whether the number of selectors isn't 1 to 16
 abbrev pub is_outside : List SelectorPair → Bool
 is_outside selectors = length selectors == 0 || nat_lt 16 (length selectors)
 
@@ -83,19 +84,19 @@ entry_fault domain e =
     refuse_if (nat_lt 1024 (length e.hint)) HintTooLong
     None)))))
 
--- a parent that is asked for
+-- the fault of a parent in a query
 unfoldable pub parent_fault : Bytes → Bytes → Option OpFault
 parent_fault domain parent =
     refuse_if (is_foreign domain parent) ForeignId (
     refuse_if (has_no_path parent) EmptyPath
     None)
 
--- where a part of a filter is given, does this hold of it?
+-- whether a part of a filter is given and this holds of it
 abbrev pub if_given : {X : Type 0} → (X → Bool) → Option X → Bool
 if_given p None = false
 if_given p (Some x) = p x
 
--- a page; what its filter gives
+-- the fault of a page: of the IDs and selectors that its filter gives, and of its size
 unfoldable pub page_fault : Bytes → PageQuery → Option OpFault
 page_fault domain q =
     refuse_if (if_given (is_foreign domain) q.filter.parent || if_given (is_foreign domain) q.filter.identity) ForeignId (
@@ -104,14 +105,14 @@ page_fault domain q =
     refuse_if (nat_lt q.size 1 || nat_lt 500 q.size) PageSize
     None)))
 
--- an agent that is asked for, or dropped
+-- the fault of an agent that is queried or dropped
 unfoldable pub asked_fault : Bytes → Bytes → Option OpFault
 asked_fault domain id =
     refuse_if (is_foreign domain id) ForeignId (
     refuse_if (not (is_agent_path (path_of id))) AgentPath
     None)
 
--- an agent that is set; it may have no selectors
+-- the fault of an agent that is set; it may have no selectors
 unfoldable pub agent_fault : Bytes → Agent → Option OpFault
 agent_fault domain a =
     refuse_if (is_foreign domain a.id) ForeignId (
@@ -119,13 +120,13 @@ agent_fault domain a =
     refuse_if (not (is_agent_path (path_of a.id))) AgentPath
     None))
 
--- a bundle that is dropped
+-- the fault of a bundle that is dropped
 unfoldable pub own_fault : Bytes → Bytes → Option OpFault
 own_fault domain d =
     refuse_if (bytes_eq d domain) OwnDomainBundle
     None
 
--- a bundle that is set
+-- the fault of a bundle that is set
 unfoldable pub bundle_fault : Bytes → Bytes → Bytes → Option OpFault
 bundle_fault domain d text =
     refuse_if (bytes_eq d domain) OwnDomainBundle (
@@ -153,17 +154,17 @@ abbrev pub or_later : Option OpFault → ℕ → Option BatchRefusal → Option 
 or_later (Some fault) n later = Some (OfOp n fault)
 or_later None n later = later
 
--- the first fault of an operation, of operations counted from n, or else what comes after all operations
+-- the first fault of an operation, with its index counted from n; or `later` if no operation has a fault
 abbrev pub ops_refusal : Bytes → ℕ → List Op → Option BatchRefusal → Option BatchRefusal
 ops_refusal domain n [] later = later
 ops_refusal domain n (op ∷ ops) later = or_later (op_fault domain op) n (ops_refusal domain (n + 1) ops later)
 
--- the first page that asks for an earlier book, of operations counted from n
+-- the index, counted from n, of the first page that gives the number of a book
 abbrev pub first_past : ℕ → List Op → Option ℕ
 first_past n [] = None
 first_past n (op ∷ ops) = if is_some (place_asked op) then Some n else first_past (n + 1) ops
 
--- such a page beside another operation
+-- the same, if there are several operations
 abbrev pub beside : List Op → Option ℕ
 beside ops = if nat_lt 1 (length ops) then first_past 0 ops else None
 
@@ -177,7 +178,7 @@ batch_refusal domain ops token =
     refuse_if (nat_lt 64 (length ops)) TooManyOps (
     ops_refusal domain 0 ops (or_token (beside ops) ops token)))
 
--- ---- what the types of an operation's parts see to
+-- ---- the invariants of the types of an operation's parts
 
 pub record IsProperPage (q : PageQuery) : Type 0 where
   pub from : IfSome q.from (λ k. length k ≡ 16)
@@ -203,7 +204,7 @@ IsProperOp (DropAgent k) = IsId k
 IsProperOp (SetBundle d text) = IsDomain d
 IsProperOp (DropBundle d mode) = IsDomain d
 
--- A batch that was made for this trust domain: none of the faults holds of it.
+-- A batch that was made for this trust domain: none of the faults applies, and its parts satisfy the invariants of their types.
 pub record IsMadeFor (own : Bytes) (batch : Batch) : Type 0 where
   pub domain_is : batch.domain ≡ own
   pub no_fault : batch_refusal batch.domain batch.ops batch.token ≡ None

@@ -24,7 +24,7 @@ pub record AscendingBook (b : Book) : Type 0 where
   pub bundles : Ascending bundle_key b.bundles
   pub tokens : Ascending token_key b.tokens
 
--- ---- what stands in a book
+-- ---- what a book contains
 
 abbrev pub HasEntry : Book → Bytes → Type 0
 HasEntry b k = (x : Entry) × Within b.entries x × (x.id ≡ k)
@@ -35,7 +35,7 @@ HasAgent b k = (x : Agent) × Within b.agents x × (x.id ≡ k)
 abbrev pub HasBundle : Book → Bytes → Type 0
 HasBundle b k = (x : Bundle) × Within b.bundles x × (x.domain ≡ k)
 
--- the row of a key, where there is one
+-- the row of a key, if there is one
 abbrev pub entry_at : Bytes → Book → Option Entry
 entry_at k b = first (filter (λ e. bytes_eq e.id k) b.entries)
 

@@ -1,4 +1,4 @@
--- The codes under which refusals are printed, and the indices beside them.
+-- The codes under which refusals are printed, and the index that is printed with them.
 use Rattle.std.specs.Prelude.{ℕ, List, Option, Some, None, codes}
 use Rattle.entry_book.specs.declared.fault.OpFault.{OpFault}
 use Rattle.entry_book.specs.declared.fault.OpFault.TheVariants as fault
@@ -53,7 +53,7 @@ refusal_code reply.TokenReused = codes "O9"
 refusal_code (reply.OfOp n r) = op_code r
 refusal_code (reply.Full l) = limit_code l
 
--- the operation at fault, where it is a single one
+-- the index of the operation at fault, if it is a single one
 abbrev pub batch_op : BatchRefusal → Option ℕ
 batch_op batch.NoOps = None
 batch_op batch.TooManyOps = None

@@ -1,4 +1,5 @@
--- What each operation comes to, in direct words: when each refusal is due, and which rows stand in the book after. Laws of this crate say that the plain op does just this, on every book whose rows are in order, and that these words settle what it does.
+-- The effect of each operation, in direct words: when each refusal is due, and which rows the book has afterwards. Theorems of this
+-- crate say that `op_of` does exactly this on every book whose rows are in order, and that these words determine its result.
 use Rattle.std.specs.Prelude.{◌≡◌, ◌≢◌, ◌⊎◌, ◌↔◌, ⊤, ℕ, ◌+◌, ◌<◌, not, List, [], ◌∷◌, ◌++◌, filter, map, Option, Some, None, bytes_eq}
 use Rattle.std.specs.List.{AllByRecursion}
 use Rattle.entry_book.specs.declared.agent.Agent.{Agent}
@@ -23,17 +24,17 @@ pub record IsLike (e : NewEntry) (x : Entry) : Type 0 where
   pub identity : x.identity ≡ e.identity
   pub selectors : x.selectors ≡ e.selectors
 
--- this is the row of a key, or there is none
+-- this is the row of the key, or there is no such row
 abbrev pub IsRowAt : {X : Type 0} → (X → Bytes) → List X → Bytes → Option X → Type 0
 IsRowAt key rows k None = (x : _) → Within rows x → key x ≢ k
 IsRowAt key rows k (Some x) = Within rows x × (key x ≡ k)
 
--- these are the rows of this kind, in order
+-- these are all rows for which `Has` holds, in order
 pub record IsListOf {X : Type 0} (key : X → Bytes) (Has : X → Type 0) (listed : List X) : Type 0 where
   pub members : (x : X) → Within listed x ↔ Has x
   pub order : Ascending key listed
 
--- the entries after are these, and all other rows are as before
+-- the entries afterwards are those for which `Has` holds, and all other rows are as before
 pub record EntriesBecome (b c : Book) (Has : Entry → Type 0) : Type 0 where
   pub listed : IsListOf entry_key Has c.entries
   pub others : c ≡ record b { entries = c.entries }
@@ -56,11 +57,12 @@ Names domain x = Within x.domains domain
 abbrev pub IsNew : NewEntry → Book → Type 0
 IsNew e b = (x : Entry) → Within b.entries x → x.id ≢ e.id
 
--- no other entry of the book is like it
+-- no entry of the book with another id is like it
 abbrev pub IsAlone : NewEntry → Book → Type 0
 IsAlone e b = (x : Entry) → Within b.entries x → IsLike e x → x.id ≡ e.id
 
--- It replies with the entry at revision 0, and adds it and nothing else.
+-- It replies with the entry at revision 0, and adds it and nothing else. No entry has its id or is like it, and its domains have
+-- bundles.
 pub record Creates (e : NewEntry) (b : Book) (d : OpEffect) : Type 0 where
   pub new : IsNew e b
   pub alone : IsAlone e b
@@ -68,7 +70,7 @@ pub record Creates (e : NewEntry) (b : Book) (d : OpEffect) : Type 0 where
   pub reply : d.reply ≡ replied.Entry (at_revision 0 e)
   pub after_it : EntriesBecome b (after d.writes b) (λ x. (x ≡ at_revision 0 e) ⊎ Within b.entries x)
 
--- Another entry, of this id, is like it.
+-- Another entry, which has this id, is like it.
 abbrev pub IsSimilar : NewEntry → Book → Bytes → Type 0
 IsSimilar e b k = (x : Entry) × Within b.entries x × IsLike e x × (x.id ≢ e.id) × (x.id ≡ k)
 
@@ -86,20 +88,21 @@ CreateRefused e b _ = ⊥
 
 -- ---- update
 
--- no revision is expected, or just the entry's
+-- no revision is expected, or that of the entry is
 abbrev pub IsExpected : Option ℕ → Entry → Type 0
 IsExpected None x = ⊤
 IsExpected (Some n) x = x.revision ≡ n
 
--- the book has the entry of this id, at a revision that is expected
+-- the book has the entry of this id, at the expected revision if one is expected
 abbrev pub HasExpected : Bytes → Option ℕ → Book → Entry → Type 0
 HasExpected k expected b x = Within b.entries x × (x.id ≡ k) × IsExpected expected x
 
--- the book has the entry of this id, at another revision than the expected one
+-- the book has the entry of this id, but at another revision than the expected one
 abbrev pub IsStale : Bytes → Option ℕ → Book → Type 0
 IsStale k expected b = (x : Entry) × Within b.entries x × (x.id ≡ k) × (IsExpected expected x → ⊥)
 
--- It replies with the entry as it is given, at the next revision, and puts it in the place of the one of its id.
+-- It replies with the entry as it is given, at the next revision, which replaces the one of its id. That one is at the expected
+-- revision, if one is expected. No other entry is like the new one, and its domains have bundles.
 pub record Updates (e : NewEntry) (expected : Option ℕ) (b : Book) (d : OpEffect) : Type 0 where
   pub old : Entry
   pub found : HasExpected e.id expected b old
@@ -117,7 +120,7 @@ UpdateRefused e expected b _ = ⊥
 
 -- ---- delete
 
--- It replies with the entry, and removes it and nothing else.
+-- It replies with the entry, and removes it and nothing else. It is at the expected revision, if one is expected.
 pub record Deletes (k : Bytes) (expected : Option ℕ) (b : Book) (d : OpEffect) : Type 0 where
   pub old : Entry
   pub found : HasExpected k expected b old
@@ -129,27 +132,27 @@ DeleteRefused k expected b NoEntry = HasEntry b k → ⊥
 DeleteRefused k expected b StaleRevision = IsStale k expected b
 DeleteRefused k expected b _ = ⊥
 
--- ---- questions: they write nothing
+-- ---- queries: they write nothing
 
--- It replies with the row of the key, or with none where there is none.
+-- It replies with the row of the key, if there is one.
 pub record Shows {X : Type 0} (key : X → Bytes) (rows : List X) (replies : Option X → OpReply) (k : Bytes) (d : OpEffect) : Type 0 where
   pub writes : d.writes ≡ []
   pub shown : Option X
   pub reply : d.reply ≡ replies shown
   pub is_row : IsRowAt key rows k shown
 
--- It replies with the rows of this kind, in order.
+-- It replies with all rows for which `Has` holds, in order.
 pub record Lists {X : Type 0} (key : X → Bytes) (replies : List X → OpReply) (Has : X → Type 0) (d : OpEffect) : Type 0 where
   pub writes : d.writes ≡ []
   pub shown : List X
   pub reply : d.reply ≡ replies shown
   pub listed : IsListOf key Has shown
 
--- the agent of a question, which the book has
+-- the book has the agent of a query, and this holds of it
 abbrev pub OfAgent : Bytes → Book → (Agent → Type 0) → Type 0
 OfAgent k b Is = (a : Agent) × Within b.agents a × (a.id ≡ k) × Is a
 
--- the agent is missing
+-- the only refusal is NoAgent, which is due if the book has no such agent
 abbrev pub LacksAgent : Bytes → Book → OpRefusal → Type 0
 LacksAgent k b NoAgent = HasAgent b k → ⊥
 LacksAgent k b _ = ⊥
@@ -169,11 +172,11 @@ ListsTrust server k b d = OfAgent k b (λ a. Lists bundle_key replied.Bundles (�
 
 -- ---- prune
 
--- the entry expires, and before this moment
+-- the entry expires before this moment; an expiry of 0 is none
 abbrev pub IsExpired : ℕ → Entry → Type 0
 IsExpired moment x = (0 < x.expiry) × (x.expiry < moment)
 
--- It replies with the ids of the entries that are expired, in order, and removes these and nothing else.
+-- It replies with the ids of the expired entries, in order, and removes these and nothing else.
 pub record Prunes (moment : ℕ) (b : Book) (d : OpEffect) : Type 0 where
   pub expired : List Entry
   pub are_expired : IsListOf entry_key (λ x. Within b.entries x × IsExpired moment x) expired
@@ -182,7 +185,7 @@ pub record Prunes (moment : ℕ) (b : Book) (d : OpEffect) : Type 0 where
 
 -- ---- set_agent and drop_agent
 
--- It replies with the agent, which stands alone at its id; all else stays.
+-- It replies with the agent, which replaces the one of its id, if any; all else stays.
 pub record SetsAgent (a : Agent) (b : Book) (d : OpEffect) : Type 0 where
   pub reply : d.reply ≡ replied.Agent a
   pub after_it : AgentsBecome b (after d.writes b) (λ x. (x ≡ a) ⊎ (Within b.agents x × (x.id ≢ a.id)))
@@ -196,12 +199,12 @@ pub record DropsAgent (k : Bytes) (b : Book) (d : OpEffect) : Type 0 where
 
 -- ---- set_bundle
 
--- 0 for a new bundle, and 1 more with each further set
+-- the sequence is 0 for a new bundle, and grows by 1 with each further set
 abbrev pub IsNext : Option Bundle → ℕ → Type 0
 IsNext None n = n ≡ 0
 IsNext (Some old) n = n ≡ old.sequence + 1
 
--- It replies with the bundle, which stands alone at its domain; all else stays.
+-- It replies with the bundle, at the next sequence, which replaces the one of its domain, if any; all else stays.
 pub record SetsBundle (domain text : Bytes) (b : Book) (d : OpEffect) : Type 0 where
   pub old : Option Bundle
   pub found : IsRowAt bundle_key b.bundles domain old
@@ -214,13 +217,13 @@ pub record SetsBundle (domain text : Bytes) (b : Book) (d : OpEffect) : Type 0 w
 
 -- ---- drop_bundle
 
--- the bundle was there and is gone, and all other rows but the entries are as before
+-- the bundle was in the book and is removed, and all other rows except the entries are as before
 pub record DropsOne (domain : Bytes) (b c : Book) : Type 0 where
   pub there : HasBundle b domain
   pub bundles : IsListOf bundle_key (λ x. Within b.bundles x × (x.domain ≢ domain)) c.bundles
   pub others : c ≡ record b { entries = c.entries; bundles = c.bundles }
 
--- y is x without the domain, its other domains in the order that they had, at the next revision
+-- y is x without the domain, with its other domains in their order, at the next revision
 pub record IsFreed (domain : Bytes) (x y : Entry) : Type 0 where
   pub domains : (d : Bytes) → Within y.domains d ↔ (Within x.domains d × (d ≢ domain))
   pub kept : y.domains ≡ filter (λ d. not (bytes_eq d domain)) x.domains
@@ -246,7 +249,7 @@ pub record DropsDeleting (domain : Bytes) (b : Book) (d : OpEffect) : Type 0 whe
   pub entries : IsListOf entry_key (λ x. Within b.entries x × (Names domain x → ⊥)) (after d.writes b).entries
   pub bundle : DropsOne domain b (after d.writes b)
 
--- the domain is taken out of the entries that name it
+-- the domain is removed from the entries that name it
 pub record DropsDissociating (domain : Bytes) (b : Book) (d : OpEffect) : Type 0 where
   pub users : List Entry
   pub are_users : AreUsers domain b users

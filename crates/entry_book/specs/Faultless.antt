@@ -1,4 +1,4 @@
--- What has no fault, in direct words. Laws of this crate say that the tables of faults find none in just these.
+-- What has no fault, in direct words. Theorems of this crate say that the tables of faults find none exactly in these.
 use Rattle.std.specs.Prelude.{◌≢◌, ⊤, ◌<◌, ◌≤◌, List, ◌∷◌, codes, length, IfSome}
 use Rattle.spiffe_name.specs.Id.{Spells, server_text}
 use Rattle.entry_book.specs.declared.agent.Agent.{Agent}

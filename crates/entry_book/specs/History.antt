@@ -1,4 +1,4 @@
--- The plain book: the list of all books so far, and what a batch does to it.
+-- The reference meaning of a run: the list of all books so far, and what a batch does to it.
 use Rattle.std.specs.Prelude.{◌≡◌, ℕ, ◌+◌, ◌-◌, Bool, true, false, ⊤, List, [], ◌∷◌, ◌++◌, drop, length, slice_get, nat_lt, Option, Some, None, Ok, Err, if◌then◌else◌}
 use Rattle.std.specs.List.{AllByRecursion}
 use Rattle.entry_book.specs.declared.kept.KeptBatch.{KeptBatch}
@@ -19,9 +19,9 @@ use Rattle.entry_book.specs.Runs.{RunEffect, RunResult, run}
 use Rattle.entry_book.specs.Limits.{limit_passed}
 use Rattle.entry_book.specs.Batches.{Batch, IsMadeFor, is_query, past_place}
 
--- ---- the list of all books, the first one empty; numbers count from 0
+-- ---- the list of all books, beginning with an empty one; their numbers count from 0
 
--- the last book; it is the one that batches find
+-- the last book, which batches read and change
 abbrev pub last_or : Book → List Book → Book
 last_or b [] = b
 last_or b (c ∷ cs) = last_or c cs
@@ -35,29 +35,30 @@ place_of books = length books - 1
 
 -- ---- which book a batch reads
 
--- book n, where it is one of the last 64; it may be gone, or not there yet
+-- book n, if it is one of the last 64; none if it is older or not there yet
 abbrev pub among_last : ℕ → List Book → Option Book
 among_last n books = if nat_lt (place_of books) (n + 64) then slice_get books n else None
 
--- the last one, but for the page of an earlier one, which may be gone
+-- the last book, or the numbered one of a page, which may be gone
 abbrev pub book_for : Option ℕ → List Book → Option Book
 book_for None books = Some (last_book books)
 book_for (Some n) books = among_last n books
 
--- ---- what a batch writes that commits
+-- ---- what a committed batch writes
 
--- what is kept under its token, where it carries one: its operations, the number of the book that it adds, and its replies
+-- the row for its token, if it has one: its operations, the number of the book that it adds, and its replies
 abbrev pub token_writes : Option Bytes → List Op → ℕ → List OpReply → List RowWrite
 token_writes None ops n replies = []
 token_writes (Some k) ops n replies = wrote_token (record { key = k; old = None; new = Some (record { token = k; ops = ops; place = n; replies = replies }) }) ∷ []
 
--- all its writes as book n: those of its operations, and that of its token last
+-- all writes of a batch that adds book n: those of its operations, then that of its token
 abbrev pub batch_writes : Batch → ℕ → RunEffect → List RowWrite
 batch_writes batch n t = t.writes ++ token_writes batch.token batch.ops n t.replies
 
 -- ---- one batch
 
--- What a batch comes to: it is refused, it only asked, it adds a book, or it was committed before, at this place and with these replies.
+-- The outcome of a batch: it is refused, it is a query and answered, it adds a book, or it was committed before, at this place and
+-- with these replies.
 pub data Verdict : Type 0 where
   refuses : Refusal → Verdict
   answers : List OpReply → Verdict
@@ -73,11 +74,12 @@ verdict_when query batch place b (Err s) = refuses (OfOp s.op s.reason)
 verdict_when true batch place b (Ok t) = answers t.replies
 verdict_when false batch place b (Ok t) = adds_within (limit_passed place (after (batch_writes batch (place + 1) t) b)) t.replies (after (batch_writes batch (place + 1) t) b)
 
--- the run of its operations; a batch that doesn't only ask adds its book, where it passes no limit, also where that book is equal to the one before
+-- The outcome of running the batch's operations. A batch of changes adds its book if that passes no limit, even if it equals the
+-- book before.
 abbrev pub verdict_run : Batch → ℕ → Book → Verdict
 verdict_run batch place b = verdict_when (is_query batch.ops) batch place b (run batch.domain batch.ops b)
 
--- a batch was committed with this token: this one again, or another one
+-- the token is in use: if the operations are the same, the stored replies are repeated; otherwise the batch is refused
 abbrev pub verdict_again : Bool → KeptBatch → Verdict
 verdict_again true k = repeats k.place k.replies
 verdict_again false k = refuses TokenReused
@@ -90,16 +92,17 @@ abbrev pub verdict_over : Option KeptBatch → Batch → ℕ → Book → Verdic
 verdict_over (Some k) batch place b = verdict_again (ops_eq k.ops batch.ops) k
 verdict_over None batch place b = verdict_run batch place b
 
--- on the book that it reads, where this is there
+-- the outcome on the book that the batch reads; if that book is gone, operation 0 is refused for it
 abbrev pub verdict_on : Batch → ℕ → Option Book → Verdict
 verdict_on batch place None = refuses (OfOp 0 VersionGone)
 verdict_on batch place (Some b) = verdict_over (kept_under batch.token b) batch place b
 
--- at this place, which it may not run before
+-- the outcome at this place: below the batch's minimum place it is refused, and otherwise it is that on the book that it reads
 abbrev pub verdict : Batch → ℕ → Option Book → Verdict
 verdict batch place b = if nat_lt place batch.after then refuses NotYet else verdict_on batch place b
 
--- the place of a reply is the new book's number where a book is added, that of the commit where a batch was committed before, and else the number of the last book
+-- The place of a reply: the new book's number if a book is added, that of the first commit if the batch repeats one, and otherwise
+-- the number of the last book.
 abbrev pub reply_with : ℕ → Verdict → Reply
 reply_with place (refuses r) = record { place = place; outcome = Refused r }
 reply_with place (answers replies) = record { place = place; outcome = Answered replies }
@@ -130,18 +133,18 @@ is_repeated (Answered replies) = false
 is_repeated (Repeated replies) = true
 is_repeated (Refused refusal) = false
 
--- the batch is committed on these books
+-- whether the batch is committed on these books
 abbrev pub commits : Batch → List Book → Bool
 commits batch books = is_committed (reply_to batch books).outcome
 
 -- ---- many batches
 
--- the list of books after these batches, run one after another on a list of books
+-- the list of books after running these batches one after another, beginning with `books`
 abbrev pub books_from : List Book → List Batch → List Book
 books_from books [] = books
 books_from books (batch ∷ batches) = books_from (books_after batch books) batches
 
--- the reply to each of these batches, run one after another on a list of books
+-- the reply to each of these batches, run one after another, beginning with `books`
 abbrev pub replies_from : List Book → List Batch → List Reply
 replies_from books [] = []
 replies_from books (batch ∷ batches) = reply_to batch books ∷ replies_from (books_after batch books) batches
@@ -158,19 +161,19 @@ first_books = empty_book ∷ []
 abbrev pub books_of : List Batch → List Book
 books_of batches = books_from first_books batches
 
--- These batches, each made for the trust domain and committed in turn, have led to this list of all books.
+-- These batches, each made for the trust domain and committed in turn, led to this list of all books.
 pub record Leads (own : Bytes) (batches : List Batch) (books : List Book) : Type 0 where
   pub made : AllByRecursion (IsMadeFor own) batches
   pub committed : CommitAll first_books batches
   pub books_are : books ≡ books_of batches
 
--- some batches have led to it
+-- some batches led to it
 abbrev pub IsHistory : Bytes → List Book → Type 0
 IsHistory own books = (batches : List Batch) × Leads own batches books
 
--- ---- what a plain book keeps of its history
+-- ---- the part of its history that a plain book stores
 
--- The trust domain, the last book, those before it that are still read, in order, and the last one's number.
+-- The trust domain, the earlier books that can still be read, in order, the last book, and its number.
 pub record PlainState : Type 0 where
   pub domain : Bytes
   pub older : List Book
@@ -180,11 +183,11 @@ pub record PlainState : Type 0 where
 abbrev pub kept_books : PlainState → List Book
 kept_books state = state.older ++ state.newest ∷ []
 
--- the last n of a list, or all of it where it has fewer
+-- the last n of a list, or all of it if it has fewer
 abbrev pub last_of : ℕ → List Book → List Book
 last_of n books = drop (length books - n) books
 
--- the kept book of this number
+-- the stored book of this number
 abbrev pub among_kept : ℕ → PlainState → Option Book
 among_kept n state = if nat_lt (n + length state.older) state.place then None else slice_get (kept_books state) (n + length state.older - state.place)
 
@@ -192,7 +195,7 @@ abbrev pub kept_for : Option ℕ → PlainState → Option Book
 kept_for None state = Some state.newest
 kept_for (Some n) state = among_kept n state
 
--- what a batch comes to on what is kept
+-- the outcome of a batch on the stored books
 abbrev pub verdict_of : Batch → PlainState → Verdict
 verdict_of batch state = verdict batch state.place (kept_for (past_place batch.ops) state)
 
@@ -205,11 +208,12 @@ state_with state (answers replies) = state
 state_with state (adds replies b) = record state { older = last_of 63 (kept_books state); newest = b; place = state.place + 1 }
 state_with state (repeats n replies) = state
 
--- what is kept after it
+-- the stored books after it
 abbrev pub state_after : Batch → PlainState → PlainState
 state_after batch state = state_with state (verdict_of batch state)
 
--- What is kept stands for the list of all books so far: it is the last 64 of them.
+-- The state represents the list of all books so far: its books are the last 64 of them, its place is the last one's number, and the
+-- list is a history of its trust domain.
 pub record Stands (state : PlainState) (books : List Book) : Type 0 where
   pub count : length books ≡ state.place + 1
   pub kept : last_of 64 books ≡ kept_books state

@@ -1,4 +1,4 @@
--- The lawful books of a trust domain, and those whose counts have room to grow.
+-- The lawful (valid) books of a trust domain, and those whose revisions and sequences can still grow.
 use Rattle.std.specs.Prelude.{◌≡◌, ℕ, ◌*◌, ◌^◌, ◌<◌, ◌≤◌, Some, None}
 use Rattle.spiffe_name.specs.Domain.{IsDomain}
 use Rattle.entry_book.specs.declared.agent.Agent.{Agent}
@@ -9,7 +9,7 @@ use Rattle.entry_book.specs.Order.{Within}
 use Rattle.entry_book.specs.Book.{Book, AscendingBook, HasBundle}
 use Rattle.entry_book.specs.Batches.{IsMadeFor, entry_fault, agent_fault, bundle_fault}
 
--- `own` is the server's trust domain, and `most` bounds revisions and sequences; in book n it is 64 n.
+-- `own` is the server's trust domain. `most` bounds revisions, sequences and 64 times each token's place; in book n it is 64 n.
 pub record Lawful (own : Bytes) (most : ℕ) (b : Book) : Type 0 where
   -- entry ids, agent ids, bundle domains and tokens are each distinct
   pub ascending : AscendingBook b
@@ -19,22 +19,22 @@ pub record Lawful (own : Bytes) (most : ℕ) (b : Book) : Type 0 where
   pub bundled : (e : Entry) → Within b.entries e → (d : Bytes) → Within e.domains d → HasBundle b d
   -- the server's own domain has none
   pub not_own : HasBundle b own → ⊥
-  -- the sets of each row are in their order, and its names are names
+  -- the parts of each row satisfy the invariants of their types: names are in the grammar, and sets are in order
   pub proper : (e : Entry) → Within b.entries e → IsProperEntry (given_of e)
   pub proper_agents : (a : Agent) → Within b.agents a → IsProperAgent a
   pub proper_bundles : (d : Bundle) → Within b.bundles d → IsDomain d.domain
-  -- no row has a fault for which a batch is refused: its IDs are of the server's trust domain, no identity is the server's, an agent's path is an agent's, and no part is too long
+  -- no row has a fault for which a batch is refused, by the same tables
   pub no_fault : (e : Entry) → Within b.entries e → entry_fault own (given_of e) ≡ None
   pub no_agent_fault : (a : Agent) → Within b.agents a → agent_fault own a ≡ None
   pub no_bundle_fault : (d : Bundle) → Within b.bundles d → bundle_fault own d.domain d.text ≡ None
   pub revisions : (e : Entry) → Within b.entries e → e.revision ≤ most
   pub sequences : (d : Bundle) → Within b.bundles d → d.sequence ≤ most
-  -- a batch that is kept was made for the trust domain, with its token
+  -- the operations of a stored batch, with its token, are a batch for this trust domain
   pub proper_tokens : (k : KeptBatch) → Within b.tokens k → IsMadeFor own (record { domain = own; ops = k.ops; after = 0; token = Some k.token })
-  -- and was committed: its place isn't 0, nor above the book's number
+  -- and it was committed: its place is positive, and in book n at most n
   pub places : (k : KeptBatch) → Within b.tokens k → (0 < k.place) × (64 * k.place ≤ most)
 
--- No revision and no sequence is above 2^63, so that the next one of each has room in 64 bits. So it is in each lawful book of a history.
+-- No revision and no sequence is above 2^63, so that the next one fits in 64 bits. Each lawful book of a history satisfies this.
 pub record CanGrow (b : Book) : Type 0 where
   pub revisions : (e : Entry) → Within b.entries e → e.revision ≤ 2 ^ 63
   pub sequences : (d : Bundle) → Within b.bundles d → d.sequence ≤ 2 ^ 63

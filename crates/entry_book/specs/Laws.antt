@@ -1,4 +1,4 @@
--- The laws of the book. Each is a clause of a function of the module `laws`.
+-- The theorems about the book. Each is a clause of a function of the module `laws`.
 use Rattle.std.specs.Prelude.{◌≡◌, ◌↔◌, ◌⊎◌, ℕ, ◌+◌, ◌*◌, ◌^◌, ◌<◌, ◌≤◌, true, false, List, [], ◌∷◌, ◌++◌, length, map, take, Option, Some, None, Ok, Err, IfOk, MatchResult, IfSome, is_some, option_to_list, slice_get, Contains, ⊤}
 use Rattle.std.specs.List.{AllByRecursion}
 use Rattle.spiffe_name.specs.Id.{server_text}
@@ -43,36 +43,37 @@ use Rattle.spiffe_name.specs.Selector.{SelectorPair}
 
 -- ---- membership
 
--- to be within a list is to stand at some place of it
+-- `Within` and `Contains`, membership at some index, agree on lists of texts
 abbrev pub WithinIsContains : Type 0
 WithinIsContains = (xs : List Bytes) (x : Bytes) → Within xs x ↔ Contains xs x
 
--- rows in order with the same members are one list
+-- lists of rows in order that have the same members are equal
 abbrev pub OneList : {X : Type 0} → (X → Bytes) → Type 0
 OneList {X} key = (xs ys : List X) → Ascending key xs → Ascending key ys → ((x : X) → Within xs x ↔ Within ys x) → xs ≡ ys
 
 -- ---- authorised entries
 
--- the authorised entries are those in which some chain for the agent ends
+-- the authorised entries are exactly those in which some chain for the agent ends
 abbrev pub EndsOfChains : Type 0
 EndsOfChains = (server : Bytes) (a : Agent) (b : Book) (e : Entry) → Within (authorised server a b) e ↔ EndsChain server a b e
 
--- each of them once, in the order of ids
+-- each of them occurs once, in the order of ids, if the book's entries are in order
 abbrev pub AuthorisedInOrder : Type 0
 AuthorisedInOrder = (server : Bytes) (a : Agent) (b : Book) → Ascending entry_key b.entries → Ascending entry_key (authorised server a b)
 
--- a held alias is one of them, and so is each entry of the agent, and of an identity of one of them
+-- the book's aliases that the agent holds are among them, and so are its entries whose parent is the agent or the identity of one
+-- of them
 abbrev pub HeldIsAuthorised : Type 0
 HeldIsAuthorised = (server : Bytes) (a : Agent) (b : Book) (e : Entry) → Within b.entries e → Holds server a e → Within (authorised server a b) e
 
 abbrev pub ChildIsAuthorised : Type 0
 ChildIsAuthorised = (server : Bytes) (a : Agent) (b : Book) (e : Entry) → Within b.entries e → (e.parent ≡ a.id) ⊎ ((c : Entry) × Within (authorised server a b) c × (e.parent ≡ c.identity)) → Within (authorised server a b) e
 
--- in a lawful book an alias that is one of them is held by the agent itself
+-- in a lawful book, the agent itself holds each alias that is one of them
 abbrev pub AliasIsHeld : Type 0
 AliasIsHeld = (own : Bytes) (most : ℕ) (a : Agent) (b : Book) (e : Entry) → Lawful own most b → Within b.agents a → Within (authorised (server_text own) a b) e → e.parent ≡ server_text own → Holds (server_text own) a e
 
--- other agents don't matter
+-- they don't depend on the agents of the book
 abbrev pub OthersDontMatter : Type 0
 OthersDontMatter = (server : Bytes) (a : Agent) (b : Book) (others : List Agent) → authorised server a (record b { agents = others }) ≡ authorised server a b
 
@@ -159,15 +160,15 @@ RefusalOf (DropAgent k) b = LacksAgent k b
 RefusalOf (SetBundle domain text) b = λ r. ⊥
 RefusalOf (DropBundle domain mode) b = DropBundleRefused domain mode b
 
--- the words settle the answer: an operation that has an effect is accepted, with that reply and that book after it
+-- the words determine the result: an operation that has such an effect is accepted, with that reply and that book afterwards
 abbrev pub AcceptedAsSaid : Type 0
 AcceptedAsSaid = (own : Bytes) (op : Op) (b : Book) (d : OpEffect) → AscendingBook b → EffectOf own op b d → MatchResult (op_of own op b) (λ c. (c.reply ≡ d.reply) × (after c.writes b ≡ after d.writes b)) (λ r. ⊥)
 
--- and on a lawful book an operation that has a refusal is refused, for that
+-- and on a lawful book, an operation for which a refusal is due is refused with it
 abbrev pub RefusedAsSaid : Type 0
 RefusedAsSaid = (own : Bytes) (most : ℕ) (op : Op) (b : Book) (r : OpRefusal) → Lawful own most b → RefusalOf op b r → op_of own op b ≡ Err r
 
--- two writes of one row
+-- two writes of the same row
 abbrev pub SameRow : RowWrite → RowWrite → Type 0
 SameRow (wrote_entry c) (wrote_entry d) = c.key ≡ d.key
 SameRow (wrote_agent c) (wrote_agent d) = c.key ≡ d.key
@@ -180,17 +181,17 @@ abbrev pub DifferentRows : List RowWrite → Type 0
 DifferentRows [] = ⊤
 DifferentRows (w ∷ ws) = AllByRecursion (λ v. SameRow w v → ⊥) ws × DifferentRows ws
 
--- an operation writes each row once, so that each write finds its row as the operation found it
+-- an operation writes a row at most once, so that each write finds its row as the operation found it
 abbrev pub WritesOnce : Type 0
 WritesOnce = (own : Bytes) (op : Op) (b : Book) → AscendingBook b → IfOk (op_of own op b) (λ d. DifferentRows d.writes × AllByRecursion (λ w. FitsBook w b) d.writes)
 
--- an operation writes the rows that it names, in this order, and no other row
+-- an operation writes the rows that `rows_named` gives, in this order, and no other row
 abbrev pub WritesNamed : Type 0
 WritesNamed = (own : Bytes) (op : Op) (b : Book) → IfOk (op_of own op b) (λ d. map row_written d.writes ≡ rows_named op b)
 
 -- ---- the run of a batch
 
--- Each operation finds what the earlier ones left, and the first one that is refused refuses the batch, with its index from 0.
+-- The run stops at operation n, counted from 0: all earlier ones are accepted, and it is refused on the book that they left.
 pub record StopsAt (domain : Bytes) (ops : List Op) (b : Book) (n : ℕ) (r : OpRefusal) : Type 0 where
   pub front : List Op
   pub op : Op
@@ -204,19 +205,19 @@ pub record StopsAt (domain : Bytes) (ops : List Op) (b : Book) (n : ℕ) (r : Op
 abbrev pub RunStops : Type 0
 RunStops = (domain : Bytes) (ops : List Op) (b : Book) (n : ℕ) (r : OpRefusal) → (run domain ops b ≡ Err (record { op = n; reason = r })) ↔ StopsAt domain ops b n r
 
--- the replies and writes of one operation more, on the book that the others left
+-- One more operation adds its reply and its writes if the book that the others left accepts it; otherwise the run is refused for it.
 abbrev pub RunGoesOn : Type 0
 RunGoesOn = (domain : Bytes) (ops : List Op) (op : Op) (b : Book) (t : RunEffect) → run domain ops b ≡ Ok t → MatchResult (op_of domain op (after t.writes b)) (λ d. run domain (ops ++ op ∷ []) b ≡ Ok (record { replies = t.replies ++ d.reply ∷ []; writes = t.writes ++ d.writes })) (λ r. run domain (ops ++ op ∷ []) b ≡ Err (record { op = length ops; reason = r }))
 
--- no operation leaves the book
+-- a run of no operations has no replies and no writes
 abbrev pub RunOfNone : Type 0
 RunOfNone = (domain : Bytes) (b : Book) → run domain [] b ≡ Ok (record { replies = []; writes = [] })
 
--- each operation has its reply
+-- a run has one reply for each operation
 abbrev pub RunReplies : Type 0
 RunReplies = (domain : Bytes) (ops : List Op) (b : Book) → IfOk (run domain ops b) (λ t. length t.replies ≡ length ops)
 
--- a batch that only asks writes nothing
+-- a read-only batch writes nothing
 abbrev pub QueryWrites : Type 0
 QueryWrites = (domain : Bytes) (ops : List Op) (b : Book) → is_query ops ≡ true → IfOk (run domain ops b) (λ t. t.writes ≡ [])
 
@@ -224,13 +225,14 @@ QueryWrites = (domain : Bytes) (ops : List Op) (b : Book) → is_query ops ≡ t
 abbrev pub RunFits : Type 0
 RunFits = (domain : Bytes) (ops : List Op) (b : Book) → AscendingBook b → IfOk (run domain ops b) (λ t. FitAll t.writes b × AscendingBook (after t.writes b))
 
--- a run leaves a lawful book, the bound on revisions and sequences being 1 more with each operation
+-- a run of operations without faults leaves a lawful book lawful, and raises the bound on revisions and sequences by 1 for each
+-- operation
 abbrev pub RunKeeps : Type 0
 RunKeeps = (own : Bytes) (m : ℕ) (ops : List Op) (b : Book) → AllByRecursion IsProperOp ops → AllByRecursion (λ op. op_fault own op ≡ None) ops → Lawful own m b → IfOk (run own ops b) (λ t. Lawful own (m + length ops) (after t.writes b))
 
 -- ---- the table of faults
 
--- an operation and its fault: those before it have none
+-- operation n has this fault, and those before it have none
 pub record FaultAt (domain : Bytes) (ops : List Op) (n : ℕ) (f : OpFault) : Type 0 where
   pub front : List Op
   pub op : Op
@@ -246,7 +248,7 @@ NoOpsRefused = (domain : Bytes) (ops : List Op) (token : Option Bytes) → (batc
 abbrev pub TooManyRefused : Type 0
 TooManyRefused = (domain : Bytes) (ops : List Op) (token : Option Bytes) → (batch_refusal domain ops token ≡ Some batch.TooManyOps) ↔ (64 < length ops)
 
--- a batch is refused for the first operation with a fault, where it has at most 64
+-- a batch is refused for operation n and this fault exactly if it has at most 64 operations and this is the first fault
 abbrev pub FirstFault : Type 0
 FirstFault = (domain : Bytes) (ops : List Op) (token : Option Bytes) (n : ℕ) (f : OpFault) → (batch_refusal domain ops token ≡ Some (batch.OfOp n f)) ↔ ((length ops ≤ 64) × FaultAt domain ops n f)
 
@@ -256,11 +258,11 @@ pub record AreFaultless (domain : Bytes) (ops : List Op) : Type 0 where
   pub few : length ops ≤ 64
   pub none : AllByRecursion (λ op. op_fault domain op ≡ None) ops
 
--- no page of these operations asks for another book than the last
+-- no page of these operations gives the number of a book
 abbrev pub AskForLast : List Op → Type 0
 AskForLast ops = (q : PageQuery) → Within ops (Page q) → q.at ≡ None
 
--- The first page that asks for an earlier book stands at n.
+-- Operation n is the first page that gives the number of a book.
 pub record PastPageAt (ops : List Op) (n : ℕ) : Type 0 where
   pub front : List Op
   pub query : PageQuery
@@ -271,23 +273,24 @@ pub record PastPageAt (ops : List Op) (n : ℕ) : Type 0 where
   pub place : ℕ
   pub asked : query.at ≡ Some place
 
--- no page that asks for an earlier book stands beside another operation
+-- no page that gives the number of a book comes together with another operation
 abbrev pub ArePagesAlone : List Op → Type 0
 ArePagesAlone ops = 1 < length ops → AskForLast ops
 
--- where no operation has a fault, it is refused for the first page that asks for an earlier book beside another operation
+-- a batch is refused for page n exactly if no operation has a fault, there are several, and page n is the first that gives a book's
+-- number
 abbrev pub PastPageRefused : Type 0
 PastPageRefused = (domain : Bytes) (ops : List Op) (token : Option Bytes) (n : ℕ) → (batch_refusal domain ops token ≡ Some (batch.PastPageNotAlone n)) ↔ (AreFaultless domain ops × (1 < length ops) × PastPageAt ops n)
 
--- and then where it only asks and carries a token
+-- it is refused for its token exactly if none of the above applies and it is a query with a token
 abbrev pub TokenRefused : Type 0
 TokenRefused = (domain : Bytes) (ops : List Op) (token : Option Bytes) → (batch_refusal domain ops token ≡ Some batch.TokenOnQuery) ↔ (AreFaultless domain ops × ArePagesAlone ops × (is_some token ≡ true) × (is_query ops ≡ true))
 
--- a list that isn't refused has none of these faults
+-- a list is accepted as a batch exactly if none of these refusals applies
 abbrev pub NoFault : Type 0
 NoFault = (domain : Bytes) (ops : List Op) (token : Option Bytes) → (batch_refusal domain ops token ≡ None) ↔ (AreFaultless domain ops × ArePagesAlone ops × (is_some token ≡ true → is_query ops ≡ false))
 
--- a new entry, an agent, a bundle and an operation have no fault where they are what the direct words say
+-- new entries, agents, bundles and operations have no fault exactly if they are what the direct words say
 abbrev pub EntryFaults : Type 0
 EntryFaults = (own : Bytes) (e : NewEntry) → IsProperEntry e → (entry_fault own e ≡ None) ↔ FaultlessEntry own e
 
@@ -302,11 +305,11 @@ OpFaults = (own : Bytes) (op : Op) → IsProperOp op → (op_fault own op ≡ No
 
 -- ---- histories
 
--- a committed batch adds one book, the last one from then on, whose number is its place
+-- a committed batch adds one book, which is then the last one and whose number is the reply's place
 abbrev pub CommitAdds : Type 0
 CommitAdds = (batch : Batch) (books : List Book) → 0 < length books → commits batch books ≡ true → ((b : Book) × (books_after batch books ≡ books ++ b ∷ []) × (last_book (books_after batch books) ≡ b)) × ((reply_to batch books).place ≡ length books)
 
--- any other leaves the list, and its place is the last book's number, unless it repeats a batch that was committed before
+-- any other batch leaves the list as it is; its place is the last book's number, unless it repeats a commit
 abbrev pub OthersLeave : Type 0
 OthersLeave = (batch : Batch) (books : List Book) → commits batch books ≡ false → (books_after batch books ≡ books) × (is_repeated (reply_to batch books).outcome ≡ false → (reply_to batch books).place ≡ place_of books)
 
@@ -314,21 +317,21 @@ OthersLeave = (batch : Batch) (books : List Book) → commits batch books ≡ fa
 abbrev pub QueriesOnlyAsk : Type 0
 QueriesOnlyAsk = (batch : Batch) (books : List Book) → is_query batch.ops ≡ true → commits batch books ≡ false
 
--- what a batch comes to on some books: the reply, and the books then
+-- the reply to a batch on some books, and the books after it
 abbrev pub Comes : Batch → List Book → Reply → List Book → Type 0
 Comes batch books reply later = (reply_to batch books ≡ reply) × (books_after batch books ≡ later)
 
--- no batch was committed with the token, where one is given
+-- the book stores no batch under the token, if one is given
 abbrev pub IsTokenFree : Option Bytes → Book → Type 0
 IsTokenFree token b = IfSome token (λ t. (k : KeptBatch) → Within b.tokens k → k.token ≡ t → ⊥)
 
--- It may run at this place, its pages ask for the last book, and no batch was committed with its token.
+-- It may run at this place, no page of it gives the number of a book, and the last book stores no batch under its token.
 pub record RunsOn (batch : Batch) (books : List Book) : Type 0 where
   pub reached : batch.after ≤ place_of books
   pub newest : AskForLast batch.ops
   pub not_kept : IsTokenFree batch.token (last_book books)
 
--- a batch that may run only at a later place is refused for this, first of all, and the books stay
+-- a batch whose minimum place isn't reached is refused for this, before any other check, and the books stay
 abbrev pub EarlyRefused : Type 0
 EarlyRefused = (batch : Batch) (books : List Book) → place_of books < batch.after → Comes batch books (record { place = place_of books; outcome = Refused NotYet }) books
 
@@ -340,17 +343,18 @@ OpRefuses = (batch : Batch) (books : List Book) (s : RefusedOp) → RunsOn batch
 abbrev pub QueriesAnswered : Type 0
 QueriesAnswered = (batch : Batch) (books : List Book) (t : RunEffect) → RunsOn batch books → is_query batch.ops ≡ true → run batch.domain batch.ops (last_book books) ≡ Ok t → Comes batch books (record { place = place_of books; outcome = Answered t.replies }) books
 
--- any other batch of changes adds the book after its writes, also where this is equal to the last one, and is answered at the new place
+-- any other batch of changes that passes no limit adds the book after its writes, even if it equals the last one; the reply has the
+-- new place
 abbrev pub ChangesCommit : Type 0
 ChangesCommit = (batch : Batch) (books : List Book) (t : RunEffect) → RunsOn batch books → is_query batch.ops ≡ false → run batch.domain batch.ops (last_book books) ≡ Ok t → limit_passed (place_of books) (after (batch_writes batch (place_of books + 1) t) (last_book books)) ≡ None → Comes batch books (record { place = place_of books + 1; outcome = Committed t.replies }) (books ++ after (batch_writes batch (place_of books + 1) t) (last_book books) ∷ [])
 
--- but where a limit is passed it is refused for the first such one, and the books stay
+-- but if a limit is passed, the batch is refused for the first such limit, and the books stay
 abbrev pub FullRefused : Type 0
 FullRefused = (batch : Batch) (books : List Book) (t : RunEffect) (limit : Limit) → RunsOn batch books → is_query batch.ops ≡ false → run batch.domain batch.ops (last_book books) ≡ Ok t → limit_passed (place_of books) (after (batch_writes batch (place_of books + 1) t) (last_book books)) ≡ Some limit → Comes batch books (record { place = place_of books; outcome = Refused (Full limit) }) books
 
 -- ---- earlier books
 
--- the same page, asked of the last book at any place
+-- the same page without the number of a book
 abbrev pub asked_now : Op → Op
 asked_now (Page q) = Page (record q { at = None })
 asked_now op = op
@@ -358,21 +362,22 @@ asked_now op = op
 abbrev pub batch_now : Batch → Batch
 batch_now batch = record batch { ops = map asked_now batch.ops; after = 0 }
 
--- a page of book n, one of the last 64, is answered what it was answered when book n was the last, and the books stay
+-- a page of book n, one of the last 64, gets the reply that it got when book n was the last, and the books stay
 abbrev pub PastAnswered : Type 0
 PastAnswered = (own : Bytes) (batch : Batch) (books : List Book) (q : PageQuery) (n : ℕ) → IsMadeFor own batch → 0 < length books → batch.after ≤ place_of books → batch.ops ≡ Page q ∷ [] → q.at ≡ Some n → n ≤ place_of books → place_of books < n + 64 → Comes batch books (record { place = place_of books; outcome = (reply_to (batch_now batch) (take (n + 1) books)).outcome }) books
 
--- that of another book is refused, and the books stay
+-- a page of any other book is refused, and the books stay
 abbrev pub GoneRefused : Type 0
 GoneRefused = (batch : Batch) (books : List Book) (q : PageQuery) (n : ℕ) → batch.after ≤ place_of books → batch.ops ≡ Page q ∷ [] → q.at ≡ Some n → (place_of books < n) ⊎ (n + 64 ≤ place_of books) → Comes batch books (record { place = place_of books; outcome = Refused (OfOp 0 VersionGone) }) books
 
 -- ---- tokens
 
--- the comparison of operations tells equal lists
+-- operations compare as equal exactly if the lists are equal
 abbrev pub OpsCompared : Type 0
 OpsCompared = (ops others : List Op) → (ops_eq ops others ≡ true) ↔ (ops ≡ others)
 
--- a commit with a token adds what is kept of it to the tokens, and leaves the other rows as its operations left them; its write is the last
+-- A commit with a token adds a row for it to the tokens, and leaves the other rows as its operations left them; this write is the
+-- last. Without a token, it adds none.
 pub record TokenWritten (batch : Batch) (n : ℕ) (b : Book) (t : RunEffect) : Type 0 where
   pub rows : (k : KeptBatch) → Within (after (batch_writes batch n t) b).tokens k ↔ (Within b.tokens k ⊎ ((batch.token ≡ Some k.token) × (k.ops ≡ batch.ops) × (k.place ≡ n) × (k.replies ≡ t.replies)))
   pub others : after (batch_writes batch n t) b ≡ record (after t.writes b) { tokens = (after (batch_writes batch n t) b).tokens }
@@ -381,7 +386,7 @@ pub record TokenWritten (batch : Batch) (n : ℕ) (b : Book) (t : RunEffect) : T
 abbrev pub TokensWritten : Type 0
 TokensWritten = (batch : Batch) (n : ℕ) (b : Book) → IsTokenFree batch.token b → IfOk (run batch.domain batch.ops b) (TokenWritten batch n b)
 
--- A batch that is kept in a book of a history was committed, with its token and its operations, at its place, and was answered its replies.
+-- The stored batch is one of these: it has this token and these operations, and was committed at this place with these replies.
 pub record WasCommitted (batches : List Batch) (k : KeptBatch) : Type 0 where
   pub before : List Batch
   pub batch : Batch
@@ -395,14 +400,16 @@ pub record WasCommitted (batches : List Batch) (k : KeptBatch) : Type 0 where
 abbrev pub KeptCommitted : Type 0
 KeptCommitted = (own : Bytes) (batches : List Batch) (books : List Book) (k : KeptBatch) → Leads own batches books → Within (last_book books).tokens k → WasCommitted batches k
 
--- a batch of changes with a token that is kept is answered what is kept, where it has the same operations, and else refused; the books stay
+-- a batch whose token is stored gets the stored reply if it has the same operations, and is refused otherwise; the books stay
 abbrev pub RepeatAnswered : Type 0
 RepeatAnswered = (batch : Batch) (books : List Book) (k : KeptBatch) → AscendingBook (last_book books) → batch.after ≤ place_of books → AskForLast batch.ops → Within (last_book books).tokens k → batch.token ≡ Some k.token → k.ops ≡ batch.ops → Comes batch books (record { place = k.place; outcome = Repeated k.replies }) books
 
 abbrev pub ReuseRefused : Type 0
 ReuseRefused = (batch : Batch) (books : List Book) (k : KeptBatch) → AscendingBook (last_book books) → batch.after ≤ place_of books → AskForLast batch.ops → Within (last_book books).tokens k → batch.token ≡ Some k.token → (k.ops ≡ batch.ops → ⊥) → Comes batch books (record { place = place_of books; outcome = Refused TokenReused }) books
 
--- Once a batch is committed with a token, no batch with it ever is again. After whatever batches, one with the same operations gets the same replies and the same place, and one with others is refused; the books stay.
+-- Once a batch is committed with a token, no other batch is committed with it. Later, after any batches, one with the same
+-- operations gets the same replies and place, and one with other operations is refused, if its minimum place is reached. The books
+-- stay.
 pub record CommittedOnce (first : Reply) (replies : List OpReply) (batch other : Batch) (later : List Book) : Type 0 where
   pub no_more : commits other later ≡ false
   pub books_stay : books_after other later ≡ later
@@ -412,14 +419,14 @@ pub record CommittedOnce (first : Reply) (replies : List OpReply) (batch other :
 abbrev pub ExactlyOnce : Type 0
 ExactlyOnce = (own token : Bytes) (batch other : Batch) (between : List Batch) (books : List Book) (replies : List OpReply) → IsHistory own books → IsMadeFor own batch → IsMadeFor own other → AllByRecursion (IsMadeFor own) between → batch.token ≡ Some token → other.token ≡ Some token → (reply_to batch books).outcome ≡ Committed replies → CommittedOnce (reply_to batch books) replies batch other (books_from (books_after batch books) between)
 
--- the limits in words
+-- the limits of the four kinds of rows
 pub record IsWithinLimits (b : Book) : Type 0 where
   pub entries : length b.entries ≤ 16384
   pub agents : length b.agents ≤ 4096
   pub bundles : length b.bundles ≤ 1024
   pub tokens : length b.tokens ≤ 65536
 
--- it is passed, and none before it is
+-- the limit is passed, and none before it is
 abbrev pub IsFirstPassed : Limit → ℕ → Book → Type 0
 IsFirstPassed limit.History place b = 2 ^ 48 ≤ place
 IsFirstPassed limit.Entries place b = (place < 2 ^ 48) × (16384 < length b.entries)
@@ -427,7 +434,7 @@ IsFirstPassed limit.Agents place b = (place < 2 ^ 48) × (length b.entries ≤ 1
 IsFirstPassed limit.Bundles place b = (place < 2 ^ 48) × (length b.entries ≤ 16384) × (length b.agents ≤ 4096) × (1024 < length b.bundles)
 IsFirstPassed limit.Tokens place b = (place < 2 ^ 48) × (length b.entries ≤ 16384) × (length b.agents ≤ 4096) × (length b.bundles ≤ 1024) × (65536 < length b.tokens)
 
--- the first limit that is passed is told, in this order
+-- the reported limit is the first one that is passed, in this order
 abbrev pub FirstLimit : Type 0
 FirstLimit = (place : ℕ) (b : Book) (limit : Limit) → (limit_passed place b ≡ Some limit) ↔ IsFirstPassed limit place b
 
@@ -438,22 +445,22 @@ NoneIsPassed = (place : ℕ) (b : Book) → (limit_passed place b ≡ None) ↔ 
 abbrev pub AllWithinLimits : Type 0
 AllWithinLimits = (own : Bytes) (books : List Book) → IsHistory own books → (n : ℕ) (b : Book) → slice_get books n ≡ Some b → IsWithinLimits b
 
--- a history has at most 2^48 books after the first
+-- a history has at most 2^48 books after the first one
 abbrev pub HistoryBounded : Type 0
 HistoryBounded = (own : Bytes) (books : List Book) → IsHistory own books → length books ≤ 2 ^ 48 + 1
 
--- the books after one batch more
+-- the books after one more batch
 abbrev pub OneMore : Type 0
 OneMore = (batches : List Batch) (batch : Batch) → books_of (batches ++ batch ∷ []) ≡ books_after batch (books_of batches)
 
 abbrev pub OneMoreCommits : Type 0
 OneMoreCommits = (batches : List Batch) (batch : Batch) → CommitAll first_books (batches ++ batch ∷ []) ↔ (CommitAll first_books batches × (commits batch (books_of batches) ≡ true))
 
--- batches that are all committed lead to one book more than they are
+-- n committed batches lead to n + 1 books
 abbrev pub CountOfBooks : Type 0
 CountOfBooks = (batches : List Batch) → CommitAll first_books batches → length (books_of batches) ≡ length batches + 1
 
--- a history goes on with any batch that was made for its domain
+-- a history continues with any batch that was made for its domain
 abbrev pub HistoryGoesOn : Type 0
 HistoryGoesOn = (own : Bytes) (batch : Batch) (books : List Book) → IsHistory own books → IsMadeFor own batch → IsHistory own (books_after batch books)
 
@@ -463,37 +470,38 @@ HistoryGoesOn = (own : Bytes) (batch : Batch) (books : List Book) → IsHistory 
 abbrev pub LawfulHistory : Type 0
 LawfulHistory = (own : Bytes) (books : List Book) → IsHistory own books → (n : ℕ) (b : Book) → slice_get books n ≡ Some b → Lawful own (64 * n) b
 
--- so is each book that a plain book stands for
+-- so is each book in a list that a plain book's state represents
 abbrev pub AllLawful : Type 0
 AllLawful = (state : PlainState) (books : List Book) → Stands state books → (n : ℕ) (b : Book) → slice_get books n ≡ Some b → Lawful state.domain (64 * n) b
 
--- a batch that is accepted on a book lawful as book n leaves a book lawful as book n + 1
+-- an accepted batch turns a book that is lawful as book n into one that is lawful as book n + 1
 abbrev pub BatchKeeps : Type 0
 BatchKeeps = (own : Bytes) (batch : Batch) (n : ℕ) (b : Book) → IsMadeFor own batch → Lawful own (64 * n) b → IfOk (run batch.domain batch.ops b) (λ t. Lawful own (64 * (n + 1)) (after (batch_writes batch (n + 1) t) b))
 
--- and each of its writes finds the row that it names, where its token isn't kept
+-- and each of its writes finds the row that it names, if no batch is stored under its token
 abbrev pub BatchFits : Type 0
 BatchFits = (batch : Batch) (n : ℕ) (b : Book) → AscendingBook b → IsTokenFree batch.token b → IfOk (run batch.domain batch.ops b) (λ t. FitAll (batch_writes batch n t) b)
 
 -- ---- pages
 
--- each match in the words of sets
+-- each mode, in the words of sets
 abbrev pub MatchesAsSaid : Type 0
 MatchesAsSaid = (mode : MatchMode) (given own : List SelectorPair) → (matches_by mode given own ≡ true) ↔ Matches mode given own
 
--- a filter passes what meets each part that is given
+-- a filter passes exactly the entries that satisfy each given part
 abbrev pub PassesAsSaid : Type 0
 PassesAsSaid = (f : Filter) (e : Entry) → (passes f e ≡ true) ↔ Passes f e
 
--- a page has exactly the first entries that pass and come after where it begins, as many as it has room for, and there is a next one just where more do
+-- a page has exactly the first entries that pass and come after its start, as many as it has room for; there is a next page exactly
+-- if more come
 abbrev pub PageAsSaid : Type 0
 PageAsSaid = (q : PageQuery) (b : Book) → AscendingBook b → IsPage q b (listed q b) (next_of q b)
 
--- and these words settle what it has
+-- and these words determine what a page has
 abbrev pub OnePage : Type 0
 OnePage = (q : PageQuery) (b : Book) (es fs : List Entry) (m n : Option Bytes) → IsPage q b es m → IsPage q b fs n → (es ≡ fs) × (m ≡ n)
 
--- page after page, from the start, whatever their size, lists every entry that passes once, in order, and comes to an end
+-- reading page after page from the start, with any size above 0, lists every entry that passes once, in order, and ends
 abbrev pub PagesListAll : Type 0
 PagesListAll = (q : PageQuery) (b : Book) → AscendingBook b → 0 < q.size → PageAfterPage q b None (passing q.filter b)
 

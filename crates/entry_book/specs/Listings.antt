@@ -1,4 +1,5 @@
--- What a page lists, in direct words. Laws of this crate say that the definitions of a page do just this, and that these words settle what it lists.
+-- What a page lists, in direct words. Theorems of this crate say that the definitions of a page do exactly this, and that these
+-- words determine what it lists.
 use Rattle.std.specs.Prelude.{◌≡◌, ◌≤◌, true, List, [], ◌∷◌, ◌++◌, length, Option, Some, None, IfSome}
 use Rattle.spiffe_name.specs.Selector.{SelectorPair}
 use Rattle.entry_book.specs.declared.page.Filter.{Filter}
@@ -15,7 +16,7 @@ use Rattle.entry_book.specs.Pages.{last_id, listed, next_of}
 
 -- ---- which entries pass
 
--- an entry's own selectors stand so to those that are given; sets are in their one order, so that equal sets are equal lists
+-- how an entry's own selectors relate to the given ones; sets are lists in one order, so equal sets are equal lists
 abbrev pub Matches : MatchMode → List SelectorPair → List SelectorPair → Type 0
 Matches mode.Exact given own = own ≡ given
 Matches mode.Any given own = (s : SelectorPair) × Within own s × Within given s
@@ -30,18 +31,19 @@ pub record Passes (f : Filter) (e : Entry) : Type 0 where
 
 -- ---- one page
 
--- An entry that a page would list, had it room for all: it passes, and comes after where the page begins.
+-- An entry that a page of unlimited size would list: it passes the filter and comes after the page's start.
 pub record IsToList (q : PageQuery) (b : Book) (e : Entry) : Type 0 where
   pub of_book : Within b.entries e
   pub passes : Passes q.filter e
   pub later : IfSome q.from (λ k. is_before k e.id ≡ true)
 
--- none is left, and there is no next page, or the page is full, and the next one goes on from the last entry's id
+-- No entry is left, and there is no next page; or the page is full, and the next one continues after the last entry's id.
 abbrev pub GoesOn : PageQuery → List Entry → List Entry → Option Bytes → Type 0
 GoesOn q es [] next = (length es ≤ q.size) × (next ≡ None)
 GoesOn q es (e ∷ left) next = (length es ≡ q.size) × (next ≡ last_id es)
 
--- A page has these entries, and says where the next one goes on: they and those that are left are all that it would list, in the order of ids.
+-- A page has these entries, and says where the next one begins. They and those that are left are all that it could list, in the order
+-- of ids.
 pub record IsPage (q : PageQuery) (b : Book) (es : List Entry) (next : Option Bytes) : Type 0 where
   pub left : List Entry
   pub all : IsListOf entry_key (IsToList q b) (es ++ left)
@@ -55,7 +57,7 @@ pub record ListsPage (q : PageQuery) (b : Book) (d : OpEffect) : Type 0 where
   pub reply : d.reply ≡ replied.Page shown next
   pub writes : d.writes ≡ []
 
--- ---- page after page, each of which begins after the last entry of the one before
+-- ---- page after page, each beginning after the last entry of the one before
 
 -- the page that begins after this id
 abbrev pub page_after : PageQuery → Option Bytes → PageQuery

@@ -1,4 +1,4 @@
--- Which rows an operation names. A law of this crate says that an operation writes these rows, in this order, and no other.
+-- Which rows an operation writes. A theorem of this crate says that it writes these rows, in this order, and no other.
 use Rattle.std.specs.Prelude.{List, [], ◌∷◌, ◌++◌, map}
 use Rattle.entry_book.specs.declared.op.Op.{Op}
 use Rattle.entry_book.specs.declared.op.Op.TheVariants.{Create, Update, Delete, Show, ShowAgent, ShowBundle, Children, Page, Authorised, Trust, Prune, SetAgent, DropAgent, SetBundle, DropBundle}
@@ -6,7 +6,7 @@ use Rattle.entry_book.specs.Rows.{Bytes, Entry}
 use Rattle.entry_book.specs.Book.{Book, users_of, expired_before}
 use Rattle.entry_book.specs.Writes.{RowWrite, wrote_entry, wrote_agent, wrote_bundle, wrote_token}
 
--- A row by its name: the entry of an id, the agent of an ID, the bundle of a trust domain, or what is kept under a token.
+-- The name of a row: the entry of an id, the agent of an ID, the bundle of a trust domain, or the batch stored under a token.
 pub data RowName : Type 0 where
   entry_of : Bytes → RowName
   agent_of : Bytes → RowName
@@ -22,7 +22,8 @@ row_written (wrote_token c) = token_of c.key
 abbrev pub entry_name : Entry → RowName
 entry_name e = entry_of e.id
 
--- what a prune names is what has expired; a bundle that is dropped comes after the entries that name it, of which there are none where the drop is restricted
+-- A prune names the expired entries. A dropped bundle comes after the entries that name its domain; there are none of these if a
+-- restricted drop is accepted.
 abbrev pub rows_named : Op → Book → List RowName
 rows_named (Create e) b = entry_of e.id ∷ []
 rows_named (Update e expected) b = entry_of e.id ∷ []

@@ -1,4 +1,6 @@
--- What one operation does to the book that it finds: the first of its refusals that is due, in their order, or its reply and its writes. The book after is the book after these writes, which say row by row what is changed. `Effects` says the same of the rows as a whole.
+-- What one operation does to the book that it finds: the first of its refusals that is due, in their order, or its reply and its
+-- writes. The writes say row by row what changes, and the book afterwards is the book after them. `Effects` says the same of all rows
+-- together.
 use Rattle.std.specs.Prelude.{ℕ, ◌+◌, Bool, true, false, not, List, [], ◌∷◌, ◌++◌, filter, map, Option, Some, None, Result, Ok, Err, is_some, bytes_eq, nat_eq, ◌&&◌, if◌then◌else◌}
 use Rattle.std.specs.List.{list_any}
 use Rattle.spiffe_name.specs.Id.{server_text}
@@ -31,18 +33,18 @@ OpResult = Result OpEffect OpRefusal
 abbrev pub done : OpReply → List RowWrite → OpResult
 done r ws = Ok (record { reply = r; writes = ws })
 
--- ---- an entry that is put into the book: similar entry, then missing bundle; it replies with the entry
+-- ---- an entry that is put into the book is refused for a similar entry, then for a missing bundle; the reply is the entry
 
 -- another entry with the same parent, identity and set of selectors: the first one in the order of ids
 abbrev pub similar : Entry → Book → Option Entry
 similar e b = first (filter (λ o. set_eq o.selectors e.selectors && not (bytes_eq o.id e.id)) (group_of e.parent e.identity b))
 
--- the first of these domains that has no bundle
+-- the first of these domains that has no bundle, if any
 abbrev pub lacking : List Bytes → Book → Option Bytes
 lacking [] b = None
 lacking (d ∷ ds) b = if is_some (bundle_at d b) then lacking ds b else Some d
 
--- the entry in the place of the old one of its id, where there is one
+-- the write that puts an entry in place of the old one of its id, if there is one
 abbrev pub put : Option Entry → Entry → RowWrite
 put old e = wrote_entry (record { key = e.id; old = old; new = Some e })
 
@@ -54,13 +56,13 @@ abbrev pub put_beside : Option Entry → Option Entry → Entry → Book → OpR
 put_beside (Some o) old e b = Err (Similar o.id)
 put_beside None old e b = put_named (lacking e.domains b) old e
 
--- ---- create: taken id, and then as above; the entry is at revision 0
+-- ---- create: refused for a taken id, then as above; the entry is at revision 0
 
 abbrev pub create_over : Option Entry → Entry → Book → OpResult
 create_over (Some o) e b = Err IdTaken
 create_over None e b = put_beside (similar e b) None e b
 
--- ---- update: missing entry, stale revision, and then as above; all but the id is replaced, at the next revision
+-- ---- update: refused for a missing entry, a stale revision, then as above; it replaces all but the id, at the next revision
 
 -- a revision is expected, and it isn't the entry's
 abbrev pub is_stale : Option ℕ → Entry → Bool
@@ -75,7 +77,7 @@ abbrev pub update_over : Option Entry → NewEntry → Option ℕ → Book → O
 update_over None e expected b = Err NoEntry
 update_over (Some old) e expected b = update_when (is_stale expected old) old e b
 
--- ---- delete: missing entry, stale revision; it replies with the entry that is gone
+-- ---- delete: refused for a missing entry, then a stale revision; the reply is the removed entry
 
 abbrev pub removed : Entry → RowWrite
 removed e = wrote_entry (record { key = e.id; old = Some e; new = None })
@@ -88,20 +90,20 @@ abbrev pub delete_over : Option Entry → Option ℕ → OpResult
 delete_over None expected = Err NoEntry
 delete_over (Some e) expected = delete_when (is_stale expected e) e
 
--- ---- questions of an agent: missing agent
+-- ---- operations on an agent of the book: refused for a missing agent
 
 abbrev pub for_agent : Option Agent → (Agent → OpResult) → OpResult
 for_agent None f = Err NoAgent
 for_agent (Some a) f = f a
 
--- the bundles that these entries name, by their domains
+-- the bundles of the domains that these entries name, in the order of domains
 abbrev pub is_named : List Entry → Bundle → Bool
 is_named es d = list_any (names d.domain) es
 
 abbrev pub bundles_of : List Entry → Book → List Bundle
 bundles_of es b = filter (is_named es) b.bundles
 
--- ---- set_agent and drop_agent; a missing agent can't be dropped
+-- ---- set_agent and drop_agent; dropping a missing agent is refused
 
 abbrev pub agent_set : Agent → Book → OpResult
 agent_set a b = done (replied.Agent a) (wrote_agent (record { key = a.id; old = agent_at a.id b; new = Some a }) ∷ [])
@@ -121,7 +123,7 @@ bundle_put old d = done (replied.Bundle d) (wrote_bundle (record { key = d.domai
 abbrev pub bundle_set : Bytes → Bytes → Option Bundle → OpResult
 bundle_set domain text old = bundle_put old (record { domain = domain; text = text; sequence = next_sequence old })
 
--- ---- drop_bundle: missing bundle, then bundle in use; it replies with the ids deleted and the ids dissociated
+-- ---- drop_bundle: refused for a missing bundle, then for one in use; the reply has the deleted ids and the dissociated ids
 
 abbrev pub bundle_removed : Bundle → RowWrite
 bundle_removed d = wrote_bundle (record { key = d.domain; old = Some d; new = None })
@@ -133,7 +135,7 @@ dissociated domain e = record e { domains = filter (λ d. not (bytes_eq d domain
 abbrev pub freed : Bytes → Entry → RowWrite
 freed domain e = put (Some e) (dissociated domain e)
 
--- the entries are those that name the bundle's domain
+-- for the entries that name the bundle's domain
 abbrev pub drop_in : DropMode → List Entry → Bundle → OpResult
 drop_in mode.Restrict [] d = done (replied.Dropped [] []) (bundle_removed d ∷ [])
 drop_in mode.Restrict (e ∷ es) d = Err BundleInUse
@@ -144,7 +146,7 @@ abbrev pub drop_over : Option Bundle → Bytes → DropMode → Book → OpResul
 drop_over None domain mode b = Err (NoBundle domain)
 drop_over (Some d) domain mode b = drop_in mode (users_of d.domain b) d
 
--- ---- the plain op, in the book of a trust domain; a page that asks for an earlier book is run on that one
+-- ---- the result of an operation in the book of a trust domain; a page that gives the number of a book is run on that book
 
 abbrev pub op_of : Bytes → Op → Book → OpResult
 op_of own (Create e) b = create_over (entry_at e.id b) (at_revision 0 e) b

@@ -1,4 +1,5 @@
--- What a page lists: of the book's entries that pass its filter and come after the id from which it goes on, in the order of ids, the first ones, as many as it has room for. `next` is the last id that it lists, where more come.
+-- What a page lists: the book's entries that pass its filter and come after the id at which it starts, in the order of ids, as many as
+-- it has room for. `next` is the last id that it lists, if more come.
 use Rattle.std.specs.Prelude.{Bool, true, ◌&&◌, List, [], ◌∷◌, length, take, filter, nat_lt, Option, Some, None, bytes_eq, if◌then◌else◌}
 use Rattle.spiffe_name.specs.Selector.{SelectorPair}
 use Rattle.spiffe_name.specs.SelectorSet.{is_within, meets, set_eq}
@@ -47,7 +48,7 @@ abbrev pub comes_after : Option Bytes → Entry → Bool
 comes_after None e = true
 comes_after (Some k) e = is_before k e.id
 
--- what it would list, had it room for all
+-- what a page of unlimited size would list
 abbrev pub to_list : PageQuery → Book → List Entry
 to_list q b = filter (comes_after q.from) (passing q.filter b)
 

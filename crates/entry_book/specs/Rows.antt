@@ -27,15 +27,15 @@ pub record Entry : Type 0 where
   pub jwt_svid_ttl : ℕ
   pub revision : ℕ
 
--- the entry that was given, at this revision
+-- the new entry, at this revision
 abbrev pub at_revision : ℕ → NewEntry → Entry
 at_revision n e = record { id = e.id; parent = e.parent; identity = e.identity; selectors = e.selectors; hint = e.hint; domains = e.domains; expiry = e.expiry; x509_svid_ttl = e.x509_svid_ttl; jwt_svid_ttl = e.jwt_svid_ttl; revision = n }
 
--- what was given of the entry
+-- the entry without its revision
 abbrev pub given_of : Entry → NewEntry
 given_of e = record { id = e.id; parent = e.parent; identity = e.identity; selectors = e.selectors; hint = e.hint; domains = e.domains; expiry = e.expiry; x509_svid_ttl = e.x509_svid_ttl; jwt_svid_ttl = e.jwt_svid_ttl }
 
--- what keeps the rows of each set apart
+-- the key of each kind of row
 abbrev pub entry_key : Entry → Bytes
 entry_key e = e.id
 
@@ -45,7 +45,7 @@ agent_key a = a.id
 abbrev pub bundle_key : Bundle → Bytes
 bundle_key d = d.domain
 
--- ---- what the types of the parts see to: sets are in their one order, so that equal sets are equal lists
+-- ---- the invariants of the parts' types: sets are lists in one order, so that equal sets are equal lists
 
 abbrev pub IsId : Bytes → Type 0
 IsId text = (domain : Bytes) × (segments : List Bytes) × Spells text domain segments
@@ -54,7 +54,7 @@ IsId text = (domain : Bytes) × (segments : List Bytes) × Spells text domain se
 abbrev pub IsDomainSet : List Bytes → Type 0
 IsDomainSet domains = Ascending (λ domain. domain) domains
 
--- the set of the domains of a list: repeats collapse
+-- the set of the domains of a list, without duplicates
 abbrev pub domain_set : List Bytes → List Bytes
 domain_set [] = []
 domain_set (domain ∷ domains) = with_row (λ d. d) domain (Some domain) (domain_set domains)

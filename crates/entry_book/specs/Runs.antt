@@ -1,4 +1,5 @@
--- The run of a batch's operations on a book: each finds the book that the earlier ones left, and the first refusal refuses them all.
+-- The run of a batch's operations on a book: each sees the book that the earlier ones left, and the first refusal ends the run without
+-- effect.
 use Rattle.std.specs.Prelude.{ℕ, ◌+◌, List, [], ◌∷◌, ◌++◌, Result, Ok, Err}
 use Rattle.entry_book.specs.declared.op.Op.{Op}
 use Rattle.entry_book.specs.declared.reply.OpReply.{OpReply}
@@ -12,12 +13,12 @@ pub record RunEffect : Type 0 where
   pub replies : List OpReply
   pub writes : List RowWrite
 
--- A refused operation: its index, from 0, and why it is refused.
+-- A refused operation: its index, from 0, and the reason.
 pub record RefusedOp : Type 0 where
   pub op : ℕ
   pub reason : OpRefusal
 
--- the replies and the writes of all operations, or the one that was refused
+-- the replies and the writes of all operations, or the refused operation
 abbrev pub RunResult : Type 0
 RunResult = Result RunEffect RefusedOp
 

@@ -1,4 +1,5 @@
--- When two lists of operations are the same: operation by operation, of one kind and with the same parts. A law says that they are then one list.
+-- When two lists of operations are the same: operation by operation, of the same kind and with the same parts. A theorem says that they
+-- are then equal lists.
 use Rattle.std.specs.Prelude.{Bool, true, false, ◌&&◌, List, bytes_eq, nat_eq}
 use Rattle.std.specs.Option.{option_eq}
 use Rattle.std.specs.Cmp.Lexicographic.{pointwise}

@@ -1,7 +1,7 @@
--- What a book keeps of a batch that was committed with a token. A kept batch is the record of the crate's own type of this name.
+-- What a book stores for a batch that was committed with a token. A stored batch is the record of the crate's own type `KeptBatch`.
 use Rattle.entry_book.specs.declared.kept.KeptBatch.{KeptBatch}
 use Rattle.entry_book.specs.Rows.{Bytes}
 
--- what keeps kept batches apart
+-- the key of a stored batch
 abbrev pub token_key : KeptBatch → Bytes
 token_key k = k.token

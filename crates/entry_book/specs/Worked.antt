@@ -30,7 +30,7 @@ id_of path = codes "spiffe://ex.org" ++ path
 abbrev pub agent_id : Bytes
 agent_id = id_of (codes "/spire/agent/n1")
 
--- the UUID whose last byte is n, all others being 0
+-- the UUID whose last byte is n, and whose other bytes are 0
 abbrev pub uuid_of : ℕ → Bytes
 uuid_of n = 0 ∷ 0 ∷ 0 ∷ 0 ∷ 0 ∷ 0 ∷ 0 ∷ 0 ∷ 0 ∷ 0 ∷ 0 ∷ 0 ∷ 0 ∷ 0 ∷ 0 ∷ n ∷ []
 
@@ -77,7 +77,7 @@ aliased = entry 1 server (id_of (codes "/alias")) (x1 ∷ x2 ∷ []) ∷ entry 2
 abbrev pub authorised_with : List SelectorPair → List Entry
 authorised_with selectors = authorised server (agent selectors) (book aliased (agent selectors))
 
--- held with just the alias's selectors, and with one more; not held with one of the two, nor with none
+-- held with exactly the alias's selectors, and with one more; not held with one of the two, nor with none
 abbrev pub AliasHeld : Type 0
 AliasHeld = authorised_with (x1 ∷ x2 ∷ []) ≡ aliased
 
@@ -90,7 +90,7 @@ AliasNotHeld = authorised_with (x1 ∷ []) ≡ []
 abbrev pub AliasNotHeldWithNone : Type 0
 AliasNotHeldWithNone = authorised_with [] ≡ []
 
--- another agent of the book holds the alias, and the asking one doesn't
+-- another agent of the book holds the alias, and the queried one doesn't
 abbrev pub other_agent : Agent
 other_agent = record { id = id_of (codes "/spire/agent/n2"); selectors = x1 ∷ x2 ∷ [] }
 
@@ -123,7 +123,7 @@ api n = entry n agent_id (id_of (codes "/api")) u1
 abbrev pub create : Entry → Op
 create e = Create (given_of e)
 
--- the agent is set, one entry is created under it, and it is asked for
+-- the agent is set, an entry is created under it, and its authorised entries are queried
 abbrev pub FirstBatches : Type 0
 FirstBatches = replies_from first_books (batch_of (SetAgent plain_agent ∷ []) ∷ batch_of (create (web 1) ∷ []) ∷ batch_of (Authorised agent_id ∷ []) ∷ []) ≡ committed 1 (replied.Agent plain_agent) ∷ committed 2 (replied.Entry (web 1)) ∷ answered 2 (replied.Entries (web 1 ∷ [])) ∷ []
 
@@ -131,7 +131,7 @@ FirstBatches = replies_from first_books (batch_of (SetAgent plain_agent ∷ []) 
 abbrev pub EmptyRefuses : Type 0
 EmptyRefuses = replies_from first_books (batch_of (Authorised agent_id ∷ []) ∷ batch_of (Create (record (given_of (web 1)) { domains = codes "b.org" ∷ codes "c.org" ∷ [] }) ∷ []) ∷ []) ≡ refused 0 0 NoAgent ∷ refused 0 0 (NoBundle (codes "b.org")) ∷ []
 
--- a batch that is refused at its third operation keeps nothing of the first two: both can be added after it
+-- a batch that is refused at its third operation leaves nothing of the first two: both can be added afterwards
 abbrev pub NothingKept : Type 0
 NothingKept = replies_from first_books (batch_of (create (web 1) ∷ []) ∷ batch_of (create (api 2) ∷ create (entry 3 agent_id (id_of (codes "/side")) u1) ∷ create (api 1) ∷ []) ∷ batch_of (create (api 3) ∷ []) ∷ batch_of (create (web 2) ∷ []) ∷ []) ≡ committed 1 (replied.Entry (web 1)) ∷ refused 1 2 IdTaken ∷ committed 2 (replied.Entry (api 3)) ∷ refused 2 0 (Similar (uuid_of 1)) ∷ []
 
@@ -149,14 +149,14 @@ set text = SetBundle other_domain text
 abbrev pub bundle : Bytes → ℕ → Bundle
 bundle text n = record { domain = other_domain; text = text; sequence = n }
 
--- a bundle that is set again has the next sequence, and one that was dropped before begins anew
+-- a bundle that is set again has the next sequence, and one that was dropped before starts at 0
 abbrev pub SequencesCount : Type 0
 SequencesCount = replies_from first_books (batch_of (set (codes "t1") ∷ []) ∷ batch_of (set (codes "t2") ∷ []) ∷ batch_of (DropBundle other_domain mode.Restrict ∷ []) ∷ batch_of (set (codes "t1") ∷ []) ∷ []) ≡ committed 1 (replied.Bundle (bundle (codes "t1") 0)) ∷ committed 2 (replied.Bundle (bundle (codes "t2") 1)) ∷ committed 3 (replied.Dropped [] []) ∷ committed 4 (replied.Bundle (bundle (codes "t1") 0)) ∷ []
 
 abbrev pub user : Entry
 user = record (web 1) { domains = other_domain ∷ [] }
 
--- an entry that is created, and freed of the domain by the same batch: it is at revision 0 before, and at 1 with no domain after
+-- an entry is created and freed of the domain in one batch: revision 0 before, and revision 1 with no domain after
 abbrev pub FreedInOneBatch : Type 0
 FreedInOneBatch = replies_from first_books (batch_of (set (codes "t1") ∷ []) ∷ batch_of (create user ∷ Show (uuid_of 1) ∷ DropBundle other_domain mode.Dissociate ∷ Show (uuid_of 1) ∷ []) ∷ []) ≡ committed 1 (replied.Bundle (bundle (codes "t1") 0)) ∷ all_committed 2 (replied.Entry user ∷ replied.EntryShown (Some user) ∷ replied.Dropped [] (uuid_of 1 ∷ []) ∷ replied.EntryShown (Some (record (web 1) { revision = 1 })) ∷ []) ∷ []
 
@@ -179,38 +179,39 @@ page_of_all at = Page (record { size = 2; at = at; from = None; filter = record 
 abbrev pub paged : ℕ → List Entry → Option Bytes → Reply
 paged n es next = answered n (replied.Page es next)
 
--- book 1 is still answered when an entry of it is gone, book 0 has no entry, and book 3 isn't there yet
+-- book 1 is still read when one of its entries is gone, book 0 has no entry, and book 3 isn't there yet
 abbrev pub EarlierBooksRead : Type 0
 EarlierBooksRead = replies_from first_books (batch_of (create (web 1) ∷ create (api 2) ∷ create (entry 3 agent_id (id_of (codes "/side")) u1) ∷ []) ∷ batch_of (Delete (uuid_of 2) None ∷ []) ∷ batch_of (page_of_all None ∷ []) ∷ batch_of (page_of_all (Some 1) ∷ []) ∷ batch_of (page_of_all (Some 0) ∷ []) ∷ batch_of (page_of_all (Some 3) ∷ []) ∷ []) ≡ all_committed 1 (replied.Entry (web 1) ∷ replied.Entry (api 2) ∷ replied.Entry (entry 3 agent_id (id_of (codes "/side")) u1) ∷ []) ∷ committed 2 (replied.Entry (api 2)) ∷ paged 2 (web 1 ∷ entry 3 agent_id (id_of (codes "/side")) u1 ∷ []) None ∷ paged 2 (web 1 ∷ api 2 ∷ []) (Some (uuid_of 2)) ∷ paged 2 [] None ∷ refused 2 0 VersionGone ∷ []
 
--- a batch that may run at place 1 or later is refused at place 0, before its operation is looked at, and runs at place 1
+-- a batch with minimum place 1 is refused at place 0, before its operation is checked, and runs at place 1
 abbrev pub LaterBatchWaits : Type 0
 LaterBatchWaits = replies_from first_books (record (batch_of (Authorised agent_id ∷ [])) { after = 1 } ∷ batch_of (SetAgent plain_agent ∷ []) ∷ record (batch_of (Authorised agent_id ∷ [])) { after = 1 } ∷ []) ≡ record { place = 0; outcome = Refused NotYet } ∷ committed 1 (replied.Agent plain_agent) ∷ answered 1 (replied.Entries []) ∷ []
 
 abbrev pub with_token : List Op → Batch
 with_token ops = record (batch_of ops) { token = Some (uuid_of 9) }
 
--- the agent is set with a token, and dropped; set again with this token it is answered what it was then, and stays dropped; another batch with the token is refused
+-- The agent is set with a token, and dropped. Setting it again with this token gets the first reply, and it stays dropped. Another batch
+-- with the token is refused.
 abbrev pub TokenKeepsReplies : Type 0
 TokenKeepsReplies = replies_from first_books (with_token (SetAgent plain_agent ∷ []) ∷ batch_of (DropAgent agent_id ∷ []) ∷ with_token (SetAgent plain_agent ∷ []) ∷ with_token (SetAgent (agent (x2 ∷ [])) ∷ []) ∷ batch_of (ShowAgent agent_id ∷ []) ∷ []) ≡ committed 1 (replied.Agent plain_agent) ∷ committed 2 (replied.Agent plain_agent) ∷ record { place = 1; outcome = Repeated (replied.Agent plain_agent ∷ []) } ∷ record { place = 2; outcome = Refused TokenReused } ∷ answered 2 (replied.AgentShown None) ∷ []
 
--- a batch that is refused keeps nothing under its token
+-- a batch that is refused stores nothing under its token
 abbrev pub RefusedTokenFree : Type 0
 RefusedTokenFree = replies_from first_books (with_token (DropAgent agent_id ∷ []) ∷ with_token (SetAgent plain_agent ∷ []) ∷ []) ≡ refused 0 0 NoAgent ∷ committed 1 (replied.Agent plain_agent) ∷ []
 
--- ---- lifetimes, and questions
+-- ---- lifetimes, and queries
 
--- what is given of the first entry, with these lifetimes
+-- the first entry, without its revision, with these lifetimes
 abbrev pub web_for : ℕ → ℕ → NewEntry
 web_for x509 jwt = record { id = uuid_of 1; parent = agent_id; identity = id_of (codes "/web"); selectors = u1; hint = codes "h"; domains = []; expiry = 7; x509_svid_ttl = x509; jwt_svid_ttl = jwt }
 
 abbrev pub web_at : ℕ → ℕ → ℕ → Entry
 web_at x509 jwt n = record { id = uuid_of 1; parent = agent_id; identity = id_of (codes "/web"); selectors = u1; hint = codes "h"; domains = []; expiry = 7; x509_svid_ttl = x509; jwt_svid_ttl = jwt; revision = n }
 
--- each lifetime is kept as it was given, an update sets both, and a similar entry is one whatever its lifetimes
+-- lifetimes are stored as given, an update sets both, and entries are similar whatever their lifetimes
 abbrev pub LifetimesKept : Type 0
 LifetimesKept = replies_from first_books (batch_of (Create (web_for 3600 60) ∷ []) ∷ batch_of (Create (record (web_for 1 2) { id = uuid_of 2 }) ∷ []) ∷ batch_of (Update (web_for 0 0) None ∷ []) ∷ []) ≡ committed 1 (replied.Entry (web_at 3600 60 0)) ∷ refused 1 0 (Similar (uuid_of 1)) ∷ committed 2 (replied.Entry (web_at 0 0 1)) ∷ []
 
--- no question adds a book
+-- no query adds a book
 abbrev pub QuestionsOnlyAsk : Type 0
 QuestionsOnlyAsk = replies_from first_books (batch_of (SetAgent plain_agent ∷ []) ∷ batch_of (ShowAgent agent_id ∷ []) ∷ batch_of (ShowBundle other_domain ∷ []) ∷ batch_of (Trust agent_id ∷ []) ∷ batch_of (page_of_all None ∷ []) ∷ []) ≡ committed 1 (replied.Agent plain_agent) ∷ answered 1 (replied.AgentShown (Some plain_agent)) ∷ answered 1 (replied.BundleShown None) ∷ answered 1 (replied.Bundles []) ∷ paged 1 [] None ∷ []

@@ -1,4 +1,4 @@
--- How a book changes: by writes, row by row.
+-- How a book changes: by writes of single rows.
 use Rattle.std.specs.Prelude.{◌≡◌, ⊤, List, [], ◌∷◌, filter, Option, option_to_list, IfSome, bytes_eq}
 use Rattle.entry_book.specs.declared.agent.Agent.{Agent}
 use Rattle.entry_book.specs.declared.bundle.Bundle.{Bundle}
@@ -8,7 +8,7 @@ use Rattle.entry_book.specs.Tokens.{token_key}
 use Rattle.entry_book.specs.Order.{with_row}
 use Rattle.entry_book.specs.Book.{Book}
 
--- One row's change: the row at a key as it was found, and as it is put. Either may be absent.
+-- The change of one row: the row at a key as it was found, and as it is written. Either may be absent.
 pub record RowChange (X : Type 0) : Type 0 where
   pub key : Bytes
   pub old : Option X
@@ -31,7 +31,7 @@ abbrev pub after : List RowWrite → Book → Book
 after [] b = b
 after (w ∷ ws) b = after ws (after_write w b)
 
--- ---- a write finds the row that it names, or no row where it names none, and what it puts has its key
+-- ---- a write finds the row that it names as old, or no row if it names none, and the new row has its key
 
 pub record FitsRows {X : Type 0} (row_key : X → Bytes) (c : RowChange X) (rows : List X) : Type 0 where
   pub found : filter (λ x. bytes_eq (row_key x) c.key) rows ≡ option_to_list c.old

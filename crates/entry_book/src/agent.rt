@@ -6,8 +6,8 @@ use crate::shared::Shared;
 use spiffe_name::{SelectorSet, SpiffeId};
 use std::alloc::AllocError;
 
-/// An agent of the book: its ID, whose path begins with `/spire/agent/`, and what its node has. A copy of it copies no
-/// text.
+/// An agent of the book: its ID, whose path begins with `/spire/agent/`, and the selectors of its node. A clone shares
+/// them.
 #[derive(Drop)]
 pub struct Agent {
     /// The agent's key.

@@ -12,9 +12,9 @@ use std::alloc::{AllocError, Global};
 use std::marker::Model;
 use uuid::Uuid;
 
-/// A batch of operations for the book of one trust domain: 1 to 64 of them, none of which has a fault. A contract sees
-/// it as the record of its trust domain, its operations, the least place at which it may run, and its token. A copy of it
-/// shares the operations.
+/// A batch of operations for the book of one trust domain: 1 to 64 of them, none of which has a fault. The model in
+/// contracts is the record of its trust domain, its operations, its minimum place, and its token. A clone shares the
+/// operations.
 #[derive(Drop)]
 pub struct Batch {
     domain: TrustDomain,
@@ -48,9 +48,9 @@ impl Batch {
     ghost use Rattle.spiffe_name.specs.Failures.{FailsBy};
     ghost use Rattle.entry_book.specs.Batches.{IsMadeFor, batch_refusal, is_query, past_place};
 
-    /// The batch of these operations for a trust domain, which runs on book `after` or a later one, and whose commit is kept
-    /// under the token, where it carries one. Refused `NoOps` and `TooManyOps` first, then operation by operation the least
-    /// fault, then `PastPageNotAlone`, then `TokenOnQuery`.
+    /// Makes the batch of these operations for a trust domain. It may run at place `after` or later, and its commit is
+    /// stored under the token, if it has one. The error is out of memory or the first refusal that applies: `NoOps`,
+    /// `TooManyOps`, the least fault of the first operation with a fault, `PastPageNotAlone`, `TokenOnQuery`.
     pub fn new(
         alloc: Global,
         domain: &TrustDomain,
@@ -76,7 +76,7 @@ impl Batch {
         }
     }
 
-    /// The trust domain that the batch was made for.
+    /// Returns the trust domain that the batch was made for.
     pub fn domain(&self) -> &TrustDomain
         ensures domain { result.now ≡ self.now.domain }
         ensures made { IsMadeFor self.now.domain self.now }
@@ -84,7 +84,7 @@ impl Batch {
         &self.domain
     }
 
-    /// The operations, in order.
+    /// Returns the operations, in order.
     pub fn ops(&self) -> &[Op]
         ensures ops { result.now ≡ self.now.ops }
         ensures made { IsMadeFor self.now.domain self.now }
@@ -92,28 +92,28 @@ impl Batch {
         self.ops.get().as_slice()
     }
 
-    /// The operations, in order, to be shared.
+    /// Returns the operations, in order, as a shared value.
     pub fn shared_ops(&self) -> &Shared<Sequence<Op>>
         ensures { result.now ≡ self.now.ops }
     {
         &self.ops
     }
 
-    /// The least place at which the batch may run.
+    /// Returns the minimum place at which the batch may run.
     pub fn after(&self) -> u64
         ensures { result ≡ self.now.after }
     {
         self.after
     }
 
-    /// The token under which its commit is kept, where it carries one.
+    /// Returns the token under which its commit is stored, if it has one.
     pub fn token(&self) -> Option<Uuid>
         ensures { result ≡ self.now.token }
     {
         self.token
     }
 
-    /// Does the batch only ask? Then it never changes a book.
+    /// Returns true if the batch is read-only.
     pub fn is_query(&self) -> bool
         ensures query { result ≡ is_query self.now.ops }
         ensures made { IsMadeFor self.now.domain self.now }
@@ -121,8 +121,8 @@ impl Batch {
         self.ops().iter().all(|op| op.is_question())
     }
 
-    /// The number of the book that the batch reads, where it is a page that gives one; every other batch runs on the last
-    /// book.
+    /// Returns the number of the book that the batch reads, if it is a page that gives one. Every other batch runs on the
+    /// last book.
     pub fn past_place(&self) -> Option<u64>
         ensures place { result ≡ past_place self.now.ops }
         ensures made { IsMadeFor self.now.domain self.now }

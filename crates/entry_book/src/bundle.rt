@@ -7,14 +7,14 @@ use crate::text::Text;
 use spiffe_name::TrustDomain;
 use std::alloc::AllocError;
 
-/// The bundle of another trust domain. Its inside isn't read. A copy of it copies no text.
+/// The bundle of another trust domain, as opaque text. A clone shares the text.
 #[derive(Drop)]
 pub struct Bundle {
     /// The bundle's key.
     pub domain: Shared<TrustDomain>,
     /// The bundle's text.
     pub text: Shared<Text>,
-    /// 0 for a new bundle, and one more with each further set.
+    /// The sequence number: 0 for a new bundle; each further set adds 1.
     pub sequence: u64,
 }
 

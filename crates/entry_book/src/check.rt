@@ -1,4 +1,4 @@
-//! Can these operations stand in a batch of a trust domain?
+//! Are these operations a valid batch for a trust domain?
 
 ghost use Rattle.std.specs.Prelude.{◌≡◌, IfSome, bytes_eq, length};
 ghost use Rattle.std.specs.List.{AllByRecursion};
@@ -18,7 +18,7 @@ use crate::text::Text;
 use spiffe_name::{SelectorSet, SpiffeId, TrustDomain};
 use uuid::Uuid;
 
-/// Why a list of operations, with a token or none, is no batch.
+/// Returns why these operations and this token, if any, are not a batch.
 #[tactic(auto, unfolding(crate::specs::Batches::batch_refusal))]
 pub(crate) fn refusal_of(
     domain: &TrustDomain,
@@ -37,7 +37,7 @@ pub(crate) fn refusal_of(
     ops_refusal(domain, ops, later)
 }
 
-/// Why operations without a fault are no batch.
+/// Returns why operations without a fault are not a batch.
 fn later_refusal(ops: &[Op], token: &Option<Uuid>) -> Option<BatchRefusal>
     ensures { result ≡ or_token (beside ops.now) ops.now token.now }
 {
@@ -50,7 +50,7 @@ fn later_refusal(ops: &[Op], token: &Option<Uuid>) -> Option<BatchRefusal>
     None
 }
 
-/// The first page that asks for an earlier book beside another operation.
+/// Returns the index of the first page that gives the number of a book, if there are several operations.
 fn beside(ops: &[Op]) -> Option<usize>
     ensures { result ≡ beside ops.now }
 {
@@ -74,7 +74,7 @@ fn is_query(ops: &[Op]) -> bool
     ops.iter().all(|op| op.is_question())
 }
 
-/// The first operation with a fault, and the fault; or else what comes after all operations.
+/// Returns the first operation with a fault, and the fault; or `later` if none has one.
 fn ops_refusal(
     domain: &TrustDomain,
     ops: &[Op],
@@ -90,7 +90,7 @@ fn ops_refusal(
     later
 }
 
-/// The least fault of an operation.
+/// Returns the least fault of an operation.
 fn op_fault(domain: &TrustDomain, op: &Op) -> Option<OpFault>
     ensures { result ≡ op_fault domain.now op.now }
 {
@@ -108,7 +108,7 @@ fn op_fault(domain: &TrustDomain, op: &Op) -> Option<OpFault>
     }
 }
 
-/// The least fault of an entry.
+/// Returns the least fault of an entry.
 #[tactic(auto, unfolding(crate::specs::Batches::entry_fault))]
 fn entry_fault(domain: &TrustDomain, new: &NewEntry) -> Option<OpFault>
     ensures { result ≡ entry_fault domain.now new.now }
@@ -136,7 +136,7 @@ fn entry_fault(domain: &TrustDomain, new: &NewEntry) -> Option<OpFault>
     None
 }
 
-/// The fault of a parent that is asked for.
+/// Returns the fault of a parent in a query.
 #[tactic(auto, unfolding(crate::specs::Batches::parent_fault))]
 fn parent_fault(domain: &TrustDomain, parent: &SpiffeId) -> Option<OpFault>
     ensures { result ≡ parent_fault domain.now parent.now }
@@ -150,7 +150,7 @@ fn parent_fault(domain: &TrustDomain, parent: &SpiffeId) -> Option<OpFault>
     None
 }
 
-/// The least fault of a page.
+/// Returns the least fault of a page.
 #[tactic(auto, unfolding(crate::specs::Batches::page_fault))]
 fn page_fault(domain: &TrustDomain, query: &PageQuery) -> Option<OpFault>
     ensures { result ≡ page_fault domain.now query.now }
@@ -171,7 +171,7 @@ fn page_fault(domain: &TrustDomain, query: &PageQuery) -> Option<OpFault>
     None
 }
 
-/// Is an ID given, of another trust domain?
+/// Returns true if an ID of another trust domain is given.
 fn is_given_foreign(domain: &TrustDomain, given: &Option<Shared<SpiffeId>>) -> bool
     ensures { result ≡ if_given (is_foreign domain.now) given.now }
 {
@@ -181,7 +181,7 @@ fn is_given_foreign(domain: &TrustDomain, given: &Option<Shared<SpiffeId>>) -> b
     }
 }
 
-/// Is an ID given that has no path?
+/// Returns true if an ID without a path is given.
 fn is_given_bare(given: &Option<Shared<SpiffeId>>) -> bool
     ensures { result ≡ if_given has_no_path given.now }
 {
@@ -191,7 +191,7 @@ fn is_given_bare(given: &Option<Shared<SpiffeId>>) -> bool
     }
 }
 
-/// Are selectors given that aren't 1 to 16?
+/// Returns true if selectors are given, but fewer than 1 or more than 16.
 fn is_given_outside(given: &Option<SelectorMatch>) -> bool
     ensures { result ≡ if_given (λ question. is_outside question.selectors) given.now }
 {
@@ -201,7 +201,7 @@ fn is_given_outside(given: &Option<SelectorMatch>) -> bool
     }
 }
 
-/// The fault of an agent that is asked for, or dropped.
+/// Returns the fault of an agent that is queried or dropped.
 #[tactic(auto, unfolding(crate::specs::Batches::asked_fault))]
 fn asked_fault(domain: &TrustDomain, agent: &SpiffeId) -> Option<OpFault>
     ensures { result ≡ asked_fault domain.now agent.now }
@@ -215,7 +215,7 @@ fn asked_fault(domain: &TrustDomain, agent: &SpiffeId) -> Option<OpFault>
     None
 }
 
-/// The least fault of an agent that is set.
+/// Returns the least fault of an agent that is set.
 #[tactic(auto, unfolding(crate::specs::Batches::agent_fault))]
 fn agent_fault(domain: &TrustDomain, agent: &Agent) -> Option<OpFault>
     ensures { result ≡ agent_fault domain.now agent.now }
@@ -233,7 +233,7 @@ fn agent_fault(domain: &TrustDomain, agent: &Agent) -> Option<OpFault>
     None
 }
 
-/// The fault of a bundle that is set.
+/// Returns the fault of a bundle that is set.
 #[tactic(auto, unfolding(crate::specs::Batches::bundle_fault))]
 fn bundle_fault(domain: &TrustDomain, of: &TrustDomain, text: &Text) -> Option<OpFault>
     ensures { result ≡ bundle_fault domain.now of.now text.now }
@@ -247,7 +247,7 @@ fn bundle_fault(domain: &TrustDomain, of: &TrustDomain, text: &Text) -> Option<O
     None
 }
 
-/// The fault of a bundle that is dropped.
+/// Returns the fault of a bundle that is dropped.
 #[tactic(auto, unfolding(crate::specs::Batches::own_fault))]
 fn own_fault(domain: &TrustDomain, of: &TrustDomain) -> Option<OpFault>
     ensures { result ≡ own_fault domain.now of.now }
@@ -276,7 +276,7 @@ fn is_agent_path(id: &SpiffeId) -> bool
     id.path().as_bytes().starts_with(b"/spire/agent/")
 }
 
-/// Is this the ID of the trust domain's server?
+/// Returns true if this is the ID of the trust domain's server.
 pub fn is_server(domain: &TrustDomain, id: &SpiffeId) -> bool
     ensures { result ≡ bytes_eq id.now (server_text domain.now) }
 {
@@ -289,21 +289,21 @@ pub fn is_server(domain: &TrustDomain, id: &SpiffeId) -> bool
     path == b"/spire/server".as_slice()
 }
 
-/// Are these not 1 to 16?
+/// Returns true if the selectors are fewer than 1 or more than 16.
 fn is_outside(selectors: &SelectorSet) -> bool
     ensures { result ≡ is_outside selectors.now }
 {
     selectors.is_empty() || selectors.len() > 16
 }
 
-/// A token is sixteen bytes.
+/// For the prover: a token has 16 bytes.
 pub(crate) fn know_token(token: &Option<Uuid>)
     ensures { IfSome token.now (λ id. length id ≡ 16) }
 {
     know_given_uuid(token);
 }
 
-/// Each operation is what the types of its parts see to.
+/// For the prover: the parts of each operation satisfy the invariants of their types.
 pub(crate) fn know_ops(ops: &[Op])
     ensures { AllByRecursion IsProperOp ops.now }
 {
@@ -403,7 +403,7 @@ fn know_given_selectors(given: &Option<SelectorMatch>)
     }
 }
 
-/// How many bytes a UUID has.
+/// Returns the length of a UUID; its contract says that it is 16.
 fn byte_count(bytes: &[u8; 16]) -> usize
     ensures { length bytes.now ≡ 16 }
 {

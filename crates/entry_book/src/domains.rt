@@ -10,8 +10,8 @@ use spiffe_name::TrustDomain;
 use std::alloc::{AllocError, Global};
 use std::marker::Model;
 
-/// A finite set of trust domains: each once, in the order of their bytes. Equal sets are equal lists. A contract sees
-/// it as this list.
+/// A finite set of trust domains, as a list without duplicates in the order of their bytes. Equal sets are equal lists.
+/// The model in contracts is this list.
 #[derive(Drop)]
 pub struct DomainSet {
     domains: Vec<Shared<TrustDomain>>,
@@ -33,7 +33,7 @@ impl DomainSet {
     ghost use Rattle.std.specs.List.{list_any};
     ghost use Rattle.entry_book.specs.Rows.{IsDomainSet, domain_set};
 
-    /// The set of these domains: repeats collapse. The error is want of memory.
+    /// Makes the set of these domains, without duplicates. The error is out of memory.
     pub fn of(alloc: Global, domains: Vec<TrustDomain>) -> Result<DomainSet, AllocError>
         ensures members { IfOk result (λ set. (domain : List ℕ) → Contains set domain ↔ Contains domains.items domain) }
         ensures ordered { IfOk result IsDomainSet }
@@ -47,7 +47,7 @@ impl DomainSet {
         })
     }
 
-    /// The set with no domain.
+    /// Makes the empty set.
     pub fn empty(alloc: Global) -> DomainSet
         ensures { result ≡ [] }
     {
@@ -56,7 +56,7 @@ impl DomainSet {
         }
     }
 
-    /// How many domains there are.
+    /// Returns the number of domains.
     pub fn len(&self) -> usize
         ensures { result ≡ length self.now }
     {
@@ -69,7 +69,7 @@ impl DomainSet {
         self.domains.is_empty()
     }
 
-    /// The domains in order.
+    /// Returns the domains in order.
     pub fn as_slice(&self) -> &[Shared<TrustDomain>]
         ensures items { result.now ≡ self.now }
         ensures set { IsDomainSet self.now }
@@ -77,14 +77,14 @@ impl DomainSet {
         self.domains.as_slice()
     }
 
-    /// Is the domain one of them?
+    /// Returns true if the domain is in the set.
     pub fn contains(&self, domain: &TrustDomain) -> bool
         ensures { result ≡ list_any (λ other. bytes_eq other domain.now) self.now }
     {
         is_among(domain, self.as_slice())
     }
 
-    /// The set of the other domains. The error is want of memory.
+    /// Returns the set without this domain. The error is out of memory.
     pub(crate) fn without(
         &self,
         alloc: Global,
@@ -98,7 +98,7 @@ impl DomainSet {
     }
 }
 
-/// Two sets are equal where they have the same trust domains.
+/// Two sets are equal if they have the same trust domains.
 impl PartialEq for DomainSet {
     ghost eq = { pointwise bytes_eq };
 
@@ -124,7 +124,7 @@ fn is_among(domain: &TrustDomain, domains: &[Shared<TrustDomain>]) -> bool
     false
 }
 
-/// The domains that aren't this one.
+/// Returns the other domains. The error is out of memory.
 fn others(
     alloc: Global,
     domains: &[Shared<TrustDomain>],
@@ -142,7 +142,7 @@ fn others(
     Ok(kept)
 }
 
-/// The domains, each with its first owner.
+/// Returns the domains, each as a new shared value. The error is out of memory.
 fn shared(alloc: Global, domains: Vec<TrustDomain>) -> Result<Vec<Shared<TrustDomain>>, AllocError>
     ensures { IfOk result (λ shared. shared.items ≡ domains.items) }
 {

@@ -10,33 +10,33 @@ use std::alloc::{AllocError, Global};
 use std::marker::Model;
 use uuid::Uuid;
 
-/// What a caller gives of an entry: all but its revision.
+/// What a caller gives for an entry: everything except its revision.
 #[derive(Drop)]
 pub struct NewEntry {
     /// The entry's key.
     pub id: Uuid,
-    /// The ID of the agent, of the server, or of the workload under which this one is registered.
+    /// The ID of the agent, the server, or the workload under which this entry is registered.
     pub parent: Shared<SpiffeId>,
     /// The ID that the workload gets.
     pub identity: Shared<SpiffeId>,
-    /// What the workload, or for an alias the agent's node, has to have.
+    /// The selectors that the workload must have; for an alias, those that the agent's node must have.
     pub selectors: Shared<SelectorSet>,
     /// A text for the workload's own use.
     pub hint: Shared<Text>,
-    /// The trust domains whose bundles the workload is given.
+    /// The trust domains whose bundles the workload gets.
     pub domains: DomainSet,
-    /// Seconds since the epoch, 0 for none.
+    /// The expiry in seconds since the epoch, or 0 for none.
     pub expiry: u64,
-    /// How long an X.509 document of the identity is good, in seconds; 0 for the server's default.
+    /// The lifetime of an X.509 SVID of this identity, in seconds; 0 for the server's default.
     pub x509_svid_ttl: u64,
-    /// How long a JWT of the identity is good, in seconds; 0 for the server's default.
+    /// The lifetime of a JWT SVID of this identity, in seconds; 0 for the server's default.
     pub jwt_svid_ttl: u64,
 }
 
 impl NewEntry {
     ghost use Rattle.std.specs.Prelude.{◌≡◌, IfOk, bytes_eq, filter, not};
 
-    /// What was given, without a trust domain. The error is want of memory.
+    /// Returns a copy without a trust domain. The error is out of memory.
     fn without(&self, alloc: Global, domain: &TrustDomain) -> Result<NewEntry, AllocError>
         ensures { IfOk result (λ rest. rest ≡ record self.now {
           domains = filter (λ other. not (bytes_eq other domain.now)) self.now.domains;
@@ -57,8 +57,8 @@ impl NewEntry {
     }
 }
 
-/// An entry of the book: what was given, and how often it was changed since. A copy of it copies no text. A contract
-/// sees it as a record of its ten fields.
+/// An entry of the book: what the caller gave, and its revision. A clone shares what was given. The model in
+/// contracts is a record of its ten fields.
 #[derive(Drop)]
 pub struct Entry {
     given: Shared<NewEntry>,
@@ -79,7 +79,7 @@ impl Entry {
     ghost use Rattle.entry_book.specs.Book.{expires_before, names};
     ghost use Rattle.entry_book.specs.Ops.{dissociated, is_stale};
 
-    /// The entry that was given, at this revision. The error is want of memory.
+    /// Makes an entry from what was given, at this revision. The error is out of memory.
     pub fn at_revision(given: &Shared<NewEntry>, revision: u64) -> Result<Entry, AllocError>
         ensures { IfOk result (λ entry. entry ≡ at_revision revision given.now) }
     {
@@ -89,77 +89,77 @@ impl Entry {
         })
     }
 
-    /// The entry's key.
+    /// Returns the entry's key.
     pub fn id(&self) -> &Uuid
         ensures { result.now ≡ self.now.id }
     {
         &self.given.get().id
     }
 
-    /// The ID under which the workload is registered.
+    /// Returns the ID under which the workload is registered.
     pub fn parent(&self) -> &Shared<SpiffeId>
         ensures { result.now ≡ self.now.parent }
     {
         &self.given.get().parent
     }
 
-    /// The ID that the workload gets.
+    /// Returns the ID that the workload gets.
     pub fn identity(&self) -> &Shared<SpiffeId>
         ensures { result.now ≡ self.now.identity }
     {
         &self.given.get().identity
     }
 
-    /// What the workload, or for an alias the agent's node, has to have.
+    /// Returns the selectors that the workload, or for an alias the agent's node, must have.
     pub fn selectors(&self) -> &Shared<SelectorSet>
         ensures { result.now ≡ self.now.selectors }
     {
         &self.given.get().selectors
     }
 
-    /// A text for the workload's own use.
+    /// Returns a text for the workload's own use.
     pub fn hint(&self) -> &Shared<Text>
         ensures { result.now ≡ self.now.hint }
     {
         &self.given.get().hint
     }
 
-    /// The trust domains whose bundles the workload is given, in order.
+    /// Returns the trust domains whose bundles the workload gets, in order.
     pub fn domains(&self) -> &DomainSet
         ensures { result.now ≡ self.now.domains }
     {
         &self.given.get().domains
     }
 
-    /// Seconds since the epoch, 0 for none.
+    /// Returns the expiry in seconds since the epoch, or 0 for none.
     pub fn expiry(&self) -> u64
         ensures { result ≡ self.now.expiry }
     {
         self.given.get().expiry
     }
 
-    /// How long an X.509 document of the identity is good, in seconds; 0 for the server's default.
+    /// Returns the lifetime of an X.509 SVID of this identity, in seconds; 0 for the server's default.
     pub fn x509_svid_ttl(&self) -> u64
         ensures { result ≡ self.now.x509_svid_ttl }
     {
         self.given.get().x509_svid_ttl
     }
 
-    /// How long a JWT of the identity is good, in seconds; 0 for the server's default.
+    /// Returns the lifetime of a JWT SVID of this identity, in seconds; 0 for the server's default.
     pub fn jwt_svid_ttl(&self) -> u64
         ensures { result ≡ self.now.jwt_svid_ttl }
     {
         self.given.get().jwt_svid_ttl
     }
 
-    /// How often the entry was changed since it was added.
+    /// Returns the number of changes since the entry was added.
     pub fn revision(&self) -> u64
         ensures { result ≡ self.now.revision }
     {
         self.revision
     }
 
-    /// Is a revision expected that isn't the entry's?
+    /// Returns true if a revision is expected that isn't the entry's.
     pub fn is_stale(&self, expected: Option<u64>) -> bool
         ensures { result ≡ is_stale expected self.now }
     {
@@ -169,7 +169,7 @@ impl Entry {
         }
     }
 
-    /// Does the entry expire before a moment, in seconds since the epoch?
+    /// Returns true if the entry expires before a moment, in seconds since the epoch.
     pub fn expires_before(&self, moment: u64) -> bool
         ensures { result ≡ expires_before moment self.now }
     {
@@ -177,14 +177,14 @@ impl Entry {
         0 < expiry && expiry < moment
     }
 
-    /// Does the entry name the trust domain?
+    /// Returns true if the entry names the trust domain.
     pub fn names(&self, domain: &TrustDomain) -> bool
         ensures { result ≡ names domain.now self.now }
     {
         self.domains().contains(domain)
     }
 
-    /// The entry without a trust domain, at its next revision. The error is want of memory.
+    /// Returns the entry without a trust domain, at its next revision. The error is out of memory.
     pub fn dissociated(&self, alloc: Global, domain: &TrustDomain) -> Result<Entry, AllocError>
         requires room { self.now.revision ≤ 2 ^ 63 }
         ensures { IfOk result (λ entry. entry ≡ dissociated domain.now self.now) }

@@ -1,22 +1,22 @@
-//! Why is a list of operations no batch?
+//! Why is a list of operations not a batch?
 
 ghost use Rattle.std.specs.Prelude.{◌≡◌};
 ghost use Rattle.entry_book.specs.Codes.{batch_code, batch_op, fault_code};
 
-/// Why an operation can stand in no batch of a trust domain, whatever the book: the least code first.
+/// Why an operation is invalid in any batch for a trust domain, whatever the book; the variants are in the order of codes.
 #[derive(Clone, Copy, Debug, PartialEq, Eq, Drop)]
 pub enum OpFault {
-    /// A parent, an identity or an agent of another trust domain.
+    /// A parent, an identity or an agent is of another trust domain.
     ForeignId,
-    /// A parent or an identity with an empty path.
+    /// A parent or an identity has an empty path.
     EmptyPath,
     /// An entry's identity is the ID of the server.
     ServerIdentity,
-    /// An entry's selectors, or a filter's, aren't 1 to 16, or an agent's are over 64.
+    /// An entry or a filter doesn't have 1 to 16 selectors, or an agent has more than 64.
     Selectors,
-    /// An entry names over 8 trust domains.
+    /// An entry names more than 8 trust domains.
     TooManyDomains,
-    /// An entry's hint has over 1,024 bytes.
+    /// An entry's hint is longer than 1,024 bytes.
     HintTooLong,
     /// A page's size isn't 1 to 500.
     PageSize,
@@ -24,12 +24,12 @@ pub enum OpFault {
     AgentPath,
     /// The bundle of the server's own trust domain is set or dropped.
     OwnDomainBundle,
-    /// A bundle's text has over 65,536 bytes.
+    /// A bundle's text is longer than 65,536 bytes.
     BundleTooLong,
 }
 
 impl OpFault {
-    /// The fault's code, as it is printed.
+    /// Returns the code that is printed for the fault.
     pub fn code(self) -> &'static str
         ensures { result.now ≡ fault_code self }
     {
@@ -48,23 +48,23 @@ impl OpFault {
     }
 }
 
-/// Why a list of operations is no batch.
+/// Why a list of operations, with or without a token, is not a batch.
 #[derive(Clone, Copy, Debug, PartialEq, Eq, Drop)]
 pub enum BatchRefusal {
-    /// There is no operation.
+    /// There are no operations.
     NoOps,
-    /// There are over 64 operations.
+    /// There are more than 64 operations.
     TooManyOps,
-    /// This operation, counted from 0, is the first that can't stand in a batch.
+    /// The operation at this index, from 0, is the first one with a fault.
     OfOp(usize, OpFault),
-    /// This page, counted from 0, is the first that asks for an earlier book, and another operation stands beside it.
+    /// The page at this index, from 0, is the first that gives the number of a book, and there are other operations.
     PastPageNotAlone(usize),
-    /// The batch only asks, and carries a token.
+    /// The batch is read-only, and has a token.
     TokenOnQuery,
 }
 
 impl BatchRefusal {
-    /// The refusal's code, as it is printed.
+    /// Returns the code that is printed for the refusal.
     pub fn code(self) -> &'static str
         ensures { result.now ≡ batch_code self }
     {
@@ -77,7 +77,7 @@ impl BatchRefusal {
         }
     }
 
-    /// The index, from 0, of the operation that is at fault, where it is a single one.
+    /// Returns the index, from 0, of the operation at fault, if it is a single one.
     pub fn op(self) -> Option<usize>
         ensures { result ≡ batch_op self }
     {

@@ -1,4 +1,4 @@
-//! What does a book keep of a batch that was committed with a token?
+//! What does a book store for a batch that was committed with a token?
 
 ghost use Rattle.std.specs.Prelude.{◌≡◌};
 
@@ -10,16 +10,16 @@ use crate::shared::Shared;
 use std::alloc::AllocError;
 use uuid::Uuid;
 
-/// A batch that was committed with a token. A copy of it shares the operations and the replies.
+/// A batch that was committed with a token. A clone shares the operations and the replies.
 #[derive(Drop)]
 pub struct KeptBatch {
     /// The token, which is its key.
     pub token: Uuid,
     /// The batch's operations, in order.
     pub ops: Shared<Sequence<Op>>,
-    /// The number of the book that it added.
+    /// The number of the book that the batch added.
     pub place: u64,
-    /// The answers to the operations, in order.
+    /// The replies to the operations, in order.
     pub replies: Shared<Sequence<OpReply>>,
 }
 
@@ -27,7 +27,7 @@ impl KeptBatch {
     ghost use Rattle.std.specs.Prelude.{◌≡◌};
     ghost use Rattle.entry_book.specs.SameOps.{ops_eq};
 
-    /// Are these its operations?
+    /// Returns true if these are the batch's operations.
     pub fn has_ops(&self, ops: &[Op]) -> bool
         ensures { result ≡ ops_eq self.now.ops ops.now }
     {

@@ -1,14 +1,14 @@
-//! Which laws hold of the book?
+//! Which theorems hold for the book?
 //!
-//! Each function does nothing. What it ensures is a law of the definitions, stated in `specs/Laws.antt`; a caller
-//! that calls it may rest on the law.
+//! Each function has an empty body. Its contract is a theorem about the definitions, stated in `specs/Laws.antt`; a caller
+//! may rely on the theorem after the call.
 
 ghost use Rattle.entry_book.specs.Laws.{AcceptedAsSaid, AgentFaults, AliasIsHeld, AllLawful, AllWithinLimits, AuthorisedEffect, AuthorisedInOrder, BatchFits, BatchKeeps, BundleFaults, ChangesCommit, ChildIsAuthorised, ChildrenEffect, CommitAdds, CountOfBooks, CreateEffect, DeleteEffect, DropAgentEffect, DropBundleEffect, EarlyRefused, EndsOfChains, EntryFaults, ExactlyOnce, FirstFault, FirstLimit, FullRefused, GoneRefused, HeldIsAuthorised, HistoryBounded, HistoryGoesOn, KeptCommitted, LawfulHistory, MatchesAsSaid, NoFault, NoOpsRefused, NoneIsPassed, OneList, OneMore, OneMoreCommits, OnePage, OpFaults, OpRefuses, OpsCompared, OthersDontMatter, OthersLeave, PageAsSaid, PageEffect, PagesListAll, PagesListOnce, PassesAsSaid, PastAnswered, PastPageRefused, PruneEffect, QueriesAnswered, QueriesOnlyAsk, QueryWrites, RefusedAsSaid, RepeatAnswered, ReuseRefused, RunFits, RunGoesOn, RunKeeps, RunOfNone, RunReplies, RunStops, SetAgentEffect, SetBundleEffect, ShowAgentEffect, ShowBundleEffect, ShowEffect, TokenRefused, TokensWritten, TooManyRefused, TrustEffect, UpdateEffect, WithinIsContains, WritesNamed, WritesOnce};
 ghost use Rattle.entry_book.specs.Rows.{agent_key, bundle_key, entry_key};
 ghost use Rattle.entry_book.specs.Tokens.{token_key};
 ghost use Rattle.entry_book.specs.Worked.{AliasHeld, AliasHeldWithMore, AliasNotHeld, AliasNotHeldWithNone, AliasOfAnother, CycleIsAuthorised, EarlierBooksRead, EmptyRefuses, FirstBatches, FreedInOneBatch, LaterBatchWaits, LifetimesKept, NothingKept, PrunesBefore, QuestionsOnlyAsk, RefusedTokenFree, SequencesCount, StaleDelete, TokenKeepsReplies};
 
-/// To be within a list is to stand at some place of it, and members and order make a list of rows.
+/// `Within` and `Contains` agree on lists of texts; lists of rows in order with the same members are equal.
 pub fn membership()
     ensures contains { WithinIsContains }
     ensures entries { OneList entry_key }
@@ -28,8 +28,8 @@ pub fn authorised_entries()
     ensures others { OthersDontMatter }
 {}
 
-/// When each operation is refused, what it replies, and which rows stand in the book after it, in direct words, and that
-/// these words settle the answer. It writes the rows that it names, each once, and no other.
+/// When each operation is refused, what it replies, and which rows the book has afterwards, in direct words; these words
+/// determine the result. An operation writes the rows that it names, each once, and no other.
 pub fn effects()
     ensures create { CreateEffect }
     ensures update { UpdateEffect }
@@ -52,8 +52,8 @@ pub fn effects()
     ensures named { WritesNamed }
 {}
 
-/// What a page lists, in direct words, and that page after page lists every entry that passes its filter once, in the order
-/// of ids, whatever the size of a page.
+/// What a page lists, in direct words; and that reading page after page lists every entry that passes the filter once, in
+/// the order of ids, with any page size above 0.
 pub fn pages()
     ensures matches { MatchesAsSaid }
     ensures passes { PassesAsSaid }
@@ -63,7 +63,7 @@ pub fn pages()
     ensures once { PagesListOnce }
 {}
 
-/// What the run of a batch's operations comes to.
+/// The result of running a batch's operations.
 pub fn runs()
     ensures stops { RunStops }
     ensures goes_on { RunGoesOn }
@@ -74,7 +74,7 @@ pub fn runs()
     ensures keeps { RunKeeps }
 {}
 
-/// Which lists of operations are refused as a batch, and what has no fault.
+/// Which lists of operations are refused as a batch, and which have no fault.
 pub fn faults()
     ensures no_ops { NoOpsRefused }
     ensures too_many { TooManyRefused }
@@ -110,7 +110,7 @@ pub fn histories()
     ensures goes_on { HistoryGoesOn }
 {}
 
-/// What becomes of batches that carry a token: of those with one token at most one is ever committed.
+/// The outcome of batches with a token: of those with the same token, at most one is ever committed.
 pub fn tokens()
     ensures same { OpsCompared }
     ensures written { TokensWritten }
@@ -120,8 +120,8 @@ pub fn tokens()
     ensures once { ExactlyOnce }
 {}
 
-/// Every book of a history is lawful, and so is every book that a plain book stands for: an accepted batch keeps a book
-/// lawful.
+/// Every book of a history is lawful, and so is every book in a list that a plain book's state represents: an accepted
+/// batch keeps a book lawful.
 pub fn lawful_books()
     ensures history { LawfulHistory }
     ensures stands { AllLawful }
@@ -129,8 +129,8 @@ pub fn lawful_books()
     ensures fits { BatchFits }
 {}
 
-/// The worked books of `specs/Worked.antt`: a cycle of parents ends, and an alias is held by an agent that has all of
-/// its selectors, and by no other.
+/// The worked books of `specs/Worked.antt`: a cycle of parents terminates, and an agent holds an alias if it has all of
+/// its selectors, and only then.
 pub fn worked_books()
     ensures cycle { CycleIsAuthorised }
     ensures held { AliasHeld }
@@ -140,7 +140,7 @@ pub fn worked_books()
     ensures of_another { AliasOfAnother }
 {}
 
-/// The worked batches of `specs/Worked.antt`: what they are answered, one after another.
+/// The worked batches of `specs/Worked.antt`, with their replies, one after another.
 pub fn worked_batches()
     ensures first { FirstBatches }
     ensures empty { EmptyRefuses }

@@ -1,25 +1,25 @@
 //! What is a registration book, and what does a batch of operations do to it?
 //!
 //! The book of a server has four sets of rows: entries, agents, trust bundles, and the batches that were committed with a
-//! token. A batch of operations is all or nothing. This crate says in `specs/` what that means. It has the types that books and batches are made of, and
-//! proves the laws of the definitions. A crate with a book, such as `plain_book`, is proved to answer what they say.
+//! token. A batch of operations is atomic. This crate defines that in `specs/`. It has the types of books and batches, and
+//! proves the theorems about the definitions. A crate with a book, such as `plain_book`, is proved to reply as they say.
 //!
-//! - [`Batch`]: 1 to 64 operations for the book of one trust domain, none with a fault, the least place at which they may
-//!   run, and a token or none. [`BatchRefusal`] and [`OpFault`] tell why a list of operations is none.
-//! - [`Op`]: one operation; [`NewEntry`], what a caller gives of an entry, [`DropMode`], what becomes of the entries that
-//!   name a bundle when it is dropped, and [`PageQuery`], what a page lists: up to so many entries that pass a [`Filter`],
-//!   with a question to their selectors ([`SelectorMatch`], by one of four [`MatchMode`]s).
-//! - [`Reply`]: what became of a batch ([`Outcome`]): the [`OpReply`] of each operation, now or when the batch was committed
-//!   with its token, or the [`Refusal`]: of a batch that is early or has another one's token, of the first operation that the
-//!   book refuses ([`OpRefusal`]), or for a [`Limit`] of the book. A copy of it shares the replies.
-//! - [`Entry`], [`Agent`], [`Bundle`], [`KeptBatch`]: the rows. A copy of a row copies no text.
-//! - [`Shared`], [`Sequence`], [`Text`], [`DomainSet`]: what rows are made of, seen by contracts as a value, a list,
+//! - [`Batch`]: 1 to 64 operations without a fault for the book of one trust domain, with a minimum place and optionally a
+//!   token. [`BatchRefusal`] and [`OpFault`] say why a list of operations is not a batch.
+//! - [`Op`]: one operation; [`NewEntry`], what a caller gives for an entry; [`DropMode`], what happens to the entries that
+//!   name a dropped bundle's domain; and [`PageQuery`], which lists a bounded number of entries that pass a [`Filter`],
+//!   optionally with a condition on their selectors ([`SelectorMatch`], in one of four [`MatchMode`]s).
+//! - [`Reply`]: the outcome of a batch ([`Outcome`]): the [`OpReply`] of each operation, now or when the batch was first
+//!   committed with its token; or the [`Refusal`], of a batch that is too early or reuses a token, of the first operation
+//!   that the book refuses ([`OpRefusal`]), or for a [`Limit`] of the book. A clone shares the replies.
+//! - [`Entry`], [`Agent`], [`Bundle`], [`KeptBatch`]: the rows. Cloning a row copies no text.
+//! - [`Shared`], [`Sequence`], [`Text`], [`DomainSet`]: what rows consist of. Contracts see them as a value, a list,
 //!   bytes and a set.
-//! - [`both`], [`beside`]: two values had together, of which each, or the second, may be refused for want of memory.
-//! - [`is_server`]: whether an ID is that of a trust domain's server; [`limit_passed`]: whether a book has room.
-//! - [`laws`]: what holds of every book, such as that each book that can be reached is lawful.
+//! - [`both`], [`beside`]: pairs of values, where each, or the second, may have failed for lack of memory.
+//! - [`is_server`]: whether an ID is that of a trust domain's server; [`limit_passed`]: the limit that a book passes, if any.
+//! - [`laws`]: theorems about every book, such as that each reachable book is lawful.
 //!
-//! `docs/BOOK.md` tells the rules.
+//! `docs/BOOK.md` has the rules, and `docs/GLOSSARY.md` the terms.
 #![tactic(auto)]
 
 mod agent;

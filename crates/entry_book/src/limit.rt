@@ -4,8 +4,8 @@ ghost use Rattle.std.specs.Prelude.{◌≡◌};
 ghost use Rattle.entry_book.specs.Codes.{limit_code};
 ghost use Rattle.entry_book.specs.Limits.{limit_over};
 
-/// Why a batch of changes is too much for the books: there are too many of them already, or the new one would be too
-/// large. The first that holds, in this order.
+/// Why a batch of changes doesn't fit: there are too many commits already, or the new book would be too large. The
+/// variants are in the order in which they are checked.
 #[derive(Clone, Copy, Debug, PartialEq, Eq, Drop)]
 pub enum Limit {
     /// 2^48 batches are committed already.
@@ -16,12 +16,12 @@ pub enum Limit {
     Agents,
     /// The new book would have over 1,024 bundles.
     Bundles,
-    /// The new book would keep over 65,536 tokens.
+    /// The new book would store over 65,536 tokens.
     Tokens,
 }
 
 impl Limit {
-    /// The limit's code, as it is printed.
+    /// Returns the code that is printed for the limit.
     pub fn code(self) -> &'static str
         ensures { result.now ≡ limit_code self }
     {
@@ -35,8 +35,8 @@ impl Limit {
     }
 }
 
-/// The first limit that is passed by a book with so many rows of each kind that is to follow the one at this place, which
-/// is the count of batches committed so far.
+/// Returns the first limit that is passed by a book with these numbers of rows that follows the one at this place. The
+/// place is the number of batches committed so far.
 pub fn limit_passed(
     place: u64,
     entries: usize,

@@ -8,7 +8,7 @@ use crate::page::PageQuery;
 use std::alloc::{AllocError, Global};
 use uuid::Uuid;
 
-/// Does the entry come after this id, where one is given?
+/// Returns true if the entry comes after this id, or no id is given.
 #[tactic(auto, unfolding(crate::specs::Order::is_before))]
 fn comes_after(entry: &Entry, from: Option<Uuid>) -> bool
     ensures { result ≡ comes_after from entry.now }
@@ -19,7 +19,7 @@ fn comes_after(entry: &Entry, from: Option<Uuid>) -> bool
     }
 }
 
-/// Adds an entry, and answers its id, which is the last one then. The error is want of memory.
+/// Appends an entry, and returns its id, which is now the last one. The error is out of memory.
 #[tactic(auto, using(crate::proofs::Pages::last_of))]
 fn push_last(listed: &mut Vec<Entry>, entry: &Entry) -> Result<Option<Uuid>, AllocError>
     ensures pushed { OnOk result (listed.new.items ≡ listed.old.items ++ entry.now ∷ []) }
@@ -33,15 +33,15 @@ impl PageQuery {
     ghost use Rattle.std.specs.Prelude.{◌≡◌, ◌&&◌, IfOk, filter, length, nat_lt, take, if◌then◌else◌, None};
     ghost use Rattle.entry_book.specs.Pages.{comes_after, last_id, passes};
 
-    /// Would the page list the entry, had it room for all?
+    /// Returns true if a page of unlimited size would list the entry.
     pub fn lists(&self, entry: &Entry) -> bool
         ensures { result ≡ (passes self.now.filter entry.now && comes_after self.now.from entry.now) }
     {
         self.filter.passes(entry) && comes_after(entry, self.from)
     }
 
-    /// The first of these entries that the page lists, as many as it has room for, and the id after which the next page
-    /// begins, where there is one. The error is want of memory.
+    /// Returns the first of these entries that the page lists, as many as it has room for, and the id after which the next
+    /// page begins, if there is one. The error is out of memory.
     pub fn page_of(
         &self,
         alloc: Global,

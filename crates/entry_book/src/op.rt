@@ -12,30 +12,29 @@ use spiffe_name::{SpiffeId, TrustDomain};
 use std::alloc::AllocError;
 use uuid::Uuid;
 
-/// One operation of a batch. A copy of it copies no text.
+/// One operation of a batch. A clone shares its texts.
 #[derive(Drop)]
 pub enum Op {
     /// Adds an entry, at revision 0. Refused `IdTaken`, `Similar` or `NoBundle`.
     Create(Shared<NewEntry>),
-    /// Replaces all of an entry but its id, at its next revision; the number is the revision that is expected, if one
-    /// is. Refused `NoEntry`, `StaleRevision`, `Similar` or `NoBundle`.
+    /// Replaces all of an entry except its id, at its next revision; the number is the expected revision, if any.
+    /// Refused `NoEntry`, `StaleRevision`, `Similar` or `NoBundle`.
     Update(Shared<NewEntry>, Option<u64>),
-    /// Removes an entry; the number is the revision that is expected, if one is. Refused `NoEntry` or
-    /// `StaleRevision`.
+    /// Removes an entry; the number is the expected revision, if any. Refused `NoEntry` or `StaleRevision`.
     Delete(Uuid, Option<u64>),
-    /// Asks for an entry, which may be missing. Never refused.
+    /// Reads an entry, which may be missing. Never refused.
     Show(Uuid),
-    /// Asks for an agent, which may be missing. Never refused.
+    /// Reads an agent, which may be missing. Never refused.
     ShowAgent(Shared<SpiffeId>),
-    /// Asks for a bundle, which may be missing, as that of the own domain always is. Never refused.
+    /// Reads a bundle, which may be missing; the own domain never has one. Never refused.
     ShowBundle(Shared<TrustDomain>),
-    /// Asks for the entries of a parent. Never refused.
+    /// Reads the entries of a parent. Never refused.
     Children(Shared<SpiffeId>),
-    /// Asks for a page of the entries. Refused `VersionGone` where it gives the number of a book that is none of the last 64.
+    /// Reads a page of the entries. Refused `VersionGone` if it gives the number of a book that is not one of the last 64.
     Page(Shared<PageQuery>),
-    /// Asks for the authorised entries of an agent. Refused `NoAgent`.
+    /// Reads the authorised entries of an agent. Refused `NoAgent`.
     Authorised(Shared<SpiffeId>),
-    /// Asks for the bundles of the domains that the authorised entries of an agent name. Refused `NoAgent`.
+    /// Reads the bundles of the domains that the authorised entries of an agent name. Refused `NoAgent`.
     Trust(Shared<SpiffeId>),
     /// Removes the entries that expire before a moment, in seconds since the epoch; an expiry of 0 is none. Never
     /// refused.
@@ -54,7 +53,7 @@ impl Op {
     ghost use Rattle.std.specs.Prelude.{◌≡◌};
     ghost use Rattle.entry_book.specs.Batches.{is_question, place_asked};
 
-    /// Does the operation only ask?
+    /// Returns true if the operation is read-only.
     pub fn is_question(&self) -> bool
         ensures { result ≡ is_question self.now }
     {
@@ -77,7 +76,7 @@ impl Op {
         }
     }
 
-    /// The number of a book that the operation gives, where it is a page that gives one.
+    /// Returns the number of a book, if the operation is a page that gives one.
     pub fn place_asked(&self) -> Option<u64>
         ensures { result ≡ place_asked self.now }
     {

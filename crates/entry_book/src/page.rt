@@ -1,4 +1,4 @@
-//! What does a page of entries ask for?
+//! What is a query for a page of entries?
 
 ghost use Rattle.std.specs.Prelude.{◌≡◌};
 ghost use Rattle.entry_book.specs.Pages.{is_given};
@@ -9,25 +9,25 @@ use spiffe_name::{SelectorSet, SpiffeId, TrustDomain};
 use std::alloc::AllocError;
 use uuid::Uuid;
 
-/// How an entry's selectors have to stand to those that are given.
+/// How an entry's selectors have to relate to the given ones.
 #[derive(Clone, Copy, Debug, PartialEq, Eq, Drop)]
 pub enum MatchMode {
     /// They are the same set.
     Exact,
     /// They have one in common.
     Any,
-    /// The entry's contain the given ones.
+    /// The entry's set contains the given one.
     Superset,
-    /// The entry's lie within the given ones.
+    /// The entry's set is contained in the given one.
     Subset,
 }
 
-/// A question to an entry's selectors. A copy of it copies no text.
+/// A condition on an entry's selectors. A clone shares the set.
 #[derive(Drop)]
 pub struct SelectorMatch {
-    /// The selectors that are given.
+    /// The given selectors.
     pub selectors: Shared<SelectorSet>,
-    /// How the entry's have to stand to them.
+    /// How the entry's selectors have to relate to them.
     pub mode: MatchMode,
 }
 
@@ -35,7 +35,7 @@ impl SelectorMatch {
     ghost use Rattle.std.specs.Prelude.{◌≡◌};
     ghost use Rattle.entry_book.specs.Pages.{matches};
 
-    /// Does the entry have such selectors?
+    /// Returns true if the entry's selectors satisfy the condition.
     pub fn matches(&self, entry: &Entry) -> bool
         ensures { result ≡ matches self.now entry.now }
     {
@@ -61,7 +61,7 @@ impl Clone for SelectorMatch {
     }
 }
 
-/// Which entries a page lists: those that meet each part that is given. A copy of it copies no text.
+/// Which entries a page lists: those that satisfy each part that is given. A clone shares its texts.
 #[derive(Drop)]
 pub struct Filter {
     /// The parent of the entry.
@@ -70,11 +70,11 @@ pub struct Filter {
     pub identity: Option<Shared<SpiffeId>>,
     /// A trust domain that the entry names.
     pub domain: Option<Shared<TrustDomain>>,
-    /// A question to the entry's selectors.
+    /// A condition on the entry's selectors.
     pub selectors: Option<SelectorMatch>,
 }
 
-/// Where an ID is given, is it this one?
+/// Returns true if no ID is given, or this one.
 fn is_given(given: &Option<Shared<SpiffeId>>, id: &Shared<SpiffeId>) -> bool
     ensures { result ≡ is_given given.now id.now }
 {
@@ -88,7 +88,7 @@ impl Filter {
     ghost use Rattle.std.specs.Prelude.{◌≡◌};
     ghost use Rattle.entry_book.specs.Pages.{passes, passes_domain, passes_selectors};
 
-    /// Does the entry meet each part that is given?
+    /// Returns true if the entry satisfies each part that is given.
     pub fn passes(&self, entry: &Entry) -> bool
         ensures { result ≡ passes self.now entry.now }
     {
@@ -98,7 +98,7 @@ impl Filter {
             && self.passes_selectors(entry)
     }
 
-    /// Where a trust domain is given, does the entry name it?
+    /// Returns true if no trust domain is given, or the entry names it.
     fn passes_domain(&self, entry: &Entry) -> bool
         ensures { result ≡ passes_domain self.now.domain entry.now }
     {
@@ -108,7 +108,7 @@ impl Filter {
         }
     }
 
-    /// Where there is a question to selectors, does the entry have such ones?
+    /// Returns true if no condition on selectors is given, or the entry satisfies it.
     fn passes_selectors(&self, entry: &Entry) -> bool
         ensures { result ≡ passes_selectors self.now.selectors entry.now }
     {
@@ -132,14 +132,14 @@ impl Clone for Filter {
     }
 }
 
-/// One page of entries. A copy of it copies no text.
+/// A query for one page of entries. A clone shares its texts.
 #[derive(Drop)]
 pub struct PageQuery {
-    /// How many entries it lists at most, 1 to 500.
+    /// The maximum number of entries that it lists, 1 to 500.
     pub size: u64,
-    /// The number of the book that it reads, one of the last 64; none for the last one, whatever its number.
+    /// The number of the book that it reads, one of the last 64; `None` for the last one, whatever its number.
     pub at: Option<u64>,
-    /// The id after which it begins, where it doesn't begin with the first entry.
+    /// The id after which it begins; `None` to begin with the first entry.
     pub from: Option<Uuid>,
     /// Which entries it lists.
     pub filter: Filter,

@@ -1,14 +1,13 @@
-//! How are two values had together, of which each may be refused for want of memory?
+//! How does a function combine two values, each of which may have failed for lack of memory?
 //!
-//! A struct whose parts each ask for memory is made so. What was had is let go here where the other one was refused, and nothing
-//! else is known of it here; elsewhere a proof would have to show of each of its parts that it may be let go, among all
-//! that is known there.
+//! Structs whose parts are allocated separately are made this way. If one part failed, the other one is dropped here, where the
+//! prover knows little. Elsewhere it would have to show for each part that it may be dropped, among many more facts.
 
 ghost use Rattle.std.specs.Prelude.{◌≡◌, IfOk, Ok};
 
 use std::alloc::AllocError;
 
-/// Both values, where both were had; else the one that was is let go. The error is want of memory.
+/// Returns both values if both are there; otherwise drops the one that is. The error is out of memory.
 pub fn both<A: Drop, B: Drop>(
     first: Result<A, AllocError>,
     second: Result<B, AllocError>,
@@ -20,7 +19,7 @@ pub fn both<A: Drop, B: Drop>(
     Ok((first, second))
 }
 
-/// A value and another one, where the other was had; else the first is let go. The error is want of memory.
+/// Returns both values if the second is there; otherwise drops the first. The error is out of memory.
 pub fn beside<A: Drop, B>(first: A, second: Result<B, AllocError>) -> Result<(A, B), AllocError>
     ensures { IfOk result (λ both. (both.0 ≡ first) × (second ≡ Ok both.1)) }
 {

@@ -1,4 +1,4 @@
-//! What does a book answer?
+//! What does a book reply?
 
 ghost use Rattle.std.specs.Prelude.{◌≡◌};
 ghost use Rattle.entry_book.specs.Codes.{op_code, refusal_code, refusal_op};
@@ -13,26 +13,26 @@ use spiffe_name::TrustDomain;
 use std::alloc::AllocError;
 use uuid::Uuid;
 
-/// The answer to one operation. A copy of it copies no text; that of several rows has a vector of its own.
+/// The reply to one operation. A clone shares the rows' texts; if it has several rows, it allocates a vector for them.
 #[derive(Drop)]
 pub enum OpReply {
     /// The entry that was added or changed, as the operation left it, or the one that was removed.
     Entry(Entry),
-    /// The entry that was asked for, where there is one.
+    /// The entry that was queried, if there is one.
     EntryShown(Option<Entry>),
-    /// The entries that were asked for, in the order of their ids.
+    /// The entries that were queried, in the order of their ids.
     Entries(Sequence<Entry>),
-    /// The entries of a page, in the order of their ids, and the id after which the next page begins, where there is one.
+    /// The entries of a page, in the order of their ids, and the id after which the next page begins, if there is one.
     Page(Sequence<Entry>, Option<Uuid>),
     /// The agent that was set or removed.
     Agent(Agent),
-    /// The agent that was asked for, where there is one.
+    /// The agent that was queried, if there is one.
     AgentShown(Option<Agent>),
     /// The bundle that was set.
     Bundle(Bundle),
-    /// The bundle that was asked for, where there is one.
+    /// The bundle that was queried, if there is one.
     BundleShown(Option<Bundle>),
-    /// The bundles that were asked for, in the order of their domains.
+    /// The bundles that were queried, in the order of their domains.
     Bundles(Sequence<Bundle>),
     /// The ids of the entries that were pruned, in order.
     Pruned(Sequence<Uuid>),
@@ -63,29 +63,29 @@ impl Clone for OpReply {
     }
 }
 
-/// Why an operation is refused by the book that it finds. A copy of it copies no text.
+/// Why the book refuses an operation. A clone shares its texts.
 #[derive(Drop)]
 pub enum OpRefusal {
-    /// The book has an entry of this id.
+    /// The book has an entry with this id.
     IdTaken,
-    /// Another entry, of this id, has the same parent, identity and selectors.
+    /// Another entry, with this id, has the same parent, identity and selectors.
     Similar(Uuid),
-    /// The book has no entry of this id.
+    /// The book has no entry with this id.
     NoEntry,
-    /// Another revision of the entry was expected.
+    /// The entry has another revision than the expected one.
     StaleRevision,
-    /// The book has no bundle of this domain, the first such one of the operation.
+    /// The book has no bundle of this domain, which is the first such one of the operation.
     NoBundle(Shared<TrustDomain>),
     /// An entry names the bundle's domain.
     BundleInUse,
     /// The book has no such agent.
     NoAgent,
-    /// The book that a page asks for is none of the last 64.
+    /// The book that a page reads is not one of the last 64.
     VersionGone,
 }
 
 impl OpRefusal {
-    /// The refusal's code, as it is printed. `Similar` has the id as its detail, and `NoBundle` the domain.
+    /// Returns the code that is printed for the refusal. The id of `Similar` and the domain of `NoBundle` are printed with it.
     pub fn code(&self) -> &'static str
         ensures { result.now ≡ op_code self.now }
     {
@@ -119,21 +119,21 @@ impl Clone for OpRefusal {
     }
 }
 
-/// Why a batch is refused by the books that it finds. A copy of it copies no text.
+/// Why a batch is refused. A clone shares its texts.
 #[derive(Drop)]
 pub enum Refusal {
     /// The batch may run only at a later place.
     NotYet,
-    /// Another batch was committed with its token.
+    /// A different batch was committed with its token.
     TokenReused,
-    /// This operation, counted from 0, is refused.
+    /// The operation at this index, from 0, is refused.
     OfOp(usize, OpRefusal),
-    /// This limit doesn't let the batch's changes in.
+    /// The batch's changes would pass this limit.
     Full(Limit),
 }
 
 impl Refusal {
-    /// The refusal's code, as it is printed.
+    /// Returns the code that is printed for the refusal.
     pub fn code(&self) -> &'static str
         ensures { result.now ≡ refusal_code self.now }
     {
@@ -145,7 +145,7 @@ impl Refusal {
         }
     }
 
-    /// The index, from 0, of the operation that is refused, where it is a single one.
+    /// Returns the index, from 0, of the refused operation, if it is a single one.
     pub fn op(&self) -> Option<usize>
         ensures { result ≡ refusal_op self.now }
     {
@@ -169,14 +169,14 @@ impl Clone for Refusal {
     }
 }
 
-/// What became of a batch. A copy of it shares the answers to the operations.
+/// The outcome of a batch. A clone shares the replies to the operations.
 #[derive(Drop)]
 pub enum Outcome {
-    /// The changes are made; the answers to the operations, in order.
+    /// The changes were made; the replies to the operations, in order.
     Committed(Shared<Sequence<OpReply>>),
-    /// The batch only asked; the answers to the operations, in order.
+    /// The batch was read-only; the replies to the operations, in order.
     Answered(Shared<Sequence<OpReply>>),
-    /// The batch was committed before, with its token; the answers that it was given then.
+    /// The batch was committed before, with its token; the replies that it got then.
     Repeated(Shared<Sequence<OpReply>>),
     /// Nothing was changed.
     Refused(Refusal),
@@ -195,14 +195,14 @@ impl Clone for Outcome {
     }
 }
 
-/// The answer to a batch. A copy of it shares the answers to the operations: it counts their owners, and copies no row
-/// and no text.
+/// The reply to a batch. A clone shares the replies to the operations: it increments their reference count, and copies
+/// no row and no text.
 #[derive(Drop)]
 pub struct Reply {
-    /// The new book's number where the batch is committed, that of the book that it added where it was committed before,
-    /// and the number of the last book in every other case.
+    /// The new book's number if the batch was committed, the number of the book that it added if it was committed before,
+    /// and otherwise the number of the last book.
     pub place: u64,
-    /// What became of the batch.
+    /// The outcome of the batch.
     pub outcome: Outcome,
 }
 

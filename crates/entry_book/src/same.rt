@@ -9,7 +9,7 @@ use crate::entry::NewEntry;
 use crate::op::Op;
 use crate::page::{Filter, PageQuery, SelectorMatch};
 
-/// Are these the same operations, one by one?
+/// Returns true if these are the same operations, in the same order.
 pub(crate) fn is_same_ops(ops: &[Op], others: &[Op]) -> bool
     ensures { result ≡ ops_eq ops.now others.now }
 {
@@ -93,7 +93,7 @@ fn is_same_filter(filter: &Filter, other: &Filter) -> bool
         && is_same_question(&filter.selectors, &other.selectors)
 }
 
-/// Is there the same question to selectors in both, or none in either?
+/// Returns true if both have the same condition on selectors, or neither has one.
 fn is_same_question(question: &Option<SelectorMatch>, other: &Option<SelectorMatch>) -> bool
     ensures { result ≡ option_eq match_eq question.now other.now }
 {

@@ -5,8 +5,8 @@ ghost use Rattle.std.specs.Prelude.{◌≡◌};
 use std::alloc::{AllocError, Global};
 use std::marker::Model;
 
-/// A vector that contracts see as the list of its items, whatever room it has. It is made of a `Vec` and gives it
-/// back without memory.
+/// A vector whose model in contracts is the list of its items, whatever its capacity. Conversion from and to a `Vec`
+/// doesn't allocate.
 #[derive(Drop)]
 pub struct Sequence<T> {
     items: Vec<T>,
@@ -23,14 +23,14 @@ impl<T> Model for Sequence<T> {
 impl<T> Sequence<T> {
     ghost use Rattle.std.specs.Prelude.{◌≡◌, ◌++◌, ◌∷◌, [], OnOk, OnErr};
 
-    /// The items of a vector, in its order.
+    /// Wraps a vector.
     pub fn of(items: Vec<T>) -> Sequence<T>
         ensures { result ≡ items.items }
     {
         Sequence { items }
     }
 
-    /// No items yet.
+    /// Makes an empty sequence.
     pub fn empty(alloc: Global) -> Sequence<T>
         ensures { result ≡ [] }
     {
@@ -39,7 +39,7 @@ impl<T> Sequence<T> {
         }
     }
 
-    /// The vector.
+    /// Returns the vector.
     pub fn into_vec(self) -> Vec<T>
         ensures { result.items ≡ self }
     {
@@ -47,14 +47,14 @@ impl<T> Sequence<T> {
         items
     }
 
-    /// The vector, lent.
+    /// Borrows the vector.
     pub fn as_vec(&self) -> &Vec<T>
         ensures { result.now.items ≡ self.now }
     {
         &self.items
     }
 
-    /// The items.
+    /// Returns the items.
     pub fn as_slice(&self) -> &[T]
         ensures { result.now ≡ self.now }
     {
@@ -65,7 +65,7 @@ impl<T> Sequence<T> {
 impl<T: Drop> Sequence<T> {
     ghost use Rattle.std.specs.Prelude.{◌≡◌, ◌++◌, ◌∷◌, [], OnOk, OnErr};
 
-    /// One more item at the end; without memory for it the list stays.
+    /// Appends an item. If out of memory, the list stays as it is.
     pub fn push(&mut self, item: T) -> Result<(), AllocError>
         ensures ok { OnOk result (self.new ≡ self.old ++ item ∷ []) }
         ensures err { OnErr result (self.new ≡ self.old) }
@@ -75,7 +75,7 @@ impl<T: Drop> Sequence<T> {
     }
 }
 
-/// Each item of a copy is a copy of the one in its place.
+/// Each item of a clone is a clone of the item at its index.
 impl<T: Clone> Clone for Sequence<T> {
     ghost use Rattle.std.specs.List.{AllZip};
 

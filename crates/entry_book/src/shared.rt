@@ -1,4 +1,4 @@
-//! How is one value held by several owners?
+//! A value with a reference count.
 
 ghost use Rattle.std.specs.Prelude.{◌≡◌};
 
@@ -7,8 +7,8 @@ use std::cmp::Ordering;
 use std::marker::Model;
 use std::sync::Arc;
 
-/// A value with several owners, behind an `Arc`. A copy is one more owner, and copies no text. A contract sees the
-/// value itself.
+/// A value behind an `Arc`. A clone increments the reference count and copies nothing else. The model in contracts is
+/// the value itself.
 #[derive(Drop)]
 pub struct Shared<T> {
     value: Arc<T>,
@@ -25,7 +25,7 @@ impl<T> Model for Shared<T> {
 impl<T> Shared<T> {
     ghost use Rattle.std.specs.Prelude.{◌≡◌, IfOk};
 
-    /// The value with its first owner. The error is want of memory.
+    /// Makes a shared value with a reference count of 1. The error is out of memory.
     pub fn of(alloc: Global, value: T) -> Result<Shared<T>, AllocError>
     where
         T: Drop,
@@ -36,7 +36,7 @@ impl<T> Shared<T> {
         })
     }
 
-    /// The value.
+    /// Returns the value.
     pub fn get(&self) -> &T
         ensures { result.now ≡ self.now }
     {
@@ -54,7 +54,7 @@ impl<T: Drop> Clone for Shared<T> {
     }
 }
 
-/// Two are equal where their values are.
+/// Two shared values are equal if the values are.
 impl<T: PartialEq> PartialEq for Shared<T> {
     ghost eq = { T.eq };
 
@@ -79,7 +79,7 @@ impl<T: PartialOrd> PartialOrd for Shared<T> {
     }
 }
 
-/// The order is that of the values.
+/// Shared values are ordered as the values are.
 impl<T: Ord> Ord for Shared<T> {
     ghost cmp = { T.cmp };
 

@@ -6,7 +6,7 @@ ghost use Rattle.std.specs.Cmp.Lexicographic.{nat_list_eq_equiv};
 
 use std::marker::Model;
 
-/// A text that contracts see as its bytes. It is made of a `String` and gives it back without memory.
+/// A text whose model in contracts is its bytes. Conversion from and to a `String` doesn't allocate.
 #[derive(Drop)]
 pub struct Text {
     text: String,
@@ -25,14 +25,14 @@ impl Text {
     ghost use Rattle.std.specs.String.{string_bytes};
     ghost use Rattle.std.specs.Prelude.{◌≡◌};
 
-    /// The text of a string.
+    /// Wraps a string.
     pub fn of(text: String) -> Text
         ensures { result ≡ string_bytes text }
     {
         Text { text }
     }
 
-    /// The string.
+    /// Returns the string.
     pub fn into_string(self) -> String
         ensures { string_bytes result ≡ self }
     {
@@ -40,7 +40,7 @@ impl Text {
         text
     }
 
-    /// The text.
+    /// Borrows the text.
     pub fn as_str(&self) -> &str
         ensures { result.now ≡ self.now }
     {
@@ -48,7 +48,7 @@ impl Text {
     }
 }
 
-/// Two are equal where their bytes are.
+/// Two texts are equal if their bytes are.
 impl PartialEq for Text {
     ghost eq = { bytes_eq };
 

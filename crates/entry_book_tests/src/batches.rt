@@ -9,13 +9,13 @@ use std::alloc::Global;
 use std::process::Abort;
 use std::test::Fail;
 
-/// The count of the operations of the batch's copy.
+/// The number of operations of a copy of the batch.
 fn count_in_copy(batch: Batch) -> Result<usize, Fail> {
     let copied = copy(batch)?;
     Ok(copied.ops().len())
 }
 
-/// The code of a batch's refusal and the index at fault, or `ok` and the count of a copy's operations.
+/// The code of a batch's refusal and the index of the operation at fault, or `ok` and the number of operations of a copy.
 fn fault(
     alloc: Global,
     domain: &TrustDomain,
@@ -28,19 +28,19 @@ fn fault(
     }
 }
 
-/// The fault of the batch that a text tells, as `fault` has it.
+/// The result of `fault` for the batch of a text.
 fn fault_told(alloc: Global, told: &str) -> Result<(&'static str, usize), Fail> {
     let domain = TrustDomain::parse(alloc, "ex.org")?;
     fault(alloc, &domain, ops(alloc, told)?)
 }
 
-/// Are these the code and the number of the batch?
+/// Asserts the code and the number of a batch.
 fn is_fault(rt: &impl Abort, (got, at): (&str, usize), (code, number): (&str, u64)) {
     is_text(rt, got, code, "code");
     is_number(rt, at as u64, number, code);
 }
 
-/// Is the code at the start of the line that of the batch of the one operation behind it?
+/// Asserts that the code at the start of the line is that of the batch with the one operation after it.
 fn check_line(rt: &impl Abort, alloc: Global, line: &str) -> Result<(), Fail> {
     let (code, told) = line.split_once(' ').unwrap_or((line, ""));
     let (got, _) = fault_told(alloc, told)?;
@@ -48,7 +48,7 @@ fn check_line(rt: &impl Abort, alloc: Global, line: &str) -> Result<(), Fail> {
     Ok(())
 }
 
-/// Is each line of the table the code of a batch and its one operation?
+/// Checks each line of the table: a code, and the one operation of a batch that gets it.
 pub fn check(rt: &impl Abort, alloc: Global, table: &str) -> Result<(), Fail> {
     for line in table.lines() {
         check_line(rt, alloc, line)?;
@@ -65,20 +65,20 @@ fn add_questions(alloc: Global, ops: &mut Sequence<Op>, count: u64) -> Result<()
     Ok(())
 }
 
-/// So many equal questions.
+/// The given number of equal queries.
 fn questions(alloc: Global, count: u64) -> Result<Sequence<Op>, Fail> {
     let mut ops = Sequence::empty(alloc);
     let added = add_questions(alloc, &mut ops, count);
     where_done(added, ops)
 }
 
-/// The fault of a batch of so many questions, as `fault` has it.
+/// The result of `fault` for a batch of the given number of queries.
 fn fault_of_questions(alloc: Global, count: u64) -> Result<(&'static str, usize), Fail> {
     let domain = TrustDomain::parse(alloc, "ex.org")?;
     fault(alloc, &domain, questions(alloc, count)?)
 }
 
-/// Are these the code and the number of a batch of so many questions?
+/// Asserts the code and the number of a batch with the given number of queries.
 fn counts(
     rt: &impl Abort,
     alloc: Global,
@@ -117,14 +117,14 @@ fn add_behind_a_question(alloc: Global, ops: &mut Sequence<Op>, told: &str) -> R
     add(alloc, ops, told)
 }
 
-/// A question, and the operation that a text tells behind it.
+/// A query, and the operation of a text after it.
 fn behind_a_question(alloc: Global, told: &str) -> Result<Sequence<Op>, Fail> {
     let mut ops = Sequence::empty(alloc);
     let added = add_behind_a_question(alloc, &mut ops, told);
     where_done(added, ops)
 }
 
-/// A copy of the batch of a question and the operation that a text tells.
+/// A copy of the batch of a query and the operation of a text.
 fn batch_behind_a_question(alloc: Global, told: &str) -> Result<Batch, Fail> {
     let own = TrustDomain::parse(alloc, "ex.org")?;
     let ops = behind_a_question(alloc, told)?;
@@ -136,7 +136,7 @@ fn op_is_question(alloc: Global, told: &str) -> Result<bool, Fail> {
     Ok(op.is_question())
 }
 
-/// Is a batch of a question and this operation a query, or not, as the operation is a question, or not?
+/// Asserts whether the operation is read-only, and that a batch of a query and this operation is so too.
 fn asks(rt: &impl Abort, alloc: Global, told: &str, is_question: bool) -> Result<(), Fail> {
     let is_told_question = op_is_question(alloc, told)?;
     holds(rt, is_told_question == is_question, told);

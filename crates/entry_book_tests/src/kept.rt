@@ -1,4 +1,4 @@
-//! What does a batch carry beside its operations, and when are two batches' operations the same?
+//! What does a batch carry besides its operations, and when are two batches' operations the same?
 
 use crate::making::uuid;
 use crate::told_ops::ops;
@@ -11,8 +11,8 @@ use std::process::Abort;
 use std::test::Fail;
 use uuid::Uuid;
 
-/// The code of the refusal of the batch that a text tells and the index at fault, or `ok` and the place that it asks for; 99 for
-/// none.
+/// The code of the refusal of a text's batch and the index of the operation at fault, or `ok` and the number of the book that the
+/// batch reads; 99 means none.
 fn told(alloc: Global, batch: &str, token: Option<Uuid>) -> Result<(&'static str, u64), Fail> {
     let domain = TrustDomain::parse(alloc, "ex.org")?;
     let ops = ops(alloc, batch)?;
@@ -25,7 +25,7 @@ fn told(alloc: Global, batch: &str, token: Option<Uuid>) -> Result<(&'static str
     }
 }
 
-/// Are the code and the number at the start of the line, before a colon, those of the batch behind it?
+/// Checks a line: a code, a number, a colon, and the batch that gets them from `told`.
 fn is_told(rt: &impl Abort, alloc: Global, line: &str, token: Option<Uuid>) -> Result<(), Fail> {
     let (want, batch) = line.split_once(": ").unwrap_or((line, ""));
     let (code, number) = want.split_once(' ').unwrap_or((want, ""));
@@ -93,24 +93,24 @@ fn kept(alloc: Global, ops: Sequence<Op>) -> Result<KeptBatch, Fail> {
     })
 }
 
-/// Copies of the operations that a text tells.
+/// Copies of the operations of a text.
 fn copies(alloc: Global, told: &str) -> Result<Sequence<Op>, Fail> {
     copy(ops(alloc, told)?)
 }
 
-/// Has a batch that is kept the operations that a text tells?
+/// Returns true if a stored batch has the operations of a text.
 fn has_ops(alloc: Global, kept: &KeptBatch, told: &str) -> Result<bool, Fail> {
     let ops = copies(alloc, told)?;
     Ok(kept.has_ops(ops.as_slice()))
 }
 
-/// Has a batch that is kept of the operations of one text those of another text?
+/// Returns true if a stored batch of the operations of one text has those of another text.
 fn is_same(alloc: Global, told: &str, other: &str) -> Result<bool, Fail> {
     let kept = kept(alloc, copies(alloc, told)?)?;
     has_ops(alloc, &kept, other)
 }
 
-/// Is an operation the same as one of the same text, and another one, behind the bar, not?
+/// Asserts that an operation equals one of the same text, and differs from the one after the bar.
 fn compare(rt: &impl Abort, alloc: Global, line: &str) -> Result<(), Fail> {
     let (told, other) = line.split_once(" | ").unwrap_or((line, line));
     holds(rt, is_same(alloc, told, told)?, told);
@@ -119,7 +119,7 @@ fn compare(rt: &impl Abort, alloc: Global, line: &str) -> Result<(), Fail> {
     Ok(())
 }
 
-/// Is the first operation of each line the same as itself, and the other one not?
+/// Asserts for each line that the first operation equals itself and differs from the other one.
 fn compare_lines(rt: &impl Abort, alloc: Global, table: &str) -> Result<(), Fail> {
     for line in table.lines() {
         compare(rt, alloc, line)?;
@@ -168,7 +168,7 @@ update /spire/agent/n1 /web | create /spire/agent/n1 /web
 prune 1 | prune 2
 ";
 
-/// A revision that is given matters, also where it is the one that would be found.
+/// An expected revision matters, even if it is the one that would be found.
 #[test]
 fn revisions_and_kinds_are_compared(rt: HostRuntime) -> Result<(), Fail> {
     compare_lines(&rt, rt.alloc(), REVISIONS)
@@ -230,7 +230,7 @@ fn questions_to_selectors_are_compared(rt: HostRuntime) -> Result<(), Fail> {
     compare_lines(&rt, rt.alloc(), QUESTIONS_TO_SELECTORS)
 }
 
-/// Operations in another order, or fewer of them, are others.
+/// Operations in another order, or fewer of them, are different.
 #[test]
 fn order_and_count_are_compared(rt: HostRuntime) -> Result<(), Fail> {
     let alloc = rt.alloc();

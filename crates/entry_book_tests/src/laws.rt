@@ -1,4 +1,4 @@
-//! Each law can be called.
+//! Each theorem can be called.
 
 use entry_book::laws;
 

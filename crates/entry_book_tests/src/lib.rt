@@ -2,10 +2,10 @@
 //!
 //! The crate has tests alone, over the public calls of `entry_book`:
 //!
-//! - `batches`: batches and their refusals; `pages`: those of pages; `kept`: what a batch carries beside its operations, and
-//!   when operations are the same; `rows`: what rows are made of; `limits`: when a limit comes; `laws`: each law is called.
-//! - `making`: entries, and the parts of operations; `told_ops`: operations of the words of a text; `values`: values of any
-//!   type; `wanted`: what a test wants to see.
+//! - `batches`: batches and their refusals; `pages`: those of pages; `kept`: what a batch carries besides its operations, and
+//!   when operations are the same; `rows`: what rows consist of; `limits`: when a limit is passed; `laws`: each theorem is called.
+//! - `making`: entries, and the parts of operations; `told_ops`: operations from the words of a text; `values`: values of any
+//!   type; `wanted`: assertions.
 #![tactic(auto)]
 
 #[cfg(test)]

@@ -1,14 +1,14 @@
-//! When does a limit come?
+//! When is a limit passed?
 
 use crate::wanted::holds;
 use entry_book::{Limit, limit_passed};
 use std::process::Abort;
 use std::test::Fail;
 
-/// The most batches that are committed.
+/// The maximum number of committed batches.
 const COMMITS: u64 = 1 << 48;
 
-/// Is this the limit that a book with so many entries, agents, bundles and tokens passes behind this place?
+/// Asserts the limit that a book with these numbers of entries, agents, bundles and tokens passes after this place, if any.
 fn passes(
     rt: &impl Abort,
     place: u64,

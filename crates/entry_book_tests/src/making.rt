@@ -1,4 +1,4 @@
-//! Entries, and the parts of operations, made of a few words.
+//! Entries, and the parts of operations, made from a few words.
 
 use entry_book::{Agent, DomainSet, NewEntry, Shared, Text};
 use spiffe_name::{Selector, SelectorSet, SpiffeId, TrustDomain};
@@ -16,7 +16,7 @@ pub const FOREIGN: &str = "spiffe://b.org/spire/agent/n1";
 
 pub const BARE: &str = "spiffe://ex.org";
 
-/// The UUID whose last byte is 7, all others being 0.
+/// The UUID whose last byte is 7, and whose other bytes are 0.
 pub fn uuid() -> Uuid {
     Uuid::from_u64_pair(0, 7)
 }
@@ -34,7 +34,7 @@ fn numbered(alloc: Global, start: &str, number: u32) -> Result<String, Fail> {
     Ok(format!(in alloc; "{start}{shifted}")?)
 }
 
-/// So many selectors, each given twice.
+/// The given number of selectors, each inserted twice.
 pub fn selectors(alloc: Global, count: u32) -> Result<Shared<SelectorSet>, Fail> {
     let mut selectors = Vec::new(alloc);
     for n in 0..count {
@@ -45,7 +45,7 @@ pub fn selectors(alloc: Global, count: u32) -> Result<Shared<SelectorSet>, Fail>
     Ok(Shared::of(alloc, SelectorSet::of(selectors)?)?)
 }
 
-/// So many trust domains from the last to the first, which is `d100`, each given twice.
+/// The given number of trust domains, in descending order down to `d100`, each inserted twice.
 pub fn domains(alloc: Global, count: u32) -> Result<DomainSet, Fail> {
     let mut domains = Vec::new(alloc);
     for n in 0..count {
@@ -56,7 +56,7 @@ pub fn domains(alloc: Global, count: u32) -> Result<DomainSet, Fail> {
     Ok(DomainSet::of(alloc, domains)?)
 }
 
-/// A text of so many bytes.
+/// A text of the given number of bytes.
 pub fn text(alloc: Global, length: usize) -> Result<Shared<Text>, Fail> {
     let mut text = String::new(alloc);
     for _ in 0..length {
@@ -65,7 +65,7 @@ pub fn text(alloc: Global, length: usize) -> Result<Shared<Text>, Fail> {
     Ok(Shared::of(alloc, Text::of(text))?)
 }
 
-/// An entry with one selector, no hint and no domains, that expires at 99 and gives its two lifetimes.
+/// An entry with one selector, no hint and no domains, which expires at 99 and has two lifetimes.
 pub fn new_entry(alloc: Global, parent: &str, identity: &str) -> Result<NewEntry, Fail> {
     let parent = id(alloc, parent)?;
     let identity = id(alloc, identity)?;
@@ -84,7 +84,7 @@ pub fn new_entry(alloc: Global, parent: &str, identity: &str) -> Result<NewEntry
     })
 }
 
-/// An agent with so many selectors.
+/// An agent with the given number of selectors.
 pub fn agent(alloc: Global, text: &str, count: u32) -> Result<Agent, Fail> {
     let selectors = selectors(alloc, count)?;
     Ok(Agent {

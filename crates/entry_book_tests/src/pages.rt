@@ -1,4 +1,4 @@
-//! Which pages can be asked for, at each boundary?
+//! Which pages are valid, at each boundary?
 //!
 //! Which entries a filter passes is tested with a book, in `plain_book_tests`.
 
@@ -36,7 +36,7 @@ fn ids_of_pages_at_their_boundaries(rt: HostRuntime) -> Result<(), Fail> {
     check(&rt, rt.alloc(), IDS)
 }
 
-/// Pages of the entries that name a trust domain, with one of so many selectors.
+/// Pages of the entries that name a trust domain and have one of the given number of selectors.
 const SELECTORS: &str = "\
 B6 page 1 domain=d100 any=0
 ok page 1 domain=d100 any=1

@@ -1,4 +1,4 @@
-//! What rows are made of, and what they say of themselves.
+//! What rows consist of, and what their methods return.
 
 use crate::making::{N1, SERVER, WEB, domain, id};
 use crate::told_ops::created;
@@ -10,13 +10,13 @@ use std::alloc::Global;
 use std::process::Abort;
 use std::test::Fail;
 
-/// An entry at revision 3, as the operation of this text creates it.
+/// The entry that the operation of this text creates, at revision 3.
 fn entry(alloc: Global, told: &str) -> Result<Entry, Fail> {
     let given = created(alloc, told)?;
     Ok(Entry::at_revision(&given, 3)?)
 }
 
-/// The entry has two domains, `d100` and `d101`.
+/// Asserts that the entry has two domains, `d100` and `d101`.
 fn has_two_domains(rt: &impl Abort, domains: &DomainSet) {
     let listed = domains.as_slice();
     is_number(rt, listed.len() as u64, 2, "domains");
@@ -47,7 +47,7 @@ fn the_parts_of_an_entry_are_those_that_were_given(rt: HostRuntime) -> Result<()
     Ok(())
 }
 
-/// The entry, which names the domain, no longer does once it is dissociated, at the next revision.
+/// Asserts that the entry names the domain, and no longer does so once it is dissociated, at the next revision.
 fn is_dissociated(
     rt: &impl Abort,
     alloc: Global,
@@ -80,7 +80,7 @@ fn an_entry_says_what_it_is_asked(rt: HostRuntime) -> Result<(), Fail> {
     is_dissociated(&rt, rt.alloc(), &entry, named.get())
 }
 
-/// Is this the ID of the server of the domain, or not?
+/// Asserts whether this is the ID of the server of the domain.
 fn is_servers(
     rt: &impl Abort,
     alloc: Global,

@@ -1,5 +1,5 @@
-//! Operations, made of the words of a text: first the kind, then what each of its kind has, then parts as `hint=1`. An ID of
-//! `ex.org` is told by its path, and any other one by itself. `update1` expects revision 1.
+//! Operations from the words of a text: first the kind, then the values that each of its kind has, then parts such as `hint=1`. An ID
+//! of `ex.org` is written as its path, and any other ID in full. `update1` expects revision 1.
 
 use crate::making::{agent, domain, domains, id, new_entry, selectors, text, uuid};
 use crate::values::where_done;
@@ -19,7 +19,7 @@ fn words<'a>(alloc: Global, told: &'a str) -> Result<Vec<&'a str>, AllocError> {
     Ok(words)
 }
 
-/// The word at an index from 0; the empty one behind the last.
+/// The word at an index from 0; the empty word after the last one.
 fn word<'a>(words: &[&'a str], index: usize) -> &'a str {
     words.get(index).copied().unwrap_or("")
 }
@@ -36,7 +36,7 @@ fn shared_id(alloc: Global, word: &str) -> Result<Shared<SpiffeId>, Fail> {
     id(alloc, text.as_str())
 }
 
-/// Gives an entry another part in the place of the one of this name.
+/// Sets the part of an entry that has this name.
 fn set_part(alloc: Global, new: &mut NewEntry, name: &str, value: &str) -> Result<(), Fail> {
     match name {
         "id" => new.id = Uuid::from_u64_pair(0, value.parse::<u64>()?),
@@ -51,7 +51,7 @@ fn set_part(alloc: Global, new: &mut NewEntry, name: &str, value: &str) -> Resul
     Ok(())
 }
 
-/// Gives an entry the parts that are told behind its identity.
+/// Sets the parts of an entry that follow its identity in the text.
 fn set_parts(alloc: Global, new: &mut NewEntry, words: &[&str]) -> Result<(), Fail> {
     for part in words.iter().skip(3) {
         let (name, value) = part.split_once('=').unwrap_or((part, ""));
@@ -60,21 +60,21 @@ fn set_parts(alloc: Global, new: &mut NewEntry, words: &[&str]) -> Result<(), Fa
     Ok(())
 }
 
-/// An entry of its parent and its identity, and else as `new_entry` has it.
+/// An entry with the parent and the identity of the words, and otherwise the values of `new_entry`.
 fn plain_entry(alloc: Global, words: &[&str]) -> Result<NewEntry, Fail> {
     let parent = id_text(alloc, word(words, 1))?;
     let identity = id_text(alloc, word(words, 2))?;
     new_entry(alloc, parent.as_str(), identity.as_str())
 }
 
-/// An entry, of its parent, its identity and other parts than `new_entry` has.
+/// An entry with the parent, the identity and the other parts of the words.
 fn entry(alloc: Global, words: &[&str]) -> Result<Shared<NewEntry>, Fail> {
     let mut new = plain_entry(alloc, words)?;
     let set = set_parts(alloc, &mut new, words);
     Ok(Shared::of(alloc, where_done(set, new)?)?)
 }
 
-/// The entry that is created by the operation that a text tells.
+/// The entry that the operation of a text creates.
 pub fn created(alloc: Global, told: &str) -> Result<Shared<NewEntry>, Fail> {
     let words = words(alloc, told)?;
     entry(alloc, words.as_slice())
@@ -85,7 +85,7 @@ fn question(alloc: Global, count: &str, mode: MatchMode) -> Result<Option<Select
     Ok(Some(SelectorMatch { selectors, mode }))
 }
 
-/// Gives a page another part in the place of the one of this name: `any` and `exact` count the selectors of a question.
+/// Sets the part of a page that has this name; the values of `any` and `exact` are numbers of selectors.
 fn ask_for(alloc: Global, query: &mut PageQuery, name: &str, value: &str) -> Result<(), Fail> {
     match name {
         "at" => query.at = Some(value.parse::<u64>()?),
@@ -99,7 +99,7 @@ fn ask_for(alloc: Global, query: &mut PageQuery, name: &str, value: &str) -> Res
     Ok(())
 }
 
-/// Gives a page the parts that are told behind its size.
+/// Sets the parts of a page that follow its size in the text.
 fn ask_for_parts(alloc: Global, query: &mut PageQuery, words: &[&str]) -> Result<(), Fail> {
     for part in words.iter().skip(2) {
         let (name, value) = part.split_once('=').unwrap_or((part, ""));
@@ -108,7 +108,7 @@ fn ask_for_parts(alloc: Global, query: &mut PageQuery, words: &[&str]) -> Result
     Ok(())
 }
 
-/// A page, of its size and the parts that it asks for: without any, it is of everything, of the last book.
+/// A page of a size and with the given parts. Without parts, it lists all entries of the last book.
 fn page(alloc: Global, words: &[&str]) -> Result<Op, Fail> {
     let mut query = PageQuery {
         size: word(words, 1).parse::<u64>()?,
@@ -125,7 +125,7 @@ fn page(alloc: Global, words: &[&str]) -> Result<Op, Fail> {
     Ok(Op::Page(Shared::of(alloc, where_done(asked, query)?)?))
 }
 
-/// The revision that an operation expects: none where no word tells it.
+/// The revision that an operation expects: none if there is no word for it.
 fn expected(word: &str) -> Result<Option<u64>, Fail> {
     if word.is_empty() {
         return Ok(None);
@@ -152,7 +152,7 @@ fn op_of_words(alloc: Global, words: &[&str]) -> Result<Op, Fail> {
     }
 }
 
-/// An operation on the bundle of a trust domain, whose text has so many bytes. Without a mode, users of the bundle are kept.
+/// An operation on the bundle of a trust domain, with a text of the given number of bytes. Without a mode, a drop is restricted.
 fn op_of_bundle(alloc: Global, words: &[&str]) -> Result<Op, Fail> {
     let of = domain(alloc, word(words, 1))?;
     match (word(words, 0), word(words, 2)) {
@@ -174,13 +174,13 @@ fn op_of_id(id: Shared<SpiffeId>, kind: &str) -> Result<Op, Fail> {
     }
 }
 
-/// The operation that a text tells.
+/// The operation of a text.
 pub fn op(alloc: Global, told: &str) -> Result<Op, Fail> {
     let words = words(alloc, told)?;
     op_of_words(alloc, words.as_slice())
 }
 
-/// Adds the operation that a text tells.
+/// Appends the operation of a text.
 pub fn add(alloc: Global, ops: &mut Sequence<Op>, told: &str) -> Result<(), Fail> {
     ops.push(op(alloc, told)?)?;
     Ok(())
@@ -194,7 +194,7 @@ fn add_all(alloc: Global, ops: &mut Sequence<Op>, told: &str) -> Result<(), Fail
     Ok(())
 }
 
-/// The operations that a text tells, with `; ` between them.
+/// The operations of a text, which `; ` separates.
 pub fn ops(alloc: Global, told: &str) -> Result<Sequence<Op>, Fail> {
     let mut ops = Sequence::empty(alloc);
     let added = add_all(alloc, &mut ops, told);
