@@ -11,7 +11,7 @@ use version_shelf::Shelf;
 
 type CountedShelf<'a> = Shelf<CountedKey<'a>, CountedKey<'a>>;
 
-/// The logarithm of the number of rows to the base 2, rounded up; 0 where there are none.
+/// The logarithm of the number of rows to the base 2, rounded up; 0 if there are none.
 fn log2_rounded_up(rows: u64) -> u64
     ensures { result ≤ 64 }
 {
@@ -22,7 +22,7 @@ fn log2_rounded_up(rows: u64) -> u64
     }
 }
 
-/// The rows from one key to the other are sought, by no more comparisons than these.
+/// Asserts that looking up the rows between two keys makes at most this number of comparisons.
 fn assert_range<'a>(
     rt: &impl Abort,
     shelf: &CountedShelf<'a>,
@@ -36,7 +36,7 @@ fn assert_range<'a>(
     counts.are_at_most(rt, 0, "the rows of a range");
 }
 
-/// Every key of the shelf and every number beside one is sought, alone and as a bound, is removed and is set.
+/// Looks up, uses as a bound, removes and sets every key of the shelf and every number next to one, and checks the costs.
 fn assert_calls_are_cheap<'a>(
     rt: &impl Abort,
     shelf: &CountedShelf<'a>,
@@ -68,7 +68,7 @@ fn assert_calls_are_cheap<'a>(
     Ok(())
 }
 
-/// The shelf with one row more, whose key is the next odd number.
+/// The shelf with one more row, whose key is the next odd number.
 fn with_next<'a>(
     rt: &impl Abort,
     shelf: &CountedShelf<'a>,

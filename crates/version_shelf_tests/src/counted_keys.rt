@@ -11,7 +11,7 @@ use std::cmp::Ordering;
 use std::marker::Model;
 use std::process::Abort;
 
-/// What was done with numbers since it was last asked.
+/// The numbers of comparisons and of copies since they were last read.
 #[derive(Drop)]
 pub struct Counts {
     comparisons: Cell<u64>,
@@ -41,7 +41,7 @@ impl Counts {
         self.copies.replace(0)
     }
 
-    /// No more comparisons than these were made.
+    /// Asserts that at most this number of comparisons was made.
     pub fn are_at_most(&self, rt: &impl Abort, most: u64, at: &str) {
         is_at_most(rt, self.comparisons(), most, at);
     }
@@ -51,7 +51,7 @@ fn count_one(cell: &Cell<u64>) {
     cell.set(cell.get().wrapping_add(1));
 }
 
-/// A number whose comparisons and copies are counted, seen as the number.
+/// A number whose comparisons and copies are counted. Its model in contracts is the number.
 #[derive(Drop)]
 pub struct CountedKey<'a> {
     value: u64,

@@ -1,4 +1,4 @@
-//! Keys that differ and that the order calls equal: which key and which value stand?
+//! Keys that differ but compare as equal: which key and which value does a shelf have?
 
 ghost use Rattle.std.specs.Prelude.{Some, refl, nat_eq};
 ghost use Rattle.std.specs.Cmp.{on_equiv, on_total, nat_cmp_total, nat_eq_equiv, partial_equiv_from_equiv, partial_order_from_agreeing_total, unsigned_ties};
@@ -10,7 +10,7 @@ use std::cmp::Ordering;
 use std::test::Fail;
 use version_shelf::Shelf;
 
-/// A key of which the order reads the rank alone.
+/// A key that is ordered by its rank alone.
 #[derive(Clone, Copy)]
 struct Labelled {
     rank: u64,
@@ -71,7 +71,7 @@ impl Told for Labelled {
 
 type Ranks = Shelf<Labelled, u64>;
 
-/// Keys are told by their ranks and their labels.
+/// Keys are written as their ranks and their labels.
 const LABELS: &str = "\
 0 with 1-7 10
 1 with 2-7 20

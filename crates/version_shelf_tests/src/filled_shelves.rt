@@ -1,5 +1,5 @@
-//! Shelves of many pages, filled and emptied in several orders: is each call's work under its bound, and does an old shelf
-//! read as before?
+//! Shelves of many pages, filled and emptied in several orders. Is the cost of each call within its bound, and does an old shelf stay
+//! readable?
 
 ghost use Rattle.std.specs.Prelude.{◌<◌};
 
@@ -14,7 +14,7 @@ type CountedShelf<'a> = Shelf<CountedKey<'a>, CountedKey<'a>>;
 
 const ROWS: u64 = 9_000;
 
-/// In which order keys come.
+/// The order in which keys come.
 #[derive(Clone, Copy)]
 enum Order {
     Rising,
@@ -23,7 +23,7 @@ enum Order {
 }
 
 impl Order {
-    /// The key that comes at this turn: each below `ROWS` comes once.
+    /// The key of this turn: each key below `ROWS` comes once.
     fn key(self, turn: u64) -> u64
         requires { turn < 9000 }
     {
@@ -35,7 +35,7 @@ impl Order {
     }
 }
 
-/// The shelf has the value at the key, found at a price under its bound, of which nothing was kept back.
+/// Asserts that the shelf has this value at the key, at a cost within the bound, and that all comparisons were counted.
 fn assert_found<'a>(
     rt: &impl Abort,
     shelf: &CountedShelf<'a>,
@@ -54,7 +54,7 @@ fn assert_found<'a>(
     is_at_most(rt, count.number(), 32, "count of find");
 }
 
-/// A change has put this many rows and pages into new pages: some, but not too many, and it has copied nothing.
+/// Asserts that a change has put this many rows and pages into new pages: at least 1, at most 1,024, and no copies.
 fn assert_change(rt: &impl Abort, count: u64, counts: &Counts) {
     is_at_most(rt, 1, count, "least count of a change");
     is_at_most(rt, count, 1_024, "count of a change");
@@ -89,7 +89,7 @@ fn without_key<'a>(
     Ok(fewer)
 }
 
-/// The shelf has the rows of so many turns, and no others.
+/// Asserts that the shelf has the rows of the first `turns` turns, and no others.
 fn assert_turns<'a>(
     rt: &impl Abort,
     shelf: &CountedShelf<'a>,
@@ -116,7 +116,7 @@ fn keep<'a>(kept: &mut Vec<CountedShelf<'a>>, shelf: &CountedShelf<'a>) -> Resul
     Ok(kept.push(shelf.clone()?)?)
 }
 
-/// The shelf of all keys, which are set in this order. Each thousandth shelf on the way is kept, from the empty one on.
+/// The shelf of all keys, which are set in this order. Every thousandth shelf before it is kept, from the empty one on.
 fn filled<'a>(
     rt: &impl Abort,
     alloc: Global,
@@ -134,7 +134,7 @@ fn filled<'a>(
     Ok(shelf)
 }
 
-/// The shelf of no key, after the keys are removed in this order.
+/// The shelf without keys, after all are removed in this order.
 fn emptied<'a>(
     rt: &impl Abort,
     shelf: CountedShelf<'a>,
@@ -148,7 +148,7 @@ fn emptied<'a>(
     Ok(shelf)
 }
 
-/// The shelves that were kept have the rows of the turns before them.
+/// Asserts that the kept shelves have the rows of the turns before them.
 fn assert_kept<'a>(rt: &impl Abort, kept: &[CountedShelf<'a>], counts: &'a Counts, order: Order) {
     let mut turns = 0_u64;
     for old in kept {
@@ -158,7 +158,7 @@ fn assert_kept<'a>(rt: &impl Abort, kept: &[CountedShelf<'a>], counts: &'a Count
     is_number(rt, turns, ROWS, "turns up to the last shelf");
 }
 
-/// Fills a shelf in one order and empties it in another, and looks at old ones then.
+/// Fills a shelf in one order, empties it in another, and then checks the old ones.
 fn assert_filled_and_emptied(
     rt: &impl Abort,
     alloc: Global,

@@ -1,4 +1,4 @@
-//! Keys and values such as a version of a book has. Clones of each equal it, as `with` and `without` ask.
+//! Keys and values like those of a version of a book. A clone equals its original, as `with` and `without` require.
 
 ghost use Rattle.std.specs.Prelude.{Some, bytes_eq, refl, ◌≡◌, IfOk};
 ghost use Rattle.std.specs.Cmp.{partial_equiv_from_equiv};
@@ -12,7 +12,7 @@ use std::marker::Model;
 use std::sync::Arc;
 use std::test::Fail;
 
-/// The text of an ID, seen as its bytes.
+/// The text of an ID. Its model in contracts is its bytes.
 #[derive(Drop)]
 pub struct IdText {
     text: String,
@@ -91,7 +91,7 @@ impl Ord for IdText {
     }
 }
 
-/// A part of a key: one of its values, or the start before them or the end after them.
+/// A part of a key: a value, or the point before all values or after all values.
 #[derive(Clone, Drop, PartialEq, Eq, PartialOrd, Ord)]
 pub enum Part<T> {
     Start,
@@ -99,7 +99,7 @@ pub enum Part<T> {
     End,
 }
 
-/// A value that several versions hold, seen as the value.
+/// A value that several versions share. Its model in contracts is the value.
 #[derive(Drop)]
 pub struct SharedNumber {
     value: Arc<u64>,
@@ -188,7 +188,7 @@ impl Told for SharedNumber {
     }
 }
 
-/// The parts of a key, with slashes between them.
+/// Parses and prints the parts of a key, with slashes between them.
 impl Told for (IdText, Part<IdText>, Part<u128>) {
     fn of_text(alloc: Global, text: &str) -> Result<(IdText, Part<IdText>, Part<u128>), Fail> {
         let (parent, member) = text.split_once('/').unwrap_or((text, ""));

@@ -1,4 +1,4 @@
-//! Shelves at the kinds of key and value that the versions of a book have.
+//! Shelves with the kinds of keys and values that the versions of a book have.
 
 use crate::keys::{IdText, Part, SharedNumber};
 use crate::scripts::plays;
@@ -47,7 +47,7 @@ fn the_old_shelf_stays(rt: HostRuntime) -> Result<(), Fail> {
 
 type Members = Shelf<(IdText, Part<IdText>, Part<u128>), SharedNumber>;
 
-/// The members of an identity of a parent, and those of a parent.
+/// The members of a parent's identity, and those of a parent.
 const GROUPS: &str = "\
 0 with p/j/8 8
 1 with p/i/9 9

@@ -1,16 +1,16 @@
-//! Does a `version_shelf` read as a plain map does, old versions too, at the prices that its head names?
+//! Does a `version_shelf` read as a plain map does, old versions too, at the costs that its root file states?
 //!
 //! The crate has tests alone, over the public calls of `version_shelf`:
 //!
 //! - `kinds_of_keys`: the kinds of key and value that the versions of a book have.
-//! - `random_changes`: one shelf against a plain list, through random changes.
-//! - `equal_keys`: keys that differ and that the order calls equal.
+//! - `random_changes`: one shelf compared with a plain list, through random changes.
+//! - `equal_keys`: keys that differ but compare as equal.
 //! - `comparisons`: how many comparisons and copies of keys each call makes.
 //! - `filled_shelves`: shelves of many pages, filled and emptied in several orders.
-//! - `scripts`: scripts of the shelves that are made, and of what they are asked.
+//! - `scripts`: scripts that make shelves and read them.
 //! - `keys`: keys and values for these tests.
 //! - `counted_keys`: keys whose comparisons and copies are counted.
-//! - `wanted`: what a test wants to see.
+//! - `wanted`: assertions.
 #![tactic(auto)]
 
 #[cfg(test)]

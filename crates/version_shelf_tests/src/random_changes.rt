@@ -1,4 +1,4 @@
-//! A shelf and a plain list of the values by key, through the same changes.
+//! A shelf and a plain list of the values by key, under the same changes.
 
 ghost use Rattle.std.specs.Prelude.{◌<◌};
 
@@ -10,7 +10,7 @@ use version_shelf::Shelf;
 
 const KEYS: u64 = 40;
 
-/// Numbers that look random, the same in each run (Knuth's MMIX generator).
+/// Pseudo-random numbers, the same in each run (Knuth's MMIX generator).
 #[derive(Drop)]
 struct Draws {
     state: u64,
@@ -75,7 +75,7 @@ fn value_at(list: &[Option<u64>], key: u64) -> Option<u64> {
     }
 }
 
-/// The row has this key and this value.
+/// Asserts that the row has this key and this value.
 fn is_row(rt: &impl Abort, row: Option<(&u64, &u64)>, key: u64, value: u64) {
     let Some((key_found, value_found)) = row else {
         return holds(rt, false, "a row for each value");
@@ -84,7 +84,7 @@ fn is_row(rt: &impl Abort, row: Option<(&u64, &u64)>, key: u64, value: u64) {
     is_number(rt, *value_found, value, "the next row's value");
 }
 
-/// The shelf has the list's values at all keys, and between the two bounds the list's rows in order.
+/// Asserts that the shelf has the list's values at all keys, and between the two bounds the list's rows in order.
 fn assert_same(rt: &impl Abort, pair: &Pair, lo: u64, hi: u64) {
     let mut rows = pair.shelf.range(&lo, &hi);
     let mut count = 0_u64;

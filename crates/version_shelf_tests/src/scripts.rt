@@ -1,4 +1,4 @@
-//! Scripts: how shelves are made of one another, and what each of them is asked.
+//! Scripts: how shelves are made from one another, and what each of them returns.
 
 ghost use Rattle.version_shelf.specs.Shelf.{ClonesEqual};
 
@@ -8,7 +8,7 @@ use std::process::Abort;
 use std::test::Fail;
 use version_shelf::Shelf;
 
-/// A key or a value that a text without spaces tells.
+/// A key or a value that is written as a text without spaces.
 pub trait Told: Sized {
     fn of_text(alloc: Global, text: &str) -> Result<Self, Fail>;
 
@@ -55,7 +55,7 @@ fn without_key<K: Ord + Clone + Told + Drop, V: Clone + Drop>(
     Ok(shelf.without(&key)?)
 }
 
-/// The shelf that is made of this one.
+/// The shelf that this step makes from a shelf.
 fn made<K: Ord + Clone + Told + Drop, V: Clone + Told + Drop>(
     rt: &impl Abort,
     alloc: Global,
@@ -79,7 +79,7 @@ fn row_text<K: Told, V: Told>(alloc: Global, key: &K, value: &V) -> Result<Strin
     Ok(format!(in alloc; " {key} {value}")?)
 }
 
-/// How many rows stand from one bound to the other, of how many, and each of them.
+/// The number of rows between two bounds, the number of all rows, and each of the former.
 fn rows_text<K: Ord + Clone + Told, V: Clone + Told>(
     alloc: Global,
     shelf: &Shelf<K, V>,
@@ -105,7 +105,7 @@ fn range_text<K: Ord + Clone + Told + Drop, V: Clone + Told>(
     rows_text(alloc, shelf, &lo, &hi)
 }
 
-/// The value at a key.
+/// The value at a key, or `none`.
 fn value_text<K: Ord + Clone + Told + Drop, V: Clone + Told>(
     alloc: Global,
     shelf: &Shelf<K, V>,
@@ -152,9 +152,9 @@ fn plays_line<K: Ord + Clone + Told + Drop, V: Clone + Told + Drop>(
     Ok(shelves.push(next)?)
 }
 
-/// Plays a script over a first shelf, whose number is 0. Each line begins with the number of a shelf. Lines with `with` and a row,
-/// with `without` and a key, and with `clone` make the shelf of the next number of that one; other lines ask it for a `range`, or for
-/// the value that it can `get` at a key, and have their answer behind ` => `.
+/// Plays a script over a first shelf, which has number 0. Each line begins with the number of a shelf. Lines with `with` and a row,
+/// `without` and a key, or `clone` make the shelf of the next number from that one. Other lines read the `range` between two bounds,
+/// or `get` the value at a key, and compare it with the text after ` => `.
 pub fn plays<K: Ord + Clone + Told + Drop, V: Clone + Told + Drop>(
     rt: &impl Abort,
     alloc: Global,
