@@ -4,11 +4,11 @@ use spiffe_name::Failure;
 use std::alloc::{AllocError, AllocFailed};
 use std::num::ParseIntError;
 
-/// A text tells nothing, or memory is wanting.
+/// The error of this crate: an invalid text, or out of memory.
 #[derive(Clone, Copy, Debug)]
 pub enum Failed {
     NoMemory,
-    /// A text tells no batch.
+    /// The text is not a valid batch.
     NotRead,
 }
 

@@ -1,13 +1,13 @@
-//! Which batch does a short text tell, and how are replies told as text? This crate is for tests alone.
+//! Batches and replies as short texts. This crate is for tests alone.
 //!
-//! All is of the trust domain `ex.org`: an ID is told by its path, that of an agent by its name alone, an entry and a token by a
+//! The trust domain is always `ex.org`. An ID is written as its path, that of an agent as its name alone, and an entry or a token as a
 //! number.
 //!
-//! - `making`: [`batch`] makes a batch of a text such as `token 7; create 1 n1 /web x:1 0 d1`. Its words serve other tables too.
-//! - `draws`: [`batch_text`] draws a random batch of a few names, as text.
-//! - `marks`: marks, told as text.
-//! - `telling`: replies, told as text.
-//! - `failed`: why there is no batch and no text.
+//! - `making`: [`batch`] makes a batch from a text such as `token 7; create 1 n1 /web x:1 0 d1`. Other tables use its words too.
+//! - `draws`: [`batch_text`] draws a random batch over a few names, as text.
+//! - `marks`: marks as text.
+//! - `telling`: replies as text.
+//! - `failed`: the error of these functions.
 #![tactic(auto)]
 
 mod draws;

@@ -1,4 +1,4 @@
-//! Batches, made of the words of a text. They are of `ex.org`: an ID is told by its path, that of an agent by its name alone.
+//! Batches from the words of a text. They are of `ex.org`: an ID is written as its path, and that of an agent as its name alone.
 
 use crate::failed::Failed;
 use entry_book::{
@@ -16,7 +16,7 @@ pub fn words<'a>(alloc: Global, line: &'a str) -> Result<Vec<&'a str>, Failed> {
     Ok(words)
 }
 
-/// The word at an index from 0; the empty one behind the last.
+/// The word at an index from 0; the empty word after the last one.
 pub fn word<'a>(words: &[&'a str], index: usize) -> &'a str {
     words.get(index).copied().unwrap_or("")
 }
@@ -25,7 +25,7 @@ pub fn number(words: &[&str], index: usize) -> Result<u64, Failed> {
     Ok(word(words, index).parse::<u64>()?)
 }
 
-/// The number that a word tells, which `-` doesn't.
+/// The number in a word, or none for `-`.
 fn given_number(words: &[&str], index: usize) -> Result<Option<u64>, Failed> {
     if word(words, index) == "-" {
         return Ok(None);
@@ -50,7 +50,7 @@ fn id(alloc: Global, word: &str) -> Result<Shared<SpiffeId>, Failed> {
     Ok(Shared::of(alloc, SpiffeId::parse(alloc, text.as_str())?)?)
 }
 
-/// The trust domain of a name. Nothing is said of it, so that no caller's proof computes what the grammar says of a literal.
+/// The trust domain of a name. It has no contract, so that callers' proofs don't evaluate the grammar on a literal.
 pub fn trust_domain(alloc: Global, name: &str) -> Result<TrustDomain, Failed> {
     Ok(TrustDomain::parse(alloc, name)?)
 }
@@ -59,7 +59,7 @@ fn domain(alloc: Global, name: &str) -> Result<Shared<TrustDomain>, Failed> {
     Ok(Shared::of(alloc, trust_domain(alloc, name)?)?)
 }
 
-/// The selectors of a word, with commas between them; none for `-`.
+/// The selectors in a word, which commas separate; none for `-`.
 fn selectors(alloc: Global, word: &str) -> Result<Shared<SelectorSet>, Failed> {
     let spaced = word.replace(alloc, ",", " ")?;
     let mut selectors = Vec::new(alloc);
@@ -88,7 +88,7 @@ fn hint(alloc: Global, word: &str) -> Result<Shared<Text>, Failed> {
     Ok(Shared::of(alloc, Text::of(text))?)
 }
 
-/// An entry, of its number, parent, identity, selectors, expiry and domains. Its hint and its times to live come of these.
+/// An entry from its number, parent, identity, selectors, expiry and domains. Its hint and its lifetimes are derived from these.
 fn entry(alloc: Global, words: &[&str]) -> Result<Shared<NewEntry>, Failed> {
     let expiry = number(words, 5)?;
     let parent = id(alloc, word(words, 2))?;
@@ -110,7 +110,7 @@ fn entry(alloc: Global, words: &[&str]) -> Result<Shared<NewEntry>, Failed> {
     Ok(Shared::of(alloc, new)?)
 }
 
-/// An agent, of its name and its selectors.
+/// An agent from its name and its selectors.
 fn agent(alloc: Global, words: &[&str]) -> Result<Agent, Failed> {
     let selectors = selectors(alloc, word(words, 2))?;
     Ok(Agent {
@@ -119,7 +119,7 @@ fn agent(alloc: Global, words: &[&str]) -> Result<Agent, Failed> {
     })
 }
 
-/// A page, of its size, the number of the book that it reads, and the number of the entry after which it begins.
+/// A page from its size, the number of the book that it reads, and the number of the entry after which it begins.
 fn page(alloc: Global, words: &[&str]) -> Result<Op, Failed> {
     let filter = Filter {
         parent: None,
@@ -144,7 +144,7 @@ fn mode(word: &str) -> DropMode {
     }
 }
 
-/// The operation that a line tells. One whose name ends in 0 expects revision 0.
+/// The operation of a line. One whose name ends in 0 expects revision 0.
 fn op(alloc: Global, words: &[&str]) -> Result<Op, Failed> {
     Ok(match word(words, 0) {
         "create" => Op::Create(entry(alloc, words)?),
@@ -183,7 +183,7 @@ fn op_of_id(id: Shared<SpiffeId>, kind: &str) -> Result<Op, Failed> {
     })
 }
 
-/// The number behind this word, where a line begins with it.
+/// The number after this word, in the first line that begins with it.
 pub fn number_behind(alloc: Global, lines: &str, first: &str) -> Result<Option<u64>, Failed> {
     for line in lines.lines() {
         let words = words(alloc, line)?;
@@ -194,7 +194,7 @@ pub fn number_behind(alloc: Global, lines: &str, first: &str) -> Result<Option<u
     Ok(None)
 }
 
-/// The operations that the other lines tell.
+/// The operations of all lines that don't begin with `token` or `after`.
 fn ops_of(alloc: Global, lines: &str) -> Result<Sequence<Op>, Failed> {
     let mut ops = Sequence::empty(alloc);
     for line in lines.lines() {
@@ -205,8 +205,8 @@ fn ops_of(alloc: Global, lines: &str) -> Result<Sequence<Op>, Failed> {
     Ok(ops)
 }
 
-/// The batch that a text tells: its token, `token 7`, and the least place at which it may run, `after 1`, where they are given,
-/// and its operations, with `; ` between them.
+/// The batch of a text: its token, `token 7`, and its minimum place, `after 1`, if they are given, and its operations, which `; `
+/// separates.
 pub fn batch(alloc: Global, text: &str) -> Result<Batch, Failed> {
     let lines = text.replace(alloc, "; ", "\n")?;
     let token = number_behind(alloc, lines.as_str(), "token")?;

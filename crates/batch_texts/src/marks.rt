@@ -1,4 +1,4 @@
-//! Marks, told as text.
+//! Marks as text.
 
 use crate::failed::Failed;
 use crate::telling::{of_number, of_text, path};
@@ -29,7 +29,7 @@ pub fn mark_text(alloc: Global, mark: &Mark) -> Result<String, Failed> {
     }
 }
 
-/// Marks, with ` | ` between them.
+/// Marks, separated by bars.
 pub fn marks_text(alloc: Global, marks: &[Mark]) -> Result<String, Failed> {
     let mut text = String::new(alloc);
     for mark in marks {
@@ -38,7 +38,7 @@ pub fn marks_text(alloc: Global, marks: &[Mark]) -> Result<String, Failed> {
     Ok(text)
 }
 
-/// Adds a mark behind the others.
+/// Appends a mark to the others.
 pub fn add_mark(alloc: Global, text: &mut String, mark: &Mark) -> Result<(), Failed> {
     if !text.is_empty() {
         text.push_str(" | ")?;

@@ -1,5 +1,5 @@
-//! Replies, told as text. An ID is told by its path, that of an agent by its name alone; an entry by its number and, after a dot,
-//! its revision, and behind them its domains.
+//! Replies as text. An ID is written as its path, and that of an agent as its name alone. An entry is written as its number, a dot
+//! and its revision, followed by its domains.
 
 use crate::failed::Failed;
 use entry_book::{Agent, Bundle, Entry, OpRefusal, OpReply, Outcome, Refusal, Reply};
@@ -7,7 +7,7 @@ use spiffe_name::SpiffeId;
 use std::alloc::Global;
 use uuid::Uuid;
 
-/// The number that the last two bytes of an id are.
+/// The number in the last two bytes of an id.
 fn number_of(id: &Uuid) -> u16 {
     let bytes = id.as_bytes();
     u16::from_be_bytes([bytes[14], bytes[15]])
@@ -63,7 +63,7 @@ fn page_text(alloc: Global, entries: &[Entry], next: &Option<Uuid>) -> Result<St
     Ok(text)
 }
 
-/// An agent, as its name and the count of its selectors.
+/// An agent, as its name and the number of its selectors.
 fn agent_text(alloc: Global, agent: &Agent) -> Result<String, Failed> {
     let name = path(agent.id.get());
     let count = agent.selectors.get().len();
@@ -123,7 +123,7 @@ fn op_reply_text(alloc: Global, reply: &OpReply) -> Result<String, Failed> {
     }
 }
 
-/// What became of a batch, and the replies to its operations, each behind a semicolon.
+/// The kind of a batch's outcome, and the replies to its operations, each after a semicolon.
 pub fn replies_text(alloc: Global, kind: &str, replies: &[OpReply]) -> Result<String, Failed> {
     let mut text = String::from_str(alloc, kind)?;
     for reply in replies {
@@ -133,12 +133,12 @@ pub fn replies_text(alloc: Global, kind: &str, replies: &[OpReply]) -> Result<St
     Ok(text)
 }
 
-/// What became of something, and at which place.
+/// The kind of an outcome, and its place.
 pub fn placed(alloc: Global, kind: &str, place: u64) -> Result<String, Failed> {
     Ok(format!(in alloc; "{kind} at {place}")?)
 }
 
-/// What became of a batch, at which place, and the replies to its operations.
+/// The kind of a batch's outcome, its place, and the replies to its operations.
 pub fn accepted_text(
     alloc: Global,
     kind: &str,
@@ -149,7 +149,7 @@ pub fn accepted_text(
     replies_text(alloc, head.as_str(), replies)
 }
 
-/// The detail of an operation's refusal, where it has one.
+/// The detail of an operation's refusal, if it has one.
 fn detail_text(alloc: Global, refusal: &OpRefusal) -> Result<String, Failed> {
     match refusal {
         OpRefusal::Similar(id) => of_number(alloc, " by", id),
@@ -169,8 +169,8 @@ fn refused_text(alloc: Global, place: u64, refusal: &Refusal) -> Result<String, 
     }
 }
 
-/// What became of a batch, its place, and the replies to its operations, or the code of the refusal, and of an operation's its
-/// index and its detail.
+/// A batch's outcome, its place, and the replies to its operations; or the code of the refusal, with the index and the detail of an
+/// operation that is refused.
 pub fn outcome_text(alloc: Global, place: u64, outcome: &Outcome) -> Result<String, Failed> {
     match outcome {
         Outcome::Committed(replies) => {
