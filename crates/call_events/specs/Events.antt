@@ -1,4 +1,4 @@
--- What may be handed in for a trust domain, and the codes of refusals.
+-- Which events may be submitted for a trust domain, and the codes of refusals.
 use Rattle.std.specs.Prelude.{◌≡◌, ⊤, ℕ, List, codes}
 use Rattle.entry_book.specs.Rows.{Bytes}
 use Rattle.call_events.specs.declared.event.Event.{Event}
@@ -15,7 +15,7 @@ event_code NotNow = codes "E3"
 event_code TooManyCalls = codes "E4"
 event_code NoMemory = codes "E5"
 
--- what may be handed to the machine of this trust domain: a batch was made for it
+-- the event may be submitted to the machine of this trust domain: an invoke's batch is of this domain
 abbrev pub IsFor : Bytes → Event → Type 0
 IsFor own (Invoke n batch) = batch.domain ≡ own
 IsFor own (Begin n) = ⊤

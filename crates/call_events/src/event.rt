@@ -1,34 +1,34 @@
-//! What happens to a call, and why is it refused?
+//! What are the events of a call, and why is one refused?
 
 use entry_book::Batch;
 
-/// One event: what happens to the call of a number.
+/// One event of the call with a number.
 #[derive(Drop)]
 pub enum Event {
-    /// The call's batch is handed in.
+    /// Submits the call's batch.
     Invoke(u64, Batch),
-    /// The call's work begins on the newest book.
+    /// Begins to execute the batch on the newest book.
     Begin(u64),
-    /// The call's work makes its next read.
+    /// Makes the next read.
     Step(u64),
-    /// The call's changes are to be committed.
+    /// Tries to commit the call's changes.
     Commit(u64),
-    /// The call's answer is given out.
+    /// Returns the call's answer.
     Reply(u64),
 }
 
 /// Why an event is refused.
 #[derive(Clone, Copy, Debug, PartialEq, Eq)]
 pub enum EventRefusal {
-    /// The number is another call's.
+    /// The number is that of another call.
     CallTaken,
     /// No call has the number.
     UnknownCall,
-    /// It isn't the call's turn for this event.
+    /// The event isn't possible in the call's state.
     NotNow,
-    /// The machine has as many calls as it can have: 4,096.
+    /// The machine has 4,096 calls, which is its maximum.
     TooManyCalls,
-    /// Memory is wanting.
+    /// Out of memory.
     NoMemory,
 }
 
@@ -36,7 +36,7 @@ impl EventRefusal {
     ghost use Rattle.std.specs.Prelude.{◌≡◌};
     ghost use Rattle.call_events.specs.Events.{event_code};
 
-    /// The refusal's code, as it is printed.
+    /// Returns the code that is printed for the refusal.
     pub fn code(self) -> &'static str
         ensures { result.now ≡ event_code self }
     {
@@ -50,7 +50,7 @@ impl EventRefusal {
     }
 }
 
-/// An event that was refused, handed back. Nothing has changed.
+/// An event that was refused, returned to the caller. Nothing has changed.
 #[derive(Drop)]
 pub struct RefusedEvent {
     /// Why it was refused.

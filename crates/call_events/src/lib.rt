@@ -1,8 +1,8 @@
-//! What may happen to a call?
+//! Which events does a call have?
 //!
-//! - [`Event`]: what happens to the call of a number: its batch is handed in, and then begins, makes its reads one by one, commits, and
+//! - [`Event`]: an event of the call with a number. Its batch is submitted; then it begins, makes its reads one by one, commits, and
 //!   replies.
-//! - [`RefusedEvent`]: an event that is handed back, with its [`EventRefusal`].
+//! - [`RefusedEvent`]: an event that was refused, with its [`EventRefusal`].
 #![tactic(auto)]
 
 mod event;
