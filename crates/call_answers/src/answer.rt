@@ -1,4 +1,4 @@
-//! What is an event answered?
+//! What does an event return?
 
 ghost use Rattle.std.specs.Prelude.{◌≡◌};
 
@@ -7,12 +7,12 @@ use entry_book::{Limit, Reply};
 use std::alloc::AllocError;
 use version_book::Mark;
 
-/// What a call is answered. A copy of it shares the answers to the operations.
+/// The answer to a call. A clone shares the replies to the operations.
 #[derive(Drop)]
 pub enum CallAnswer {
-    /// The plain book's reply.
+    /// The reply of the plain book (the reference implementation).
     Replied(Reply),
-    /// A batch that was committed since the call's begin wrote what the call has read. This was found at this place.
+    /// A batch that was committed since the call began wrote what the call has read. This was found at this place.
     Conflict(u64),
 }
 
@@ -27,28 +27,28 @@ impl Clone for CallAnswer {
     }
 }
 
-/// What a commit comes to.
+/// The result of a commit.
 #[derive(Clone, Copy, Debug, PartialEq, Eq)]
 pub enum Decision {
-    /// The changes are made.
+    /// The changes were made.
     Committed,
-    /// A batch that was committed since the call's begin wrote what the call has read.
+    /// A batch that was committed since the call began wrote what the call has read.
     Conflict,
-    /// This limit doesn't let the changes in.
+    /// The changes would pass this limit.
     Full(Limit),
 }
 
-/// The answer to an event that was accepted. The first number is the call's.
+/// The answer to an accepted event. The first number is the call's.
 #[derive(Drop)]
 pub enum Done {
-    /// It waits for its begin.
+    /// The call was invoked, and waits for its begin.
     Invoked(u64),
-    /// It began at this place, and now waits for this.
+    /// The call began at this place, and waits for this.
     Begun(u64, u64, Status),
-    /// It read what this mark names, and now waits for this.
+    /// The call read what this mark names, and waits for this.
     Stepped(u64, Mark, Status),
-    /// Its commit came to this, at this place.
+    /// The commit had this result, at this place.
     Decided(u64, Decision, u64),
-    /// Its answer.
+    /// The call's answer.
     Answered(u64, CallAnswer),
 }

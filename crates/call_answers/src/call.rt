@@ -1,20 +1,20 @@
-//! What is known of a call?
+//! What does the machine know of a call?
 
 use crate::answer::CallAnswer;
 use entry_book::Batch;
 
-/// What is known of a call: its batch, and as far as they came the accepted numbers of its invoke, of the event that decided
-/// it and of its reply, and its answer.
+/// The state of a call: its batch, the numbers of its invoke, of the event that decided it and of its reply, if they were
+/// accepted, and its answer.
 #[derive(Drop)]
 pub struct KnownCall<'a> {
-    /// The batch that was handed in.
+    /// The batch that was submitted.
     pub batch: &'a Batch,
     /// The number of its invoke among the accepted events, counted from 1.
     pub invoked: u64,
-    /// That of its begin where it settled, of its commit where that was committed or full. A conflict has none.
+    /// The number of its begin if the call settled, or of its commit if that was committed or full. A conflict has none.
     pub decided: Option<u64>,
-    /// That of its reply.
+    /// The number of its reply.
     pub replied: Option<u64>,
-    /// Its answer, given out or not.
+    /// Its answer, whether the call has replied or not.
     pub answer: Option<&'a CallAnswer>,
 }

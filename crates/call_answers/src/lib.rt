@@ -1,8 +1,8 @@
-//! What is answered to what happens to a call?
+//! What do the events of a call return?
 //!
-//! - [`CallAnswer`]: what a call is answered. [`Done`]: the answer to an event that was accepted; [`Decision`]: what a commit
-//!   comes to.
-//! - [`KnownCall`]: what is known of a call.
+//! - [`CallAnswer`]: the answer to a call. [`Done`]: the answer to an accepted event; [`Decision`]: the result of a
+//!   commit.
+//! - [`KnownCall`]: the state of a call.
 #![tactic(auto)]
 
 mod answer;
