@@ -1,10 +1,11 @@
-//! Random texts, by a grammar: a text in which a line such as `<row>: <word> | <word> 1` tells what may stand for a word.
+//! Random texts from a grammar: a text whose lines, such as `<row>: <word>
+//! <word> 1`, give the alternatives for a word.
 
 use batch_texts::below;
 use std::alloc::Global;
 use std::test::Fail;
 
-/// What may stand for the word, with bars between; the word itself where no line tells it.
+/// The alternatives for a word, separated by bars; the word itself if the grammar has no line for it.
 fn choices<'a>(grammar: &'a str, word: &'a str) -> &'a str {
     if word.starts_with('<') {
         for line in grammar.lines() {
@@ -17,7 +18,7 @@ fn choices<'a>(grammar: &'a str, word: &'a str) -> &'a str {
     word
 }
 
-/// How many texts stand here with bars between them?
+/// The number of texts that bars separate.
 fn count_of(texts: &str) -> u64 {
     let mut count: u64 = 0;
     for _ in texts.split('|') {
@@ -26,7 +27,7 @@ fn count_of(texts: &str) -> u64 {
     count
 }
 
-/// The text at an index from 0, of those with bars between them.
+/// The text at an index from 0, of texts that bars separate.
 pub fn nth(texts: &str, index: u64) -> &str {
     let mut rest = index;
     for text in texts.split('|') {
@@ -44,7 +45,7 @@ fn one_of<'a>(state: &mut u64, texts: &'a str) -> &'a str {
     nth(texts, index as u64)
 }
 
-/// The text with one of the choices for each of its words.
+/// The text with a random alternative for each of its words.
 fn rewritten(alloc: Global, state: &mut u64, grammar: &str, text: &str) -> Result<String, Fail> {
     let mut rewritten = String::new(alloc);
     for word in text.split_whitespace() {
@@ -54,7 +55,7 @@ fn rewritten(alloc: Global, state: &mut u64, grammar: &str, text: &str) -> Resul
     Ok(rewritten)
 }
 
-/// A random text that comes of this one, at most seven lines deep.
+/// A random text derived from this one, by eight rewrites.
 pub fn drawn(alloc: Global, state: &mut u64, grammar: &str, text: &str) -> Result<String, Fail> {
     let mut drawn = String::from_str(alloc, text)?;
     for _ in 0..8 {

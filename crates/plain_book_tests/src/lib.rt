@@ -2,15 +2,15 @@
 //!
 //! The crate has tests alone, over the public calls of `plain_book`:
 //!
-//! - `random`: random requests of a few names. Each book that comes out is lawful, and each agent, and each page of it or of an
-//!   earlier book, is told what a search finds: `rows` reads all rows of a book and judges them, `search` looks for chains by
-//!   their length, `requests` draws the requests and says which of them wait, repeat or come too late.
-//! - `worked`: what a small book answers, batch after batch; `past`: pages of earlier books, and batches that wait for a place;
-//!   `tokens`: batches that carry a token. Each is told by a script, which `playing` plays.
-//! - `large`: what a book of over five hundred entries answers.
+//! - `random`: random requests over a few names. Each resulting book is lawful. The authorised entries of each agent, and each page
+//!   of it or of an earlier book, are what a search finds: `rows` reads and checks all rows of a book, `search` finds chains by their
+//!   length, and `requests` draws the requests and says which of them are early, repeated or too late.
+//! - `worked`: what a small book replies, batch after batch; `past`: pages of earlier books, and batches with a minimum place;
+//!   `tokens`: batches with a token. Each test is a script, which `playing` runs.
+//! - `large`: what a book of over five hundred entries replies.
 //! - `pages`: pages of random entries are what a search finds.
-//! - `making`: batches, made of a text; `draws`: random texts, by a grammar; `values`: values of any type; `wanted`: what a
-//!   test wants to see.
+//! - `making`: batches from texts; `draws`: random texts from a grammar; `values`: values of any type; `wanted`:
+//!   assertions.
 #![tactic(auto)]
 
 #[cfg(test)]

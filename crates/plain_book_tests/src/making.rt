@@ -1,5 +1,5 @@
-//! Batches, made of a text as in `batch_texts`. What those don't say stands in a line behind `with`: the two lifetimes of an
-//! entry, the revision that an update or a delete expects, and the filter of a page. Such a line tells IDs by their paths.
+//! Batches from texts as in `batch_texts`. What those cannot express follows `with` in a line: the two lifetimes of an entry, the
+//! revision that an update or a delete expects, and the filter of a page. IDs in such a line are written as their paths.
 
 use crate::values::{add, add_copy, beside, where_done};
 use batch_texts::{number, number_behind, trust_domain, word, words};
@@ -12,7 +12,7 @@ use std::alloc::Global;
 use std::test::Fail;
 use uuid::Uuid;
 
-/// The number that a word tells, which `-` doesn't.
+/// The number in a word, or none for `-`.
 fn given_number(words: &[&str], index: usize) -> Result<Option<u64>, Fail> {
     if word(words, index) == "-" {
         return Ok(None);
@@ -31,7 +31,7 @@ fn id(alloc: Global, path: &str) -> Result<Shared<SpiffeId>, Fail> {
     Ok(Shared::of(alloc, id)?)
 }
 
-/// The selectors of a word, with commas between them.
+/// The selectors in a word, which commas separate.
 fn selectors(alloc: Global, word: &str) -> Result<Shared<SelectorSet>, Fail> {
     let mut selectors = Vec::new(alloc);
     for text in word.split(',') {
@@ -64,7 +64,7 @@ fn sets(alloc: Global, words: &[&str]) -> Result<(Shared<SelectorSet>, DomainSet
     beside(selectors, domains(alloc, words))
 }
 
-/// An entry with no hint, of its number, parent, identity, selectors, expiry and domains, and of its lifetimes.
+/// An entry with no hint, from its number, parent, identity, selectors, expiry and domains, and from its lifetimes.
 fn entry(alloc: Global, words: &[&str], more: &[&str]) -> Result<Shared<NewEntry>, Fail> {
     let (number, expiry) = (uuid(words, 1)?, number(words, 5)?);
     let (x509_svid_ttl, jwt_svid_ttl) = lifetimes(more)?;
@@ -89,7 +89,7 @@ fn lifetimes(words: &[&str]) -> Result<(u64, u64), Fail> {
     Ok((number(words, 0)?, number(words, 1)?))
 }
 
-/// The ID that a word tells, which `-` doesn't.
+/// The ID in a word, or none for `-`.
 fn given_id(alloc: Global, path: &str) -> Result<Option<Shared<SpiffeId>>, Fail> {
     if path == "-" {
         return Ok(None);
@@ -114,7 +114,7 @@ fn mode(word: &str) -> MatchMode {
     }
 }
 
-/// The question of a mode and its selectors; none where the mode is `-`.
+/// The condition with a mode and its selectors; none if the mode is `-`.
 fn given_match(alloc: Global, word: &str, of: &str) -> Result<Option<SelectorMatch>, Fail> {
     if word == "-" {
         return Ok(None);
@@ -124,7 +124,7 @@ fn given_match(alloc: Global, word: &str, of: &str) -> Result<Option<SelectorMat
     Ok(Some(SelectorMatch { selectors, mode }))
 }
 
-/// The filter of a parent, an identity, a domain, a mode and its selectors.
+/// The filter with a parent, an identity, a domain, a mode and its selectors.
 fn filter(alloc: Global, words: &[&str]) -> Result<Filter, Fail> {
     let parent = given_id(alloc, word(words, 0))?;
     let identity = given_id(alloc, word(words, 1))?;
@@ -138,7 +138,7 @@ fn filter(alloc: Global, words: &[&str]) -> Result<Filter, Fail> {
     })
 }
 
-/// A page, of its size, the number of the book that it reads, the number of the entry after which it begins, and its filter.
+/// A page from its size, the number of the book that it reads, the number of the entry after which it begins, and its filter.
 fn page(alloc: Global, words: &[&str], more: &[&str]) -> Result<Shared<PageQuery>, Fail> {
     let (size, at) = (number(words, 1)?, given_number(words, 2)?);
     let from = match given_number(words, 3)? {
@@ -155,7 +155,7 @@ fn page(alloc: Global, words: &[&str], more: &[&str]) -> Result<Shared<PageQuery
     Ok(Shared::of(alloc, query)?)
 }
 
-/// The operation of a line with more behind it.
+/// The operation of a line with words after `with`.
 fn op_with(alloc: Global, words: &[&str], more: &[&str]) -> Result<Op, Fail> {
     match word(words, 0) {
         "create" => Ok(Op::Create(entry(alloc, words, more)?)),
@@ -181,7 +181,7 @@ fn add_copies(ops: &mut Vec<Op>, copied: &[Op]) -> Result<(), Fail> {
     Ok(())
 }
 
-/// Adds the operation of a line with nothing more.
+/// Appends the operation of a line without `with`.
 fn add_plain(alloc: Global, ops: &mut Vec<Op>, line: &str) -> Result<(), Fail> {
     let batch = batch_texts::batch(alloc, line)?;
     let added = add_copies(ops, batch.shared_ops().get().as_slice());
@@ -206,14 +206,14 @@ fn add_lines(alloc: Global, ops: &mut Vec<Op>, lines: &str) -> Result<(), Fail> 
     Ok(())
 }
 
-/// The operations that the lines tell.
+/// The operations of the lines.
 fn ops_of(alloc: Global, lines: &str) -> Result<Vec<Op>, Fail> {
     let mut ops = Vec::new(alloc);
     let added = add_lines(alloc, &mut ops, lines);
     where_done(added, ops)
 }
 
-/// The batch of lines, some with more.
+/// The batch of lines, some with more words.
 fn batch_with(alloc: Global, lines: &str) -> Result<Batch, Fail> {
     let token = match number_behind(alloc, lines, "token")? {
         Some(number) => Some(Uuid::from_u64_pair(0, number)),
@@ -225,7 +225,7 @@ fn batch_with(alloc: Global, lines: &str) -> Result<Batch, Fail> {
     Ok(Batch::new(alloc, &domain, ops, after, token)?)
 }
 
-/// The batch that a text tells.
+/// The batch of a text.
 pub fn batch(alloc: Global, text: &str) -> Result<Batch, Fail> {
     if text.contains(" with ") {
         let lines = text.replace(alloc, "; ", "\n")?;

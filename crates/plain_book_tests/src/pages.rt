@@ -1,5 +1,5 @@
-//! Pages of a book of random entries: page after page, whatever the filter and the size, they list what a search over the
-//! entries finds, which knows them by the words that told them.
+//! Pages of a book of random entries: page after page, for any filter and size, they list what a search over the entries finds. The
+//! search knows the entries by the words that created them.
 
 use crate::draws::drawn;
 use crate::playing::{first_book, plays_on, told};
@@ -10,7 +10,7 @@ use std::alloc::Global;
 use std::process::Abort;
 use std::test::Fail;
 
-/// `<entry>` is all but the number of an entry, `<filter>` a filter, each of whose parts is given in half of the cases.
+/// `<entry>` is an entry without its number, `<filter>` a filter, of which each part is given in half of the cases.
 const GRAMMAR: &str = "\
 <entry>: <parent> <identity> <selectors> 0 <domains>
 <parent>: /spire/agent/n1 | /spire/agent/n2
@@ -30,7 +30,7 @@ const BUNDLES: &str = "\
 set_bundle b.org; set_bundle c.org => committed at 1; bundle b.org 0; bundle c.org 0
 ";
 
-/// The entries that the book took, in the order of their ids; one that is like an earlier one isn't taken.
+/// The entries that the book accepted, in the order of their ids; one that is similar to an earlier one is refused.
 fn filled(alloc: Global, book: &mut PlainBook, state: &mut u64) -> Result<Vec<String>, Fail> {
     let mut rows = Vec::new(alloc);
     for number in 1..14_u64 {
@@ -43,7 +43,7 @@ fn filled(alloc: Global, book: &mut PlainBook, state: &mut u64) -> Result<Vec<St
     Ok(rows)
 }
 
-/// Is the word one of these, which stand with commas between them?
+/// Returns true if the word is one of these, which commas separate.
 fn is_among(word: &str, words: &str) -> bool {
     for other in words.split(',') {
         if other == word {
@@ -53,7 +53,7 @@ fn is_among(word: &str, words: &str) -> bool {
     false
 }
 
-/// How many of these words are among the others?
+/// The number of these words that are among the others.
 fn count_among(words: &str, others: &str) -> usize {
     let mut count: usize = 0;
     for word in words.split(',') {
@@ -66,7 +66,7 @@ fn is_within(words: &str, others: &str) -> bool {
     count_among(words, others) == words.split(',').count()
 }
 
-/// Do the selectors of an entry match those of a filter?
+/// Returns true if the selectors of an entry match those of a filter.
 fn do_match(own: &str, given: &str, mode: &str) -> bool {
     match mode {
         "exact" => is_within(own, given) && is_within(given, own),
@@ -77,12 +77,12 @@ fn do_match(own: &str, given: &str, mode: &str) -> bool {
     }
 }
 
-/// Is the word the given one, where one is given?
+/// Returns true if no word is given, or this one.
 fn is_given(given: &str, word: &str) -> bool {
     given == "-" || given == word
 }
 
-/// Does the entry name the domain, where one is given?
+/// Returns true if no domain is given, or the entry names it.
 fn names(row: &[&str], given: &str) -> bool {
     for domain in row.iter().skip(6) {
         if is_given(given, domain) {
@@ -92,7 +92,7 @@ fn names(row: &[&str], given: &str) -> bool {
     given == "-"
 }
 
-/// Would the search list this entry?
+/// Returns true if the search lists this entry.
 fn is_found(row: &[&str], filter: &[&str]) -> bool {
     is_given(word(filter, 0), word(row, 2))
         && is_given(word(filter, 1), word(row, 3))
@@ -112,7 +112,7 @@ fn found<'a>(alloc: Global, rows: &'a [String], filter: &str) -> Result<Vec<&'a 
     Ok(found)
 }
 
-/// Adds an entry to a page, as its number, its revision and its domains.
+/// Appends an entry to a page, as its number, its revision and its domains.
 fn add_row(text: &mut String, row: &[&str]) -> Result<(), Fail> {
     text.push_str(" ")?;
     text.push_str(word(row, 1))?;
@@ -124,7 +124,7 @@ fn add_row(text: &mut String, row: &[&str]) -> Result<(), Fail> {
     Ok(())
 }
 
-/// Ends a page behind an entry, and begins the next one.
+/// Ends a page after an entry, and begins the next one.
 fn add_next(text: &mut String, row: &[&str], head: &str) -> Result<(), Fail> {
     text.push_str(" next ")?;
     text.push_str(word(row, 1))?;
@@ -133,7 +133,7 @@ fn add_next(text: &mut String, row: &[&str], head: &str) -> Result<(), Fail> {
     Ok(())
 }
 
-/// All pages of these entries, each but the last one full, and each behind this head.
+/// The expected pages of these entries, each after this head; all but the last are full.
 fn wanted_pages(alloc: Global, found: &[&str], size: u64, head: &str) -> Result<String, Fail> {
     let mut pages = String::from_str(alloc, head)?;
     let mut rest = found.len() as u64;
@@ -152,7 +152,7 @@ fn wanted_pages(alloc: Global, found: &[&str], size: u64, head: &str) -> Result<
     Ok(pages)
 }
 
-/// The page of this size and filter that the book answers behind an entry.
+/// The book's page of this size and filter that begins after an entry.
 fn told_page(
     alloc: Global,
     book: &mut PlainBook,
@@ -169,7 +169,7 @@ fn add_line(text: &mut String, line: &str) -> Result<(), Fail> {
     Ok(())
 }
 
-/// The page behind this one, where there is one, which is added to the others.
+/// Appends a page to the others, after its predecessor, and returns it, if there is a next page.
 fn next_page(
     alloc: Global,
     book: &mut PlainBook,
@@ -185,7 +185,7 @@ fn next_page(
     Ok(Some(next))
 }
 
-/// All pages that the book answers, from the first one on; none has more than thirteen entries.
+/// All pages of the book, from the first one on; none has more than thirteen entries.
 fn told_pages(
     alloc: Global,
     book: &mut PlainBook,
@@ -203,7 +203,7 @@ fn told_pages(
     Ok(pages)
 }
 
-/// Page after page of this size is what the search finds.
+/// Asserts that page after page of this size is what the search finds.
 fn are_pages_found(
     rt: &impl Abort,
     alloc: Global,
@@ -221,7 +221,7 @@ fn are_pages_found(
     Ok(())
 }
 
-/// So it is with each of random filters, once a book is filled.
+/// Asserts this for each of some random filters, after filling a book.
 fn all_filters(rt: &impl Abort, alloc: Global, book: &mut PlainBook) -> Result<(), Fail> {
     plays_on(rt, alloc, book, BUNDLES)?;
     let mut state = 7;

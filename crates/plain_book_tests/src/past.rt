@@ -1,11 +1,11 @@
-//! Pages of earlier books, and batches that wait for a later place.
+//! Pages of earlier books, and batches with a minimum place.
 
 use crate::playing::plays_all;
 use std::alloc::Global;
 use std::process::Abort;
 use std::test::Fail;
 
-/// Leads to the book of five entries, each with one selector more, at place 1, of which the fourth is deleted at place 2.
+/// Makes a book of five entries at place 1, each with one more selector, and deletes the fourth at place 2.
 const FOUR: &str = "\
 create 1 n1 /web u:1 0; create 2 n1 /web u:1,u:2 0; create 3 n1 /web u:1,u:2,u:3 0; \
 create 4 n1 /web u:1,u:2,u:3,u:4 0; create 5 n1 /web u:1,u:2,u:3,u:4,u:5 0 \

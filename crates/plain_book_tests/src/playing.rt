@@ -1,4 +1,4 @@
-//! What a book answers, batch after batch, told by a script.
+//! Scripts of batches and the expected replies of a book.
 
 ghost use Rattle.std.specs.Prelude.{◌≡◌};
 
@@ -16,12 +16,12 @@ pub fn first_book(alloc: Global) -> Result<PlainBook, Fail> {
     Ok(PlainBook::new(alloc, trust_domain(alloc, "ex.org")?)?)
 }
 
-/// The book's place. Nothing is said of it.
+/// The book's place. It has no contract.
 fn place_of(book: &PlainBook) -> u64 {
     book.place()
 }
 
-/// The book's reply. A run that is refused memory has changed nothing, and is made again.
+/// The book's reply. A run that fails for lack of memory must have changed nothing, and is retried.
 fn run(book: &mut PlainBook, batch: &Batch) -> Result<Reply, Fail>
     requires { batch.now.domain ≡ book.old.domain }
 {
@@ -41,7 +41,7 @@ fn reply_to(book: &mut PlainBook, batch: &Batch) -> Result<Reply, Fail> {
     run(book, batch)
 }
 
-/// A batch, and what a book replied to it.
+/// A batch, and the book's reply to it.
 #[derive(Drop)]
 pub struct Answer {
     batch: Batch,
@@ -49,7 +49,7 @@ pub struct Answer {
 }
 
 impl Answer {
-    /// The operations. Nothing is said of them.
+    /// The operations. The function has no contract.
     pub fn ops(&self) -> &[Op] {
         self.batch.shared_ops().get().as_slice()
     }
@@ -58,7 +58,7 @@ impl Answer {
         &self.reply.outcome
     }
 
-    /// The replies to the operations; none where the batch is refused.
+    /// The replies to the operations; none if the batch is refused.
     pub fn replies(&self) -> &[OpReply] {
         match &self.reply.outcome {
             Outcome::Committed(replies) | Outcome::Answered(replies) | Outcome::Repeated(replies) =>
@@ -72,7 +72,7 @@ impl Answer {
         Ok(reply_text(alloc, &self.reply)?)
     }
 
-    /// The batch only asks, and isn't refused.
+    /// Returns an error unless the batch is read-only and was answered.
     fn is_answered(&self) -> Result<(), Fail> {
         match &self.reply.outcome {
             Outcome::Answered(_) => Ok(()),
@@ -81,7 +81,7 @@ impl Answer {
     }
 }
 
-/// Runs the batch that a text tells.
+/// Runs the batch of a text.
 pub fn answer_to(alloc: Global, book: &mut PlainBook, text: &str) -> Result<Answer, Fail> {
     let batch = batch(alloc, text)?;
     let reply = reply_to(book, &batch);
@@ -89,14 +89,14 @@ pub fn answer_to(alloc: Global, book: &mut PlainBook, text: &str) -> Result<Answ
     Ok(Answer { batch, reply })
 }
 
-/// Runs the batch that a text tells, which only asks and isn't refused.
+/// Runs the batch of a text, which must be read-only and not refused.
 pub fn asked(alloc: Global, book: &mut PlainBook, text: &str) -> Result<Answer, Fail> {
     let answer = answer_to(alloc, book, text)?;
     let answered = answer.is_answered();
     where_done(answered, answer)
 }
 
-/// What the book answers to the batch that a text tells, as text.
+/// The book's reply to the batch of a text, as text.
 pub fn told(alloc: Global, book: &mut PlainBook, text: &str) -> Result<String, Fail> {
     let answer = answer_to(alloc, book, text)?;
     let told = answer.text(alloc);
@@ -104,7 +104,7 @@ pub fn told(alloc: Global, book: &mut PlainBook, text: &str) -> Result<String, F
     told
 }
 
-/// The book answers the batch that a text tells so.
+/// Asserts the book's reply to the batch of a text.
 pub fn answers(
     rt: &impl Abort,
     alloc: Global,
@@ -117,7 +117,7 @@ pub fn answers(
     Ok(())
 }
 
-/// Prunes nothing until the book is at this place.
+/// Runs prunes that remove nothing until the book is at this place.
 fn goes_to(rt: &impl Abort, alloc: Global, book: &mut PlainBook, place: &str) -> Result<(), Fail> {
     for found in place_of(book)..place.parse::<u64>()? {
         let next = found.wrapping_add(1);
@@ -127,14 +127,14 @@ fn goes_to(rt: &impl Abort, alloc: Global, book: &mut PlainBook, place: &str) ->
     Ok(())
 }
 
-/// The book's trust domain and place.
+/// Asserts the book's trust domain and place.
 fn is_at(rt: &impl Abort, alloc: Global, book: &PlainBook, want: &str) -> Result<(), Fail> {
     let got = placed(alloc, book.domain().as_str(), book.place())?;
     is_text(rt, got.as_str(), want, "the domain and the place");
     Ok(())
 }
 
-/// What `BOOK` asks for, or a batch, is answered so.
+/// Asserts the reply to a batch, or for `BOOK` the trust domain and the place.
 fn plays_answer(
     rt: &impl Abort,
     alloc: Global,
@@ -163,8 +163,8 @@ fn plays_line(
     }
 }
 
-/// Plays a script. A batch and its answer stand in a line with ` => ` between them; in the place of a batch `BOOK` asks for the
-/// book's trust domain and place. `UP TO` and a place commit a batch that changes nothing, again and again.
+/// Plays a script. A line has a batch, ` => `, and the expected reply. `BOOK` in place of a batch means the book's trust domain
+/// and place. `UP TO` and a place commits batches that change nothing until that place.
 pub fn plays_on(
     rt: &impl Abort,
     alloc: Global,
@@ -189,7 +189,7 @@ fn plays_all_on(
     Ok(())
 }
 
-/// Plays scripts, one after another, from the empty book on.
+/// Plays scripts, one after another, beginning with the empty book.
 pub fn plays_all(rt: &impl Abort, alloc: Global, scripts: &[&str]) -> Result<(), Fail> {
     let mut book = first_book(alloc)?;
     let played = plays_all_on(rt, alloc, &mut book, scripts);
@@ -197,7 +197,7 @@ pub fn plays_all(rt: &impl Abort, alloc: Global, scripts: &[&str]) -> Result<(),
     played
 }
 
-/// Plays a script, from the empty book on.
+/// Plays a script, beginning with the empty book.
 pub fn plays(rt: &impl Abort, alloc: Global, script: &str) -> Result<(), Fail> {
     plays_all(rt, alloc, &[script])
 }

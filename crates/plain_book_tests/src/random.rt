@@ -1,5 +1,5 @@
-//! Random batches of a few names: each book that comes out is lawful, each authorised answer is what a search for
-//! chains finds, and every code and kind of answer comes.
+//! Random batches over a few names: each resulting book is lawful, each authorised reply is what a search for
+//! chains finds, and every code and kind of reply occurs.
 
 use crate::playing::{Answer, answer_to, asked, first_book};
 use crate::requests::{
@@ -16,7 +16,7 @@ use std::process::Abort;
 use std::test::Fail;
 use uuid::Uuid;
 
-/// What has to come.
+/// What must occur.
 const COMING: &str = "\
 committed
 answered
@@ -43,7 +43,7 @@ a bundle told
 entries pruned
 ";
 
-/// Is the line among these?
+/// Returns true if the line is among these.
 fn is_among(lines: &str, wanted: &str) -> bool {
     for line in lines.lines() {
         if line == wanted {
@@ -53,7 +53,7 @@ fn is_among(lines: &str, wanted: &str) -> bool {
     false
 }
 
-/// Where it holds, adds the line to what came.
+/// Adds the line to what occurred, if it holds.
 fn note(came: &mut String, line: &str, holds: bool) -> Result<(), Fail> {
     if holds && !is_among(came.as_str(), line) {
         came.push_str(line)?;
@@ -83,7 +83,7 @@ fn note_change(came: &mut String, op: &Op, reply: &OpReply) -> Result<(), Fail> 
     }
 }
 
-/// Notes what became of a request, which was told so.
+/// Notes the outcome of a request, whose reply is also given as text.
 fn note_all(came: &mut String, request: &Request, answer: &Answer, told: &str) -> Result<(), Fail> {
     if let Some((head, _)) = told.split_once(" at ") {
         note(came, head, true)?;
@@ -102,7 +102,7 @@ fn note_changes(came: &mut String, ops: &[Op], replies: &[OpReply]) -> Result<()
     Ok(())
 }
 
-/// Is the bundle's domain named by one of these entries?
+/// Returns true if one of these entries names the bundle's domain.
 fn is_named(bundle: &Bundle, rows: &BookRows, ends: u64) -> bool {
     for entry in &rows.entries {
         if ends & bit(entry) != 0 && does_name(entry, bundle.domain.get().as_str()) {
@@ -112,7 +112,7 @@ fn is_named(bundle: &Bundle, rows: &BookRows, ends: u64) -> bool {
     false
 }
 
-/// Is the bundle shown at an index this one?
+/// Returns true if the bundle at an index is this one.
 fn is_shown(shown: &[Bundle], index: usize, bundle: &Bundle) -> bool {
     match shown.get(index) {
         Some(next) => {
@@ -122,7 +122,7 @@ fn is_shown(shown: &[Bundle], index: usize, bundle: &Bundle) -> bool {
     }
 }
 
-/// Are these the bundles that the entries name, in the order of their domains?
+/// Returns true if these are the bundles that the entries name, in the order of their domains.
 fn is_trust(shown: &[Bundle], rows: &BookRows, ends: u64) -> bool {
     let mut count: usize = 0;
     for bundle in &rows.bundles {
@@ -136,14 +136,14 @@ fn is_trust(shown: &[Bundle], rows: &BookRows, ends: u64) -> bool {
     count == shown.len()
 }
 
-/// Has the entry the id and the lifetimes that were given?
+/// Returns true if the entry has the given id and lifetimes.
 fn is_as_given(new: &NewEntry, entry: &Entry) -> bool {
     entry.id() == &new.id
         && entry.x509_svid_ttl() == new.x509_svid_ttl
         && entry.jwt_svid_ttl() == new.jwt_svid_ttl
 }
 
-/// The bits of the entries in which a chain for the agent ends; none where there is no such agent.
+/// The bits of the entries in which a chain for the agent ends; none if there is no such agent.
 fn ends_of(rows: &BookRows, text: &str) -> u64 {
     for agent in &rows.agents {
         if agent.id.get().as_str() == text {
@@ -153,7 +153,7 @@ fn ends_of(rows: &BookRows, text: &str) -> u64 {
     0
 }
 
-/// Is this the number of the id after which the next page begins, or is there neither?
+/// Returns true if this is the number of the id after which the next page begins, or if there is neither.
 fn is_next(next: &Option<Uuid>, last: Option<u16>) -> bool {
     match (next, last) {
         (Some(id), Some(last)) => number_of(id) == last,
@@ -162,7 +162,7 @@ fn is_next(next: &Option<Uuid>, last: Option<u16>) -> bool {
     }
 }
 
-/// Does the page list what the search finds in these rows?
+/// Returns true if the page lists what the search finds in these rows.
 fn is_listed(query: &PageQuery, rows: Option<&BookRows>, reply: &OpReply) -> bool {
     match (rows, reply) {
         (Some(rows), OpReply::Page(entries, next)) => {
@@ -173,7 +173,7 @@ fn is_listed(query: &PageQuery, rows: Option<&BookRows>, reply: &OpReply) -> boo
     }
 }
 
-/// The rows that a page reads: those of the book that it asks for, or of the last one before the batch.
+/// The rows that a page reads: those of the book whose number it gives, or of the last one before the batch.
 fn rows_for<'a>(query: &PageQuery, past: &'a Past) -> Option<&'a BookRows> {
     match query.at {
         Some(at) => past.books.get(at as usize),
@@ -181,7 +181,7 @@ fn rows_for<'a>(query: &PageQuery, past: &'a Past) -> Option<&'a BookRows> {
     }
 }
 
-/// Is the answer to a question what a search finds in these rows, those of the book that came out?
+/// Returns true if the reply to a query is what a search finds in these rows, those of the resulting book.
 fn is_found(op: &Op, reply: &OpReply, rows: &BookRows, past: &Past) -> bool {
     match (op, reply) {
         (Op::Authorised(agent), OpReply::Entries(entries)) => {
@@ -199,7 +199,7 @@ fn is_found(op: &Op, reply: &OpReply, rows: &BookRows, past: &Past) -> bool {
     }
 }
 
-/// Has the entry that an operation made what was given?
+/// Returns true if the entry that an operation made has what was given.
 fn is_made(op: &Op, reply: &OpReply) -> bool {
     match (op, reply) {
         (Op::Create(new) | Op::Update(new, _), OpReply::Entry(entry)) => {
@@ -209,7 +209,7 @@ fn is_made(op: &Op, reply: &OpReply) -> bool {
     }
 }
 
-/// Is what the batch was answered right? The questions of a repeat are answered out of an earlier book.
+/// Returns true if the replies are right. The queries in a repeated batch were answered from an earlier book, and are skipped.
 fn are_right(answer: &Answer, rows: &BookRows, past: &Past) -> bool {
     let is_repeated = matches!(answer.outcome(), Outcome::Repeated(_));
     for (op, reply) in answer.ops().iter().zip(answer.replies()) {
@@ -231,14 +231,14 @@ fn note_chains(came: &mut String, rows: &BookRows, ends: u64) -> Result<(), Fail
     Ok(())
 }
 
-/// Asks what the agent is authorised for, and what it is to trust.
+/// Queries the authorised entries and the bundles of the agent.
 fn questions(alloc: Global, agent: &Agent) -> Result<String, Fail> {
     let id = agent.id.get().as_str();
     let path = id.strip_prefix("spiffe://ex.org").unwrap_or(id);
     Ok(format!(in alloc; "authorised {path}; trust {path}")?)
 }
 
-/// Are these the entries, and the bundles that they name?
+/// Returns true if these are the entries, and the bundles that they name.
 fn are_told_so(replies: &[OpReply], rows: &BookRows, ends: u64) -> bool {
     match replies {
         [OpReply::Entries(entries), OpReply::Bundles(bundles)] => {
@@ -248,7 +248,7 @@ fn are_told_so(replies: &[OpReply], rows: &BookRows, ends: u64) -> bool {
     }
 }
 
-/// Has the agent been told some bundle?
+/// Returns true if the agent got some bundle.
 fn is_trusting(replies: &[OpReply]) -> bool {
     match replies {
         [_, OpReply::Bundles(bundles)] => !bundles.as_slice().is_empty(),
@@ -256,7 +256,7 @@ fn is_trusting(replies: &[OpReply]) -> bool {
     }
 }
 
-/// Is the agent told the entries in which a chain for it ends, and the bundles that they name?
+/// Returns true if the agent gets the entries in which a chain for it ends, and the bundles that they name.
 fn is_told(
     alloc: Global,
     book: &mut PlainBook,
@@ -275,7 +275,7 @@ fn is_told(
     Ok(is_told_so)
 }
 
-/// Is the book that came out lawful, and are its agents told what a search finds?
+/// Asserts that the resulting book is lawful, and that its agents get what a search finds.
 fn judge(
     rt: &impl Abort,
     alloc: Global,
@@ -293,7 +293,7 @@ fn judge(
     Ok(())
 }
 
-/// The rows of the book that came out, once they and what was told are judged.
+/// The rows of the resulting book, after checking them and the reply.
 fn judged_rows(
     rt: &impl Abort,
     alloc: Global,
@@ -308,7 +308,7 @@ fn judged_rows(
     where_done(judged, rows)
 }
 
-/// Judges what a request was answered at a place: what it was told, and the rows of the book that came out.
+/// Checks the reply to a request at a place, and returns it as text, with the rows of the resulting book.
 fn judged(
     rt: &impl Abort,
     alloc: Global,
@@ -326,7 +326,7 @@ fn judged(
     beside(told, rows)
 }
 
-/// Runs a request, and judges what comes of it, as `judged` has it.
+/// Runs a request, and checks its reply, as in `judged`.
 fn run(
     rt: &impl Abort,
     alloc: Global,
@@ -343,7 +343,7 @@ fn run(
     judged
 }
 
-/// Runs a random request, and judges what comes of it.
+/// Runs a random request, and checks its reply.
 fn round(
     rt: &impl Abort,
     alloc: Global,
@@ -373,7 +373,7 @@ fn rounds(
     Ok(())
 }
 
-/// What came of random requests to the first book.
+/// What occurred in random requests to the first book.
 fn all_rounds(rt: &impl Abort, alloc: Global, book: &mut PlainBook) -> Result<String, Fail> {
     let mut came = String::new(alloc);
     let mut past = past_of(alloc, rows_of(alloc, book)?)?;
@@ -382,7 +382,7 @@ fn all_rounds(rt: &impl Abort, alloc: Global, book: &mut PlainBook) -> Result<St
     where_done(done, came)
 }
 
-/// Everything came that has to come.
+/// Asserts that everything occurred that must occur.
 fn all_came(rt: &impl Abort, came: &str) {
     for line in COMING.lines() {
         holds(rt, is_among(came, line), line);

@@ -1,5 +1,5 @@
-//! Random requests of a few names, and what those with a least place and a token are answered before their operations are looked
-//! at.
+//! Random requests over a few names, and the replies that follow from a minimum place and a token, before the operations are
+//! checked.
 
 use crate::draws::drawn;
 use crate::rows::BookRows;
@@ -8,9 +8,9 @@ use batch_texts::below;
 use std::alloc::Global;
 use std::test::Fail;
 
-/// `<changes>` are one to three changes; in one of four cases they ask at the end what an agent is authorised for. `<questions>`
-/// are one to three questions, `<from>` is what a page says behind the number of its book. Each part of a filter is given in half
-/// of the cases.
+/// `<changes>` are one to three changes, in one of four cases with a final query for an agent's authorised entries. `<questions>` are
+/// one to three queries. `<from>` is what follows the number of the book in a page. Each part of a filter is given in half of the
+/// cases.
 const GRAMMAR: &str = "\
 <changes>: <change> <end> | <change> ; <change> <end> | <change> ; <change> ; <change> <end>
 <end>: ; authorised <agent> | | |
@@ -48,8 +48,8 @@ const GRAMMAR: &str = "\
 <match>: exact | any | superset | subset
 ";
 
-/// A batch: the least place at which it may run, its token, the number of the book that it asks for, where it is a page that
-/// gives one, and its operations.
+/// A batch: its minimum place, its token, the number of the book that it reads, if it is a page that gives one, and its
+/// operations.
 #[derive(Drop)]
 pub struct Request {
     after: u64,
@@ -58,7 +58,7 @@ pub struct Request {
     ops: String,
 }
 
-/// A batch that was committed with a token, and what it was answered.
+/// A batch that was committed with a token, and the reply that it got.
 #[derive(Drop)]
 struct Kept {
     token: u64,
@@ -80,7 +80,7 @@ pub fn past_of(alloc: Global, rows: BookRows) -> Result<Past, Fail> {
     Ok(Past { books, kept })
 }
 
-/// Does the request ask for the book of a number?
+/// Returns true if the request reads the book of a number.
 pub fn is_past_page(request: &Request) -> bool {
     request.at.is_some()
 }
@@ -94,7 +94,7 @@ pub fn text_of(alloc: Global, request: &Request) -> Result<String, Fail> {
     }
 }
 
-/// The least place of a request, which one in sixteen has still to wait for.
+/// A minimum place for a request; in one of sixteen cases it isn't reached yet.
 fn least(state: &mut u64, place: u64) -> u64 {
     match below(state, 16) {
         0 => place.wrapping_add(1),
@@ -103,7 +103,7 @@ fn least(state: &mut u64, place: u64) -> u64 {
     }
 }
 
-/// A page of one of the books before the last one at this place, of this one, or of one to come.
+/// A page of one of up to 67 books before this place, of this place, or of the next two.
 fn past_page(alloc: Global, state: &mut u64, place: u64) -> Result<Request, Fail> {
     let at = place
         .wrapping_add(2)
@@ -117,7 +117,7 @@ fn past_page(alloc: Global, state: &mut u64, place: u64) -> Result<Request, Fail
     })
 }
 
-/// A batch, in one of four cases of questions; one of changes carries a token in half of the cases.
+/// A batch: queries in one of four cases, otherwise changes, half of which have a token.
 fn new_request(alloc: Global, state: &mut u64, place: u64) -> Result<Request, Fail> {
     let asks = below(state, 4) == 0;
     let token = below(state, 600) as u64;
@@ -134,7 +134,7 @@ fn new_request(alloc: Global, state: &mut u64, place: u64) -> Result<Request, Fa
     })
 }
 
-/// One of the batches that were committed with a token, again; any other where there is none.
+/// One of the batches that were committed with a token, again; any other if there is none.
 fn again(alloc: Global, state: &mut u64, past: &Past, place: u64) -> Result<Request, Fail> {
     let index = below(state, 300);
     match past.kept.get(index) {
@@ -148,7 +148,7 @@ fn again(alloc: Global, state: &mut u64, past: &Past, place: u64) -> Result<Requ
     }
 }
 
-/// A random request to a book at this place.
+/// A random request for a book at this place.
 pub fn random_request(
     alloc: Global,
     state: &mut u64,
@@ -162,7 +162,7 @@ pub fn random_request(
     }
 }
 
-/// Keeps the request under its token, where it carries one, with what it was answered.
+/// Stores the request under its token, if it has one, with the reply that it got.
 fn keep_answer(past: &mut Past, request: Request, told: String) -> Result<(), Fail> {
     let Request { token, ops, .. } = request;
     if let Some(token) = token {
@@ -171,7 +171,7 @@ fn keep_answer(past: &mut Past, request: Request, told: String) -> Result<(), Fa
     Ok(())
 }
 
-/// Where the request is committed now: keeps the rows after it, and what it was answered.
+/// Stores the rows after the request and its reply, if it was committed now.
 pub fn keep(past: &mut Past, request: Request, told: String, rows: BookRows) -> Result<(), Fail> {
     if !told.as_str().starts_with("committed") {
         drop(rows);
@@ -192,7 +192,7 @@ fn kept_for<'a>(past: &'a Past, request: &Request) -> Option<&'a Kept> {
     None
 }
 
-/// Is it the number of a book that is not kept at this place?
+/// Returns true if this is the number of a book that isn't available at this place.
 fn is_gone(at: Option<u64>, place: u64) -> bool {
     match at {
         Some(at) => at > place || place.saturating_sub(at) > 63,
@@ -200,7 +200,7 @@ fn is_gone(at: Option<u64>, place: u64) -> bool {
     }
 }
 
-/// What the request is told at this place before its operations are looked at; none where they are.
+/// The reply that follows at this place before the operations are checked; none if they are checked.
 fn told_before(
     alloc: Global,
     request: &Request,
@@ -223,7 +223,7 @@ fn told_before(
     }
 }
 
-/// May this be told where nothing is told before the operations are looked at?
+/// Returns true if this can be the reply to a request whose operations are checked.
 fn is_told_after(told: &str) -> bool {
     !told.starts_with("refused W1")
         && !told.starts_with("refused O8")
@@ -231,7 +231,7 @@ fn is_told_after(told: &str) -> bool {
         && !told.starts_with("repeated")
 }
 
-/// Is this what is told by the place, the token and the books that are left, whatever the operations do?
+/// Returns true if the reply agrees with what follows from the place, the token and the available books, for any operations.
 pub fn is_told_before(
     alloc: Global,
     request: &Request,

@@ -8,16 +8,16 @@ use plain_book::PlainBook;
 use std::alloc::Global;
 use std::test::Fail;
 
-/// Asks for all rows that there can be, and for the bundle of the server's own domain.
+/// Queries all rows that there can be, and the bundle of the server's own domain.
 const KEYS: &str = "\
 show 1; show 2; show 3; show 4; show 5; show 6; show 7; show_agent n1; show_agent n2; \
 show_bundle d100; show_bundle d101; show_bundle d102; show_bundle ex.org";
 
-/// Asks for the children of each parent.
+/// Queries the children of each parent.
 const CHILDREN: &str =
     "children n1; children n2; children /spire/server; children /web; children /api";
 
-/// The rows of a book of a few names.
+/// The rows of a book over a few names.
 #[derive(Drop)]
 pub struct BookRows {
     pub entries: Vec<Entry>,
@@ -33,7 +33,7 @@ fn empty(alloc: Global) -> BookRows {
     }
 }
 
-/// Is this row, where there is one, of the key that was asked for?
+/// Returns true if this row, if there is one, has the key of the query.
 fn is_of_its_key(op: &Op, reply: &OpReply) -> bool {
     match (op, reply) {
         (Op::Show(id), OpReply::EntryShown(Some(entry))) => entry.id() == id,
@@ -47,7 +47,7 @@ fn is_of_its_key(op: &Op, reply: &OpReply) -> bool {
     }
 }
 
-/// Adds the row that is shown, where there is one, which has to be of its key.
+/// Adds the row of a reply, if there is one. It must have the key of the query.
 fn keep(rows: &mut BookRows, op: &Op, reply: &OpReply) -> Result<(), Fail> {
     if !is_of_its_key(op, reply) {
         return Err(Fail::from("a row of another key"));
@@ -67,14 +67,14 @@ fn keep_all(rows: &mut BookRows, ops: &[Op], replies: &[OpReply]) -> Result<(), 
     Ok(())
 }
 
-/// The rows that are shown, each of its key.
+/// The rows of the replies, each with the key of its query.
 fn shown_rows(alloc: Global, shown: &Answer) -> Result<BookRows, Fail> {
     let mut rows = empty(alloc);
     let kept = keep_all(&mut rows, shown.ops(), shown.replies());
     where_done(kept, rows)
 }
 
-/// The rows, each asked for by its key, and each of its key.
+/// The rows of the book, each queried by its key, and with that key.
 pub fn rows_of(alloc: Global, book: &mut PlainBook) -> Result<BookRows, Fail> {
     let shown = asked(alloc, book, KEYS)?;
     let rows = shown_rows(alloc, &shown);
@@ -82,7 +82,7 @@ pub fn rows_of(alloc: Global, book: &mut PlainBook) -> Result<BookRows, Fail> {
     rows
 }
 
-/// The bits of the entries; none where they aren't in order, each once.
+/// The bits of the entries; `None` if an entry is repeated or out of order.
 fn bits(entries: &[Entry]) -> Option<u64> {
     let mut all = 0;
     let mut last = 0;
@@ -97,7 +97,7 @@ fn bits(entries: &[Entry]) -> Option<u64> {
     Some(all)
 }
 
-/// Are these the entries of these bits, in order, each once?
+/// Returns true if these are the entries of these bits, each once and in order.
 pub fn are_of(entries: &[Entry], wanted: u64) -> bool {
     match bits(entries) {
         Some(all) => all == wanted,
@@ -114,7 +114,7 @@ fn are_under(entries: &[Entry], parent: &str) -> bool {
     true
 }
 
-/// The bits of the entries of a parent; none where they aren't in order, each once, or one is of another parent.
+/// The bits of the entries of a parent; `None` if an entry is repeated, out of order, or of another parent.
 fn bits_of_children(op: &Op, reply: &OpReply) -> Option<u64> {
     match (op, reply) {
         (Op::Children(parent), OpReply::Entries(entries))
@@ -132,7 +132,7 @@ fn bits_of_all_children(ops: &[Op], replies: &[OpReply]) -> Option<u64> {
     Some(all)
 }
 
-/// The children of each parent stand in order, each once and under its own parent, and all of them are the entries.
+/// Returns true if the children of each parent are its own, each once and in order, and together are all entries.
 pub fn are_children_listed(
     alloc: Global,
     book: &mut PlainBook,
@@ -154,7 +154,7 @@ fn is_similar(one: &Entry, other: &Entry) -> bool {
         && one.selectors().get() == other.selectors().get()
 }
 
-/// How many domains of the entry have one of these bundles?
+/// The number of these bundles whose domains the entry names.
 fn bundled_count(entry: &Entry, bundles: &[Bundle]) -> usize {
     let mut count: usize = 0;
     for bundle in bundles {
@@ -164,7 +164,7 @@ fn bundled_count(entry: &Entry, bundles: &[Bundle]) -> usize {
     count
 }
 
-/// Is the entry lawful among these rows, at a book of so many revisions?
+/// Returns true if the entry is lawful among these rows, in a book whose revisions are at most `most`.
 fn is_lawful_entry(entry: &Entry, rows: &BookRows, most: u64) -> bool {
     for other in &rows.entries {
         if is_similar(entry, other) {
@@ -175,7 +175,7 @@ fn is_lawful_entry(entry: &Entry, rows: &BookRows, most: u64) -> bool {
         && bundled_count(entry, &rows.bundles) == entry.domains().as_slice().len()
 }
 
-/// Are the rows those of a lawful book of this place, whose server's own domain is the last one?
+/// Returns true if the rows are those of a lawful book at this place. The server's own domain has no bundle.
 pub fn is_lawful(rows: &BookRows, place: u64) -> bool {
     let most = place.wrapping_mul(64);
     for entry in &rows.entries {

@@ -1,11 +1,11 @@
-//! A search for chains, by their length, and one for the entries of a page, by counts.
+//! A search for chains by their length, and one for the entries of a page by counting.
 
 use crate::rows::BookRows;
 use entry_book::{Agent, Entry, Filter, MatchMode, PageQuery, SelectorMatch, Shared};
 use spiffe_name::{SpiffeId, TrustDomain};
 use uuid::Uuid;
 
-/// The number that the last two bytes of an id are.
+/// The number in the last two bytes of an id.
 pub fn number_of(id: &Uuid) -> u16 {
     let bytes = id.as_bytes();
     u16::from_be_bytes([bytes[14], bytes[15]])
@@ -16,12 +16,12 @@ pub fn bit(entry: &Entry) -> u64 {
     1_u64.wrapping_shl(u32::from(number_of(entry.id())))
 }
 
-/// Is the entry an alias?
+/// Returns true if the entry is an alias.
 pub fn is_alias(entry: &Entry) -> bool {
     entry.parent().get().as_str() == "spiffe://ex.org/spire/server"
 }
 
-/// Does the entry name the domain?
+/// Returns true if the entry names the domain.
 pub fn does_name(entry: &Entry, domain: &str) -> bool {
     for named in entry.domains().as_slice() {
         if named.get().as_str() == domain {
@@ -40,7 +40,7 @@ fn has(agent: &Agent, wanted: &str) -> bool {
     false
 }
 
-/// Has the agent all selectors of the entry?
+/// Returns true if the agent has all selectors of the entry.
 fn has_all(agent: &Agent, entry: &Entry) -> bool {
     for wanted in entry.selectors().get().as_slice() {
         if !has(agent, wanted.as_str()) {
@@ -66,7 +66,7 @@ fn first_level(rows: &BookRows, agent: &Agent) -> u64 {
     level
 }
 
-/// Is the entry's parent the identity of one of these?
+/// Returns true if the entry's parent is the identity of one of these.
 fn follows(entry: &Entry, rows: &BookRows, level: u64) -> bool {
     for before in &rows.entries {
         let is_before = before.identity().get().as_str() == entry.parent().get().as_str();
@@ -88,7 +88,7 @@ fn next_level(rows: &BookRows, level: u64) -> u64 {
     next
 }
 
-/// These entries, and those in which a chain ends that goes on from one of them; none need be longer than there are entries.
+/// These entries, and those in which a chain ends that continues from one of them; no chain longer than the number of entries is needed.
 fn reached(rows: &BookRows, level: u64) -> u64 {
     let mut level = level;
     let mut all = level;
@@ -104,7 +104,7 @@ pub fn ends(rows: &BookRows, agent: &Agent) -> u64 {
     reached(rows, first_level(rows, agent))
 }
 
-/// Does a chain come back to one of these entries?
+/// Returns true if a chain returns to one of these entries.
 pub fn has_cycle(rows: &BookRows, ends: u64) -> bool {
     for entry in &rows.entries {
         let after = reached(rows, next_level(rows, bit(entry)));
@@ -115,7 +115,7 @@ pub fn has_cycle(rows: &BookRows, ends: u64) -> bool {
     false
 }
 
-/// Of entries with the first few of the same selectors: does one with so many match?
+/// Whether sets match that have the first `own` and the first `given` of the same selectors.
 fn do_counts_match(own: usize, given: usize, mode: MatchMode) -> bool {
     match mode {
         MatchMode::Exact => own == given,
@@ -125,7 +125,7 @@ fn do_counts_match(own: usize, given: usize, mode: MatchMode) -> bool {
     }
 }
 
-/// Is the ID the given one, where one is given?
+/// Returns true if no ID is given, or this one.
 fn is_given(given: &Option<Shared<SpiffeId>>, id: &Shared<SpiffeId>) -> bool {
     match given {
         Some(given) => given.get().as_str() == id.get().as_str(),
@@ -133,7 +133,7 @@ fn is_given(given: &Option<Shared<SpiffeId>>, id: &Shared<SpiffeId>) -> bool {
     }
 }
 
-/// Does the entry name the domain, where one is given?
+/// Returns true if no domain is given, or the entry names it.
 fn is_of_domain(given: &Option<Shared<TrustDomain>>, entry: &Entry) -> bool {
     match given {
         Some(given) => does_name(entry, given.get().as_str()),
@@ -152,7 +152,7 @@ fn is_of_selectors(question: &Option<SelectorMatch>, entry: &Entry) -> bool {
     }
 }
 
-/// Has the entry each part that is given?
+/// Returns true if the entry has each part that is given.
 fn has_parts(entry: &Entry, filter: &Filter) -> bool {
     is_given(&filter.parent, entry.parent())
         && is_given(&filter.identity, entry.identity())
@@ -168,7 +168,7 @@ fn number_before(query: &PageQuery) -> u16 {
     }
 }
 
-/// The bits of the entries of a page, and the number of the last of them where there are more.
+/// The bits of the entries of a page, and the number of the last one if there are more.
 pub fn listed(rows: &BookRows, query: &PageQuery) -> (u64, Option<u16>) {
     let from = number_before(query);
     let mut all = 0;

@@ -1,4 +1,4 @@
-//! What a small book answers, batch after batch.
+//! What a small book replies, batch after batch.
 
 use crate::playing::plays;
 use std::test::Fail;
