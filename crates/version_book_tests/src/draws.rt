@@ -1,9 +1,9 @@
-//! Random batches on few rows, told as text.
+//! Random batches on few rows, as text.
 
 use batch_texts::below;
 use std::alloc::{AllocError, Global};
 
-/// The operations, in whose words there are commas between choices. Of 12, 6, 4, 3, 2 or 1 each is drawn as often as the others.
+/// The operations, with alternatives in a word separated by commas. Each of 12, 6, 4, 3, 2 or 1 alternatives is equally likely.
 const OPS: &str = "\
 create 1,2,3,4,5,6 /a,/ab,/x /a,/x u:1,u:2,u:3 0,1,2,3 ,,d1,d2 ,,d3
 create 1,2,3,4,5,6 /a,/ab,/x /a,/x u:1,u:2,u:3 0,1,2,3 ,,d1,d2 ,,d3
@@ -18,7 +18,7 @@ set_bundle d1,d2,d3
 set_bundle d1,d2,d3
 drop_bundle d1,d2,d3 restrict,delete,dissociate";
 
-/// One of the choices, between which this separator stands: the first one behind some, that go round.
+/// A random one of the choices between these separators: skips up to eleven, cyclically, and takes the next one.
 fn draw<'a>(state: &mut u64, choices: &'a str, separator: &str) -> &'a str {
     let mut left = choices;
     for _ in 0..below(state, 12) {
@@ -33,7 +33,7 @@ fn draw<'a>(state: &mut u64, choices: &'a str, separator: &str) -> &'a str {
     }
 }
 
-/// Adds a random operation.
+/// Appends a random operation.
 fn add_op(text: &mut String, state: &mut u64) -> Result<(), AllocError> {
     for choices in draw(state, OPS, "\n").split_whitespace() {
         text.push_str(draw(state, choices, ","))?;
@@ -42,7 +42,7 @@ fn add_op(text: &mut String, state: &mut u64) -> Result<(), AllocError> {
     Ok(())
 }
 
-/// Adds a token to one batch of four, of which only the first that commits is kept.
+/// Appends a token to one batch in four. Only the first batch with a token that commits is stored under it.
 fn add_token(text: &mut String, state: &mut u64) -> Result<(), AllocError> {
     if below(state, 4) != 0 {
         return Ok(());
@@ -51,7 +51,7 @@ fn add_token(text: &mut String, state: &mut u64) -> Result<(), AllocError> {
     write!(text, "token {number}; ")
 }
 
-/// Adds one to four random operations, behind a token or none.
+/// Appends one to four random operations, after a token or none.
 fn add_batch(text: &mut String, state: &mut u64) -> Result<(), AllocError> {
     add_token(text, state)?;
     add_op(text, state)?;

@@ -1,12 +1,12 @@
-//! What do versions read on small worked books and on random ones, and when do they tell that nothing changed?
+//! What do versions read on small worked books and on random ones, and when do they report that nothing changed?
 //!
 //! The crate has tests alone, over the public calls of `version_book`:
 //!
-//! - `worked`: the marks of small books, told by tables. `playing` plays a table.
-//! - `random`: long histories of random operations, which `draws` draws, beside plain lists of their rows, which `listed` has.
-//! - `running`: the version after a batch, whose writes a work of `batch_work` finds.
-//! - `marks`: marks, made of words; `rows`: rows, told as lines.
-//! - `values`: values of any type; `wanted`: what a test wants to see.
+//! - `worked`: the marks of small books, as tables. `playing` plays a table.
+//! - `random`: long histories of random operations from `draws`, compared with plain lists of their rows from `listed`.
+//! - `running`: the version after a batch, whose writes a work of `batch_work` computes.
+//! - `marks`: marks from words; `rows`: rows as lines of text.
+//! - `values`: values of any type; `wanted`: assertions.
 #![tactic(auto)]
 
 #[cfg(test)]

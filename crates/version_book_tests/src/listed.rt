@@ -1,17 +1,17 @@
-//! The rows of a book in plain lists of lines of writes, and which of them a mark names.
+//! The rows of a book as plain lists of lines, and which of them a mark names.
 
 use std::alloc::{AllocError, Global};
 use std::test::Fail;
 
-/// All rows of a book, in the order of their lines, so that entries stand in that of their numbers, 1 to 6; and apart from
-/// them, since they are many, what is kept under tokens.
+/// All rows of a book, in the order of their lines, so that entries are in the order of their numbers, 1 to 6. The many stored tokens
+/// are in a list of their own.
 #[derive(Drop)]
 pub struct Listed {
     rows: Vec<String>,
     tokens: Vec<String>,
 }
 
-/// Takes a row away, which has to be there.
+/// Removes a row, or returns an error if it is missing.
 fn remove(rows: &mut Vec<String>, line: &str) -> Result<(), Fail> {
     for index in 0..rows.len() {
         if rows[index].as_str() == line {
@@ -27,12 +27,12 @@ fn insert(alloc: Global, rows: &mut Vec<String>, line: &str) -> Result<(), Alloc
     rows.sort()
 }
 
-/// Is this a row or a mark of a token?
+/// Returns true for a row or a mark of a token.
 fn is_of_token(line: &str) -> bool {
     line.starts_with("|token ")
 }
 
-/// A row without its marks.
+/// The row without its marks.
 pub fn told(row: &str) -> &str {
     match row.split_once(" =>") {
         Some((_, told)) => told,
@@ -40,7 +40,7 @@ pub fn told(row: &str) -> &str {
     }
 }
 
-/// The mark that names a row alone.
+/// The mark that names this row alone.
 pub fn own_mark(row: &str) -> &str {
     match row.trim_start_matches("|").split_once("|") {
         Some((own, _)) => own,
@@ -82,7 +82,7 @@ impl Listed {
         Ok(())
     }
 
-    /// The rows that a mark between bars names, told as a reading.
+    /// The rows that a mark between bars names, as the text of a reading.
     pub fn named_text(&self, alloc: Global, name: &str) -> Result<String, AllocError> {
         let rows = if is_of_token(name) {
             &self.tokens
@@ -92,7 +92,7 @@ impl Listed {
         named_text(alloc, rows.as_slice(), name)
     }
 
-    /// How many rows begin so, but for those of tokens?
+    /// The number of rows that begin with this text, without those of tokens.
     pub fn count_of(&self, start: &str) -> usize {
         let mut count: usize = 0;
         for row in &self.rows {

@@ -1,4 +1,4 @@
-//! Marks, made of the words of a line. IDs are told by their path; they are of `ex.org`.
+//! Marks from the words of a line. IDs are of `ex.org` and written as their paths.
 
 use batch_texts::{Failed, number, trust_domain, word, words};
 use entry_book::Shared;
@@ -7,7 +7,7 @@ use std::alloc::Global;
 use uuid::Uuid;
 use version_book::Mark;
 
-/// The UUID whose last bytes are the number behind the first word.
+/// The UUID whose last bytes are the number after the first word.
 fn uuid(words: &[&str]) -> Result<Uuid, Failed> {
     Ok(Uuid::from_u64_pair(0, number(words, 1)?))
 }
@@ -21,7 +21,7 @@ fn domain(alloc: Global, name: &str) -> Result<Shared<TrustDomain>, Failed> {
     Ok(Shared::of(alloc, trust_domain(alloc, name)?)?)
 }
 
-/// The mark that a line tells.
+/// The mark of a line.
 pub fn mark_of(alloc: Global, line: &str) -> Result<Mark, Failed> {
     let words = words(alloc, line)?;
     mark(alloc, words.as_slice())

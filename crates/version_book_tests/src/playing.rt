@@ -1,4 +1,4 @@
-//! Versions of one history, and what they answer, told by a table.
+//! Tables of questions about the versions of one history, and the expected answers.
 
 use crate::marks::mark_of;
 use crate::rows::{
@@ -14,7 +14,7 @@ use std::process::Abort;
 use std::test::Fail;
 use version_book::{Changes, Mark, RowCounts, Version};
 
-/// A version, the batch that led to it, and its writes, which are told as text, too.
+/// A version, the batch that led to it, and its writes, also as text.
 #[derive(Drop)]
 pub struct Step {
     pub batch: String,
@@ -35,14 +35,14 @@ pub fn first_step(alloc: Global) -> Result<Vec<Step>, Fail> {
     one(alloc, step)
 }
 
-/// The writes of a work that is ready, for a place, told as text.
+/// The writes of a work that is ready, for a place, as text.
 fn writes_text(alloc: Global, work: &Work, place: u64) -> Result<String, Failed> {
     let mut text = String::new(alloc);
     add_writes(alloc, &mut text, work.changes(), place)?;
     Ok(text)
 }
 
-/// The version of this number, after the batch of a work, which a text tells; nothing where the book doesn't take it.
+/// The version of this number, after the batch of a work, whose text is given; nothing if the batch isn't accepted.
 fn step_of(alloc: Global, work: &Work, text: &str, number: u64) -> Result<Option<Step>, Fail> {
     if work.status() != Status::Ready {
         return Ok(None);
@@ -59,7 +59,7 @@ fn step_of(alloc: Global, work: &Work, text: &str, number: u64) -> Result<Option
     }))
 }
 
-/// The version of this number, after the batch that a text tells; nothing where the book doesn't take it.
+/// The version of this number, after the batch of a text; nothing if the batch isn't accepted.
 fn play(alloc: Global, version: &Version, text: &str, number: u64) -> Result<Option<Step>, Fail> {
     let work = ended(alloc, version, batch(alloc, text)?)?;
     let step = step_of(alloc, &work, text, number);
@@ -67,7 +67,7 @@ fn play(alloc: Global, version: &Version, text: &str, number: u64) -> Result<Opt
     step
 }
 
-/// Adds the version after the batch that a text tells, where the book takes it.
+/// Appends the version after the batch of a text, and returns true, if the batch is accepted.
 pub fn go_on(alloc: Global, steps: &mut Vec<Step>, text: &str) -> Result<bool, Fail> {
     let number = steps.len() as u64;
     let Some(last) = steps.last() else {
@@ -77,7 +77,7 @@ pub fn go_on(alloc: Global, steps: &mut Vec<Step>, text: &str) -> Result<bool, F
     add_some(steps, next)
 }
 
-/// Adds the rows of a reading, in short.
+/// Appends the rows of a reading, in short form.
 fn add_short(text: &mut String, rows: &str) -> Result<(), Failed> {
     for row in rows.lines() {
         let (told, _) = row.split_once("|").unwrap_or((row, ""));
@@ -132,7 +132,7 @@ fn add_own_tokens(
     added
 }
 
-/// Adds what a version reads at a mark, by rows that are handed over.
+/// Appends what a version reads at a mark, as owned rows.
 fn add_own(alloc: Global, text: &mut String, version: &Version, mark: &Mark) -> Result<(), Failed> {
     add_own_entries(alloc, text, version, mark)?;
     add_own_agents(text, version, mark)?;
@@ -140,7 +140,7 @@ fn add_own(alloc: Global, text: &mut String, version: &Version, mark: &Mark) -> 
     add_own_tokens(alloc, text, version, mark)
 }
 
-/// Does the mark name what the other one names, by the clone of that?
+/// Returns true if both marks name the same, by a clone of what the first names.
 fn names_same(mark: &Mark, other: &Mark) -> Result<bool, AllocError> {
     let kind = mark.kind().clone()?;
     let is_same = kind == *other.kind();
@@ -148,7 +148,7 @@ fn names_same(mark: &Mark, other: &Mark) -> Result<bool, AllocError> {
     Ok(is_same)
 }
 
-/// The mark's clone names the same.
+/// Returns an error unless the mark's clone names the same.
 fn is_cloned(copy: &Mark, mark: &Mark) -> Result<(), Fail> {
     if names_same(copy, mark)? {
         return Ok(());
@@ -156,14 +156,14 @@ fn is_cloned(copy: &Mark, mark: &Mark) -> Result<(), Fail> {
     Err(Fail::from("a clone that names something else"))
 }
 
-/// The mark's clone, which has to name the same, as has the clone of what it names.
+/// The mark's clone, after checking that it and a clone of what it names are equal to the mark.
 fn same_mark(mark: &Mark) -> Result<Mark, Fail> {
     let copy = mark.clone()?;
     let cloned = is_cloned(&copy, mark);
     where_done(cloned, copy)
 }
 
-/// What a version reads at a mark, by rows that are handed over.
+/// What a version reads at a mark, as owned rows.
 fn told_own(alloc: Global, version: &Version, mark: &Mark) -> Result<String, Failed> {
     let mut rows = String::new(alloc);
     add_own(alloc, &mut rows, version, mark)?;
@@ -188,12 +188,12 @@ fn told_by_clones(alloc: Global, version: &Version, mark: &Mark) -> Result<Strin
     Ok(told?)
 }
 
-/// The number of a version. Nothing is said of it, so that no proof of a text looks at the version's rows.
+/// The number of a version. It has no contract, so that no proof about a text opens the version's rows.
 pub fn number_of(version: &Version) -> u64 {
     version.number()
 }
 
-/// How many rows a version has, of which nothing is said, too.
+/// The numbers of rows of a version, without a contract too.
 fn count_of(version: &Version) -> RowCounts {
     version.count()
 }
@@ -219,7 +219,7 @@ fn told_aliases(alloc: Global, version: &Version) -> Result<String, Failed> {
     Ok(text)
 }
 
-/// Is the mark unchanged since the older version?
+/// Whether the mark is unchanged since the older version, as text.
 fn told_same(
     alloc: Global,
     newer: &Version,
@@ -253,7 +253,7 @@ fn answer_at(alloc: Global, steps: &[Step], words: &[&str], mark: &Mark) -> Resu
 }
 
 /// The answer of a version to a question: `COUNT 2`, `SERVER 2`, `ALIASES 2`, `READS 2: children /a`, the same of its clone,
-/// `CLONE 2: children /a`, or, of a newer and an older one, `SAME 2 1: children /a`.
+/// `CLONE 2: children /a`, or, for a newer and an older one, `SAME 2 1: children /a`.
 fn answer(alloc: Global, steps: &[Step], question: &str) -> Result<String, Fail> {
     let (head, line) = question.split_once(": ").unwrap_or((question, "all"));
     let words = words(alloc, head)?;
@@ -292,8 +292,8 @@ fn plays_lines(
     Ok(())
 }
 
-/// Plays a table: a question and its answer stand in a line with `=>` between them; each other line that isn't empty
-/// tells the batch that leads to the next version.
+/// Plays a table. A line has a question, `=>`, and the expected answer; each other line that isn't empty is the batch that leads to
+/// the next version.
 pub fn plays(rt: &impl Abort, alloc: Global, table: &str) -> Result<(), Fail> {
     let mut steps = first_step(alloc)?;
     let played = plays_lines(rt, alloc, &mut steps, table);

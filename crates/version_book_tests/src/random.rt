@@ -1,4 +1,4 @@
-//! Random operations on few rows: every mark reads what plain lists have, and tells whether it is unchanged.
+//! Random operations on few rows: every mark reads what plain lists have, and reports whether it is unchanged.
 
 use crate::draws::batch_text;
 use crate::listed::{Listed, own_mark, told};
@@ -82,7 +82,7 @@ fn all_marks(alloc: Global) -> Result<Vec<NamedMark>, Fail> {
     where_done(added, marks)
 }
 
-/// Goes on by random batches to so many versions after the first.
+/// Runs random batches until there are this many versions after the first.
 fn go_on_to(alloc: Global, steps: &mut Vec<Step>, seed: u64, count: usize) -> Result<(), Fail> {
     let mut state = seed;
     for _ in 0..100_000 {
@@ -101,13 +101,13 @@ fn versions(alloc: Global, seed: u64, count: usize) -> Result<Vec<Step>, Fail> {
     where_done(gone_on, steps)
 }
 
-/// A history of so many versions after the first, and all marks.
+/// A history of this many versions after the first, and all marks.
 fn history(alloc: Global, seed: u64, count: usize) -> Result<(Vec<Step>, Vec<NamedMark>), Fail> {
     let steps = versions(alloc, seed, count)?;
     beside(steps, all_marks(alloc))
 }
 
-/// Which operations have to come as a batch of their own, and how many rows one of these has to write at least.
+/// Operations that must occur as a batch of their own, each with the number of rows that it must write at least.
 const COMING: &str = "\
 1 create
 1 update
@@ -132,7 +132,7 @@ fn without_token(batch: &str) -> &str {
     }
 }
 
-/// Was the batch one operation of this kind, in this mode, and wrote at least so many rows?
+/// Returns true if the batch was one operation of this kind, in this mode, and wrote at least `least` rows.
 fn is_alone(step: &Step, (kind, mode): (&str, &str), least: u64) -> bool {
     let ops = without_token(step.batch.as_str());
     !ops.contains(";")
@@ -153,7 +153,7 @@ fn has_come(alloc: Global, steps: &[Step], line: &str) -> Result<bool, Fail> {
     Ok(false)
 }
 
-/// Every operation came alone and wrote something, and each way to drop a bundle met its users where it takes notice.
+/// Asserts that every operation occurred alone and wrote something, and that each mode of dropping a bundle that affects users had some.
 fn every_operation_came(rt: &impl Abort, alloc: Global, steps: &[Step]) -> Result<(), Fail> {
     for line in COMING.lines() {
         holds(rt, has_come(alloc, steps, line)?, line);
@@ -161,7 +161,7 @@ fn every_operation_came(rt: &impl Abort, alloc: Global, steps: &[Step]) -> Resul
     Ok(())
 }
 
-/// The version reads these rows at the mark, and answers them where it is asked for them by name.
+/// Asserts that the version reads these rows at the mark, and returns them if they are read by name.
 fn reads(
     rt: &impl Abort,
     alloc: Global,
@@ -176,7 +176,7 @@ fn reads(
     Ok(())
 }
 
-/// The version reads at every mark what the lists have.
+/// Asserts that the version reads at every mark what the lists have.
 fn reads_named(
     rt: &impl Abort,
     alloc: Global,
@@ -191,7 +191,7 @@ fn reads_named(
     Ok(())
 }
 
-/// The version reads a row, and it alone, at the mark of its own.
+/// Asserts that the version reads a row, and no other, at the row's own mark.
 fn reads_row(rt: &impl Abort, alloc: Global, version: &Version, row: &str) -> Result<(), Fail> {
     let mark = mark_of(alloc, own_mark(row))?;
     let got = read_text(alloc, version, &mark);
@@ -212,7 +212,7 @@ fn reads_rows(
     Ok(())
 }
 
-/// Has the version as many rows of each kind as the lists?
+/// Returns true if the version has as many rows of each kind as the lists.
 fn is_counted(version: &Version, listed: &Listed) -> bool {
     let count = version.count();
     listed.count_of("|entry ") == count.entries
@@ -221,7 +221,7 @@ fn is_counted(version: &Version, listed: &Listed) -> bool {
         && listed.tokens().len() == count.tokens
 }
 
-/// The version has the rows of the lists.
+/// Asserts that the version has the rows of the lists.
 fn is_as_listed(
     rt: &impl Abort,
     alloc: Global,
@@ -236,7 +236,7 @@ fn is_as_listed(
     Ok(())
 }
 
-/// Each version has the rows of the lists, in which its writes are made.
+/// Applies the writes of each version to the lists, and asserts that the version has their rows.
 fn are_as_listed(
     rt: &impl Abort,
     alloc: Global,
@@ -251,7 +251,7 @@ fn are_as_listed(
     Ok(())
 }
 
-/// Did a batch write more than three rows?
+/// Returns true if a batch wrote more than three rows.
 fn is_some_long(steps: &[Step]) -> bool {
     for step in steps {
         if step.changes.len() > 3 {
@@ -261,7 +261,7 @@ fn is_some_long(steps: &[Step]) -> bool {
     false
 }
 
-/// All came that has to come, and each version reads at each mark what the lists have.
+/// Asserts that everything occurred that must occur, and that each version reads at each mark what the lists have.
 fn all_as_listed(
     rt: &impl Abort,
     alloc: Global,
@@ -286,7 +286,7 @@ fn each_mark_reads_what_the_lists_have(rt: HostRuntime) -> Result<(), Fail> {
     compared
 }
 
-/// What has to come of a mark between two versions.
+/// The outcomes that must occur for a mark between two versions.
 const OUTCOMES: &str = "\
 not hit
 unchanged though hit
@@ -294,8 +294,8 @@ equal though changed
 other rows
 ";
 
-/// What came of a mark, where the writes between two versions hit it, or don't, the newer one tells that it is unchanged, or
-/// doesn't, and both read the same, or don't.
+/// The outcome for a mark between two versions: whether the writes between them hit it, whether the newer one reports it unchanged,
+/// and whether both read the same.
 fn outcome(is_hit: bool, is_unchanged: bool, is_equal: bool) -> &'static str {
     if !is_hit {
         "not hit"
@@ -308,7 +308,7 @@ fn outcome(is_hit: bool, is_unchanged: bool, is_equal: bool) -> &'static str {
     }
 }
 
-/// Adds what came, where it hasn't come before.
+/// Adds the outcome, if it is new.
 fn note(seen: &mut String, outcome: &str) -> Result<(), Fail> {
     if !seen.contains(outcome) {
         seen.push_str(outcome)?;
@@ -332,7 +332,7 @@ fn compare(
     Ok(outcome(is_hit, is_unchanged, is_equal))
 }
 
-/// Compares a version with each one before it, from the last on, at one mark.
+/// Compares a version with each one before it, beginning with the last, at one mark.
 fn compare_at(
     rt: &impl Abort,
     alloc: Global,
@@ -356,7 +356,7 @@ fn compare_at(
     Ok(())
 }
 
-/// Compares each version with each of the nine before it, at each mark: what came of them.
+/// Compares each version with each of the nine before it, at each mark, and returns the outcomes.
 fn compare_all(
     rt: &impl Abort,
     alloc: Global,
@@ -372,7 +372,7 @@ fn compare_all(
     Ok(seen)
 }
 
-/// Each outcome comes where all versions are compared.
+/// Asserts that each outcome occurs when all versions are compared.
 fn all_outcomes_come(
     rt: &impl Abort,
     alloc: Global,
@@ -407,7 +407,7 @@ fn both(middle: &Changes, newer: &Changes) -> Result<Changes, AllocError> {
     where_done(appended, changes)
 }
 
-/// A mark reads through writes what it reads of a newer version, but that places of that time are open, which reads as 0.
+/// Asserts that a mark read through writes gives what a newer version gives. Places of newer commits aren't known yet and read as 0.
 fn reads_through(
     rt: &impl Abort,
     alloc: Global,
@@ -421,8 +421,8 @@ fn reads_through(
     Ok(())
 }
 
-/// Each mark reads through the writes of the last two of three versions, which hit it where those of one of the two do. Answers how
-/// many of the marks they hit.
+/// Asserts that each mark reads rightly through the writes of the last two of three versions, and that they hit it exactly if those of
+/// one of the two do. Returns the number of marks that they hit.
 fn hits_of(
     rt: &impl Abort,
     alloc: Global,
@@ -442,7 +442,7 @@ fn hits_of(
     Ok(hits)
 }
 
-/// How many of the marks are hit?
+/// The number of marks that are hit.
 fn hits(
     rt: &impl Abort,
     alloc: Global,
@@ -458,7 +458,7 @@ fn hits(
     hits
 }
 
-/// Each mark reads through the writes of each two versions, of which some hit marks, and some don't hit all.
+/// Checks each mark through the writes of each two versions. Some writes must hit marks, and some must miss a mark.
 fn all_read_through(
     rt: &impl Abort,
     alloc: Global,

@@ -1,6 +1,6 @@
-//! Rows, told as text. A line of a reading is such as ` 1.0|/a /x 10 u:1 d1`: what the row is in short, and behind the bar what else
-//! is to be compared. A line of writes is such as `|entry 1|all|group /a /x|children /a|users d1| => 1.0|/a /x 10 u:1 d1`: before it
-//! stand the marks that name the row, between bars, the first of which names it alone.
+//! Rows as text. A line of a reading looks like ` 1.0|/a /x 10 u:1 d1`: the row in short form, and after the bar the other fields to
+//! compare. A line of writes looks like `|entry 1|all|group /a /x|children /a|users d1| => 1.0|/a /x 10 u:1 d1`. It begins with the
+//! marks that name the row, between bars; the first of them names it alone.
 
 use batch_texts::{Failed, of_number};
 use entry_book::{Agent, Bundle, Entry, Filter, KeptBatch, PageQuery, Shared};
@@ -17,7 +17,7 @@ fn path(id: &SpiffeId) -> &str {
     text.strip_prefix("spiffe://ex.org").unwrap_or(text)
 }
 
-/// Adds a word, and the number that an id is.
+/// Appends a word, and the number of an id.
 fn add_number(alloc: Global, text: &mut String, word: &str, id: &Uuid) -> Result<(), Failed> {
     let told = of_number(alloc, word, id)?;
     Ok(text.push_str(told.as_str())?)
@@ -39,7 +39,7 @@ fn add_domains(text: &mut String, entry: &Entry) -> Result<(), Failed> {
     Ok(())
 }
 
-/// Adds an entry: in short its number and, after a dot, its revision.
+/// Appends an entry; its short form is its number, a dot, and its revision.
 fn add_entry(alloc: Global, text: &mut String, entry: &Entry) -> Result<(), Failed> {
     add_number(alloc, text, "", entry.id())?;
     let (revision, expiry) = (entry.revision(), entry.expiry());
@@ -50,7 +50,7 @@ fn add_entry(alloc: Global, text: &mut String, entry: &Entry) -> Result<(), Fail
     Ok(text.push_str("\n")?)
 }
 
-/// Adds an agent: in short its selectors.
+/// Appends an agent; its short form is its selectors.
 fn add_agent(text: &mut String, agent: &Agent) -> Result<(), Failed> {
     text.push_str(" agent")?;
     add_selectors(text, agent.selectors.get())?;
@@ -58,13 +58,13 @@ fn add_agent(text: &mut String, agent: &Agent) -> Result<(), Failed> {
     Ok(write!(text, "|{path}\n")?)
 }
 
-/// Adds a bundle: in short its sequence.
+/// Appends a bundle; its short form is its sequence.
 fn add_bundle(text: &mut String, bundle: &Bundle) -> Result<(), Failed> {
     let (domain, sequence) = (bundle.domain.get().as_str(), bundle.sequence);
     Ok(write!(text, " bundle {sequence}|{domain}\n")?)
 }
 
-/// Adds what is kept under a token: in short how many operations, and at which place.
+/// Appends the row of a token; its short form is the number of operations and the place.
 fn add_kept(
     alloc: Global,
     text: &mut String,
@@ -98,7 +98,7 @@ pub fn add_bundles(text: &mut String, bundles: &[Bundle]) -> Result<(), Failed> 
     Ok(())
 }
 
-/// Adds what is kept under tokens. A place behind the last one is told as 0, which is how an open one reads.
+/// Appends the rows of tokens. A place after the last one is written as 0, as a place that isn't known yet is.
 pub fn add_tokens(
     alloc: Global,
     text: &mut String,
@@ -125,14 +125,14 @@ fn add_reading(
     add_tokens(alloc, text, reading.tokens(), last)
 }
 
-/// What was read, with places up to a last one.
+/// What was read, with places up to the last one.
 fn reading_text(alloc: Global, reading: &RowsRead, last: u64) -> Result<String, Failed> {
     let mut text = String::new(alloc);
     add_reading(alloc, &mut text, reading, last)?;
     Ok(text)
 }
 
-/// What a version reads at a mark, with places up to a last one.
+/// What a version reads at a mark, with places up to the last one.
 pub fn read_up_to(
     alloc: Global,
     version: &Version,
@@ -150,7 +150,7 @@ pub fn read_text(alloc: Global, version: &Version, mark: &Mark) -> Result<String
     read_up_to(alloc, version, mark, u64::MAX)
 }
 
-/// Adds entries that are lent.
+/// Appends borrowed entries.
 fn add_lent(alloc: Global, text: &mut String, entries: Vec<Lent<'_, Entry>>) -> Result<(), Failed> {
     let copies = owned(alloc, entries.as_slice());
     drop(entries);
@@ -160,7 +160,7 @@ fn add_lent(alloc: Global, text: &mut String, entries: Vec<Lent<'_, Entry>>) -> 
     added
 }
 
-/// The aliases of a version, the children of its server.
+/// The aliases of a version, which are the children of its server.
 pub fn aliases_text(alloc: Global, version: &Version) -> Result<String, Failed> {
     let mut text = String::new(alloc);
     add_children(alloc, &mut text, version, version.server())?;
@@ -176,7 +176,7 @@ fn add_children(
     add_lent(alloc, text, version.children(parent)?)
 }
 
-/// Adds the entries of the page that begins behind this id, and answers the id behind which the next one does.
+/// Appends the entries of the page that begins after this id, and returns the id after which the next one begins.
 fn add_page(
     alloc: Global,
     text: &mut String,
@@ -188,7 +188,7 @@ fn add_page(
     Ok(next)
 }
 
-/// Adds all entries, by pages of two.
+/// Appends all entries, by pages of two.
 fn add_pages(alloc: Global, text: &mut String, version: &Version) -> Result<(), Failed> {
     let mut query = PageQuery {
         size: 2,
@@ -210,7 +210,7 @@ fn add_pages(alloc: Global, text: &mut String, version: &Version) -> Result<(), 
     Ok(())
 }
 
-/// Adds what a version answers that is asked by name for what a mark names; where it can't be asked so, what it reads.
+/// Appends what a version returns if it is read by name for what a mark names; if it can't be, what it reads at the mark.
 fn add_asked(
     alloc: Global,
     text: &mut String,
@@ -239,7 +239,7 @@ fn add_asked(
     }
 }
 
-/// What a version answers that is asked by name for what a mark names.
+/// What a version returns if it is read by name for what a mark names.
 pub fn asked_text(alloc: Global, version: &Version, mark: &Mark) -> Result<String, Failed> {
     let mut text = String::new(alloc);
     add_asked(alloc, &mut text, version, mark)?;
@@ -259,7 +259,7 @@ pub fn through_text(
     text
 }
 
-/// Adds the marks of the domains that an entry names.
+/// Appends the marks of the domains that an entry names.
 fn add_users(text: &mut String, entry: &Entry) -> Result<(), Failed> {
     for domain in entry.domains().as_slice() {
         text.push_str("users ")?;
@@ -269,7 +269,7 @@ fn add_users(text: &mut String, entry: &Entry) -> Result<(), Failed> {
     Ok(())
 }
 
-/// The marks of the moments before which an entry of this expiry expires: those behind it. An expiry of 0 is none.
+/// The marks of the moments before which an entry of this expiry expires, which are the later ones. An expiry of 0 is none.
 fn moments(alloc: Global, expiry: u64) -> Result<&'static str, Failed> {
     let own = format!(in alloc; "|expiring {expiry}|")?;
     match MOMENTS.split_once(own.as_str()) {
@@ -278,7 +278,7 @@ fn moments(alloc: Global, expiry: u64) -> Result<&'static str, Failed> {
     }
 }
 
-/// Adds the marks that name an entry.
+/// Appends the marks that name an entry.
 fn add_marks(alloc: Global, text: &mut String, entry: &Entry) -> Result<(), Failed> {
     add_number(alloc, text, "|entry", entry.id())?;
     let (parent, identity) = (path(entry.parent().get()), path(entry.identity().get()));
@@ -287,7 +287,7 @@ fn add_marks(alloc: Global, text: &mut String, entry: &Entry) -> Result<(), Fail
     Ok(text.push_str(moments(alloc, entry.expiry())?)?)
 }
 
-/// Adds the entry of a write, where there is one, behind this sign.
+/// Appends the entry of a write, if there is one, after this sign.
 fn write_entry(
     alloc: Global,
     text: &mut String,
@@ -351,7 +351,7 @@ fn add_write(alloc: Global, text: &mut String, write: &RowWrite, place: u64) -> 
     }
 }
 
-/// Adds the writes of the commit of a place: in order each row that goes, behind a minus, and each one that comes.
+/// Appends the writes of the commit at a place, in order: each removed row, after a minus, and each new one.
 pub fn add_writes(
     alloc: Global,
     text: &mut String,

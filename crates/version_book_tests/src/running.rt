@@ -1,4 +1,4 @@
-//! The version after a batch: a work finds the writes on the version before, which takes them.
+//! The version after a batch: a work computes the writes on the version before, which applies them.
 
 ghost use Rattle.std.specs.Prelude.{◌≡◌, ◌+◌, IfOk, List, None, false, true};
 ghost use Rattle.entry_book.specs.Book.{token_at};
@@ -18,10 +18,10 @@ use std::test::Fail;
 use uuid::Uuid;
 use version_book::{Changes, Mark, Version, laws};
 
-/// No history of these tests gets there.
+/// A bound on the length of the histories of these tests.
 const MOST: u64 = 1_000_000;
 
-/// No work of these tests makes so many steps.
+/// A bound on the number of steps of a work in these tests.
 const STEPS: u64 = 10_000;
 
 fn may_begin(window: &Window, batch: &Batch) -> bool
@@ -30,7 +30,7 @@ fn may_begin(window: &Window, batch: &Batch) -> bool
     batch.domain() == window.newest().domain() && window.newest().number() <= MOST
 }
 
-/// A work of the batch, that has begun on the window.
+/// A work of the batch, begun on the window.
 fn begun_on(alloc: Global, window: &Window, batch: Batch) -> Result<Work, Fail> {
     if !may_begin(window, &batch) {
         drop(batch);
@@ -41,7 +41,7 @@ fn begun_on(alloc: Global, window: &Window, batch: Batch) -> Result<Work, Fail> 
     Ok(where_done(begun, work)?)
 }
 
-/// A work of the batch, that has begun on the version.
+/// A work of the batch, begun on the version.
 fn begun(alloc: Global, version: &Version, batch: Batch) -> Result<Work, Fail> {
     let (batch, copy) = beside(batch, version.clone())?;
     let window = Window::of(copy);
@@ -76,7 +76,7 @@ fn has_token(version: &Version, token: Uuid) -> Result<bool, AllocError>
     Ok(!has_none)
 }
 
-/// Is something kept under the token, where there is one?
+/// Returns true if something is stored under the token, if there is one.
 fn is_kept(version: &Version, token: Option<Uuid>) -> Result<bool, AllocError>
     ensures { IfOk result (λ is_kept. is_kept ≡ false → kept_under token (book_of version.now.rows) ≡ None) }
 {
@@ -86,7 +86,7 @@ fn is_kept(version: &Version, token: Option<Uuid>) -> Result<bool, AllocError>
     }
 }
 
-/// The next version, made again where it is refused memory.
+/// The next version, with one retry if out of memory.
 fn made(version: &Version, changes: &Changes, number: u64) -> Result<Version, AllocError>
     requires { MayApply (placed number changes.now) number version.now }
 {

@@ -1,9 +1,9 @@
-//! Values of any type: what becomes of one where a step behind it fails.
+//! Values of any type, and what happens to them if a later step fails.
 
 use std::alloc::Global;
 use std::test::Fail;
 
-/// What a step worked on, where the step was done.
+/// Returns the value that a step worked on if the step succeeded, and drops it otherwise.
 pub fn where_done<T: Drop, E>(done: Result<(), E>, worked_on: T) -> Result<T, E> {
     match done {
         Ok(()) => Ok(worked_on),
@@ -11,7 +11,7 @@ pub fn where_done<T: Drop, E>(done: Result<(), E>, worked_on: T) -> Result<T, E>
     }
 }
 
-/// A value, and what was made behind it, where that was made.
+/// Returns the value with the other one if that was made, and drops it otherwise.
 pub fn beside<A: Drop, B, E>(first: A, made: Result<B, E>) -> Result<(A, B), E> {
     match made {
         Ok(made) => Ok((first, made)),
@@ -24,7 +24,7 @@ pub fn add<T: Drop>(items: &mut Vec<T>, item: T) -> Result<(), Fail> {
     Ok(())
 }
 
-/// Adds the item, where there is one. Is there one?
+/// Appends the item and returns true, if there is one.
 pub fn add_some<T: Drop>(items: &mut Vec<T>, item: Option<T>) -> Result<bool, Fail> {
     match item {
         Some(item) => {
@@ -35,7 +35,7 @@ pub fn add_some<T: Drop>(items: &mut Vec<T>, item: Option<T>) -> Result<bool, Fa
     }
 }
 
-/// The item alone.
+/// A vector of this item alone.
 pub fn one<T: Drop>(alloc: Global, item: T) -> Result<Vec<T>, Fail> {
     let mut items = Vec::new(alloc);
     items.push(item)?;

@@ -46,7 +46,7 @@ SERVER 0 => spiffe://ex.org/spire/server
 SERVER 6 => spiffe://ex.org/spire/server
 ";
 
-/// Two domains, an expiry of 0, the moment itself, children in the order of their ids, neighbouring parents.
+/// Two domains, an expiry of 0, the moment itself, children in the order of their ids, adjacent parents.
 const READ: &str = "
 set_bundle d1
 set_bundle d2
@@ -90,7 +90,7 @@ CLONE 7: users d2 => 2.0 3.0
 CLONE 7: expiring 8 => 1.0 2.0 5.0
 ";
 
-/// The server's entries are the aliases, and those of its neighbours aren't.
+/// The server's entries are the aliases, and those of adjacent IDs aren't.
 const ALIASES: &str = "
 create 2 /spire/server /x u:2 0
 create 1 /spire/server /y u:1 0
@@ -109,7 +109,7 @@ ALIASES 7 => 1.2
 ALIASES 4 => 1.0 2.0
 ";
 
-/// Agents and bundles, and whether what they read is unchanged.
+/// Agents and bundles, and whether their marks are unchanged.
 const ROWS: &str = "
 set_agent /spire/agent/m u:1
 set_bundle d1
@@ -136,7 +136,7 @@ CLONE 4: agent /spire/agent/m => agent u:1
 CLONE 4: bundle d1 => bundle 1
 ";
 
-/// What is created and then deleted again leaves all marks as they were; what is written in place doesn't.
+/// A row that is created and then deleted leaves all marks as they were; a row that is overwritten doesn't.
 const UNCHANGED: &str = "
 set_bundle d1
 create 1 /a /x u:1 4
@@ -177,7 +177,7 @@ READS 3: children /a => 1.0 2.0
 READS 5: children /a => 1.1
 ";
 
-/// What is kept under a token has the number of its batch's own version, and stays.
+/// The row of a token has the number of its batch's own version, and stays.
 const KEPT: &str = "
 token 7; set_agent /spire/agent/m u:1
 set_bundle d1
