@@ -1,4 +1,4 @@
--- The writes of a work that is ready meet the conditions under which a version takes them.
+-- The writes of a work that is ready satisfy the preconditions of `Version::apply`.
 use Rattle.std.proofs.Common.{◌≡◌, ◌+◌, ◌*◌, List, None, Ok, IfOk, sym, ap, subst, ◌∙◌}
 use Rattle.entry_book.specs.declared.reply.OpReply.{OpReply}
 use Rattle.entry_book.specs.Writes.{RowWrite}

@@ -1,4 +1,4 @@
-//! What the text of a reply leaves out, told as text: all fields of entries.
+//! What the text of a reply leaves out: all fields of entries, as text.
 
 use batch_texts::{accepted_text, marks_text, of_number, outcome_text};
 use batch_work::Work;
@@ -38,7 +38,7 @@ fn add_numbers(alloc: Global, text: &mut String, entry: &Entry) -> Result<(), Fa
     add_number(alloc, text, entry.revision())
 }
 
-/// Adds all fields of an entry.
+/// Appends all fields of an entry.
 fn add_entry(alloc: Global, text: &mut String, entry: &Entry) -> Result<(), Fail> {
     text.push_str(of_number(alloc, " | whole", entry.id())?.as_str())?;
     add_word(text, entry.parent().get().as_str())?;
@@ -56,7 +56,7 @@ fn add_entries(alloc: Global, text: &mut String, entries: &[Entry]) -> Result<()
     Ok(())
 }
 
-/// Adds all fields of the entries of a reply.
+/// Appends all fields of the entries of a reply.
 fn add_op_reply(alloc: Global, text: &mut String, reply: &OpReply) -> Result<(), Fail> {
     match reply {
         OpReply::Entry(entry) | OpReply::EntryShown(Some(entry)) => add_entry(alloc, text, entry),
@@ -83,21 +83,21 @@ fn add_outcome(alloc: Global, text: &mut String, outcome: &Outcome) -> Result<()
     }
 }
 
-/// All that became of a batch, at this place.
+/// The outcome of a batch at this place, with all fields of entries.
 pub fn whole_text(alloc: Global, place: u64, outcome: &Outcome) -> Result<String, Fail> {
     let mut text = outcome_text(alloc, place, outcome)?;
     add_outcome(alloc, &mut text, outcome)?;
     Ok(text)
 }
 
-/// All that becomes of a batch that is committed at this place.
+/// The same for a batch that is committed at this place.
 fn whole_committed_text(alloc: Global, place: u64, replies: &[OpReply]) -> Result<String, Fail> {
     let mut text = accepted_text(alloc, "committed", place, replies)?;
     add_op_replies(alloc, &mut text, replies)?;
     Ok(text)
 }
 
-/// All that a work has come to, at this place. One that is ready is committed there.
+/// The outcome of a work at this place, with all fields of entries. A work that is ready is committed there.
 fn end_text(alloc: Global, work: &Work, place: u64) -> Result<String, Fail> {
     if let Some(reply) = work.reply() {
         return whole_text(alloc, place, &reply.outcome);
@@ -108,7 +108,7 @@ fn end_text(alloc: Global, work: &Work, place: u64) -> Result<String, Fail> {
     }
 }
 
-/// What a work has read, and all that it has come to, at this place.
+/// What a work has read, and its outcome at this place, with all fields of entries.
 pub fn run_text(alloc: Global, work: &Work, place: u64) -> Result<String, Fail> {
     let mut text = marks_text(alloc, work.marks())?;
     text.push_str(" => ")?;

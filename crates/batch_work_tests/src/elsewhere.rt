@@ -1,4 +1,4 @@
-//! A batch is run alike on two books that differ outside of what it reads.
+//! A batch runs alike on two books that differ outside of what it reads.
 
 use crate::details::run_text;
 use crate::playing::{first_window, newest_number};
@@ -11,21 +11,21 @@ use std::process::Abort;
 use std::test::Fail;
 use version_book::{Changes, Mark};
 
-/// How many pairs of books were found that differ outside of what a batch reads, and how many others on which the batch was run
-/// in two ways.
+/// How many pairs of books were found that differ outside of what a batch reads, and how many others on which the batch ran
+/// differently.
 #[derive(Drop)]
 struct Pairs {
     alike: u64,
     different: u64,
 }
 
-/// Is the run that of the book alone, whatever the place? Neither that of a batch that waits for a place is, nor that of a page of
-/// an earlier book.
+/// Returns true if the run depends on the book alone, and not on the place, as a minimum place that isn't reached does, and a page of an
+/// earlier book.
 fn is_of_book(work: &Work, place: u64) -> bool {
     work.batch().past_place().is_none() && work.batch().after() <= place
 }
 
-/// Is none of these marks hit?
+/// Returns true if none of these marks is hit.
 fn are_spared(marks: &[Mark], changes: &Changes) -> bool {
     for mark in marks {
         if changes.hits(mark) {
@@ -35,7 +35,7 @@ fn are_spared(marks: &[Mark], changes: &Changes) -> bool {
     true
 }
 
-/// What the batch of a text reads and comes to on the window, places aside.
+/// What the batch of a text reads on the window, and its outcome, without places.
 fn text_on(alloc: Global, window: &Window, text: &str) -> Result<String, Fail> {
     let work = ended(alloc, window, text)?;
     let told = run_text(alloc, &work, 0);
@@ -43,12 +43,12 @@ fn text_on(alloc: Global, window: &Window, text: &str) -> Result<String, Fail> {
     told
 }
 
-/// Does the other work, which began on the same version, spare what this one read?
+/// Returns true if the other work, which began on the same version, hits nothing that this one read.
 fn is_spared(work: &Work, other: &Work, place: u64) -> bool {
     is_of_book(work, place) && are_spared(work.marks(), other.changes())
 }
 
-/// Runs another batch on the version of a work, and commits it where it is ready. Has it spared what the work read?
+/// Runs another batch on the version of a work, and commits it if it is ready. Returns true if it hits nothing that the work read.
 fn commits_elsewhere(
     alloc: Global,
     window: &mut Window,
@@ -112,7 +112,7 @@ fn pair(
     compared
 }
 
-/// One pair of random batches.
+/// Compares one pair of random batches.
 fn random_pair(
     rt: &impl Abort,
     alloc: Global,
@@ -126,7 +126,7 @@ fn random_pair(
     pair(rt, alloc, window, text.as_str(), other.as_str(), pairs)
 }
 
-/// So many pairs, one after another.
+/// Compares 1,500 pairs, one after another.
 fn random_pairs(rt: &impl Abort, alloc: Global, window: &mut Window) -> Result<Pairs, Fail> {
     let mut state = 11;
     let mut pairs = Pairs {

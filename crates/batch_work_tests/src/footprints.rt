@@ -1,5 +1,5 @@
-//! The reads of a random batch, told by hand, over plain rows that stand beside the history: operation by operation, each on
-//! the rows that the earlier ones left, to the first refusal.
+//! The expected reads of a random batch, computed over plain rows that are kept along with the history: operation by operation, each
+//! on the rows that the earlier ones left, up to the first refusal.
 
 use crate::plain_rows::{
     DOMAINS, IDS, PlainEntry, PlainRows, delete_users, domain_place, entry_number, entry_of,
@@ -9,7 +9,7 @@ use batch_texts::{number, number_behind, word, words};
 use std::alloc::Global;
 use std::test::Fail;
 
-/// The place of the server's ID among `IDS`.
+/// The index of the server's ID in `IDS`.
 const SERVER: usize = 3;
 
 /// The rows after the batches so far, and the tokens with which some of these were committed.
@@ -33,7 +33,7 @@ fn begin_mark(text: &mut String) -> Result<(), Fail> {
     Ok(())
 }
 
-/// One read more, of a kind and a name.
+/// Appends one more read, of a kind and a name.
 fn read(text: &mut String, kind: &str, name: &str) -> Result<(), Fail> {
     begin_mark(text)?;
     text.push_str(kind)?;
@@ -55,7 +55,7 @@ fn read_group(text: &mut String, parent: &str, identity: &str) -> Result<(), Fai
     Ok(())
 }
 
-/// Reads the bundles of the domains that the entry names, to the first that is missing. Is none missing?
+/// Reads the bundles of the domains that the entry names, up to the first missing one. Returns true if none is missing.
 fn reads_bundles(rows: &PlainRows, text: &mut String, new: &PlainEntry) -> Result<bool, Fail> {
     for domain in 0..3_usize {
         if new.domains[domain] {
@@ -68,7 +68,7 @@ fn reads_bundles(rows: &PlainRows, text: &mut String, new: &PlainEntry) -> Resul
     Ok(true)
 }
 
-/// Puts an entry, where nothing refuses it.
+/// Puts an entry, unless it is refused. Returns true if it isn't.
 fn puts(
     rows: &mut PlainRows,
     text: &mut String,
@@ -93,7 +93,7 @@ fn creates(rows: &mut PlainRows, text: &mut String, words: &[&str]) -> Result<bo
     puts(rows, text, words, 0)
 }
 
-/// Is revision 0 expected where the entry has another?
+/// Returns true if revision 0 is expected and the entry has another.
 fn is_stale(words: &[&str], revision: u64) -> bool {
     revision != 0 && word(words, 0).ends_with("0")
 }
@@ -148,7 +148,7 @@ fn sets_bundle(rows: &mut PlainRows, text: &mut String, words: &[&str]) -> Resul
     Ok(true)
 }
 
-/// What becomes of the users of a bundle that is dropped. Is it dropped?
+/// Changes the entries that name a dropped bundle's domain. Returns true if the bundle is dropped.
 fn lets_users_go(rows: &mut PlainRows, domain: usize, mode: &str) -> bool {
     match mode {
         "delete" => delete_users(rows, domain),
@@ -172,7 +172,7 @@ fn drops_bundle(rows: &mut PlainRows, text: &mut String, words: &[&str]) -> Resu
     Ok(true)
 }
 
-/// An agent, and the identities whose children were read.
+/// An agent with its selectors, and the identities whose children were read.
 #[derive(Clone, Copy, Drop)]
 struct PlainWalk {
     agent: usize,
@@ -180,7 +180,7 @@ struct PlainWalk {
     reached: [bool; 5],
 }
 
-/// Has the agent all selectors of the entry?
+/// Returns true if the agent has all selectors of the entry.
 fn is_held(walk: &PlainWalk, entry: &PlainEntry) -> bool {
     for selector in 0..2_usize {
         if entry.selectors[selector] && !walk.selectors[selector] {
@@ -190,7 +190,7 @@ fn is_held(walk: &PlainWalk, entry: &PlainEntry) -> bool {
     true
 }
 
-/// Is the entry found among what was read so far?
+/// Returns true if the entry is among what was read so far.
 fn is_found(walk: &PlainWalk, entry: &PlainEntry) -> bool {
     let parent = entry.parent;
     (parent == SERVER && is_held(walk, entry))
@@ -198,7 +198,7 @@ fn is_found(walk: &PlainWalk, entry: &PlainEntry) -> bool {
         || (parent < 5 && walk.reached[parent])
 }
 
-/// Is the identity that of an entry found?
+/// Returns true if the identity is that of an entry found.
 fn is_met(rows: &PlainRows, walk: &PlainWalk, identity: usize) -> bool {
     for number in 0..7_usize {
         if let Some(entry) = &rows.entries[number] {
@@ -210,7 +210,7 @@ fn is_met(rows: &PlainRows, walk: &PlainWalk, identity: usize) -> bool {
     false
 }
 
-/// The least identity that was met and whose children weren't read.
+/// The least identity that was found and whose children weren't read.
 fn least_unread(rows: &PlainRows, walk: &PlainWalk) -> Option<usize> {
     for identity in 0..5_usize {
         if identity != walk.agent && !walk.reached[identity] && is_met(rows, walk, identity) {
@@ -220,7 +220,7 @@ fn least_unread(rows: &PlainRows, walk: &PlainWalk) -> Option<usize> {
     None
 }
 
-/// Reads the children of the least identity that is left. Is one left?
+/// Reads the children of the least identity that is left. Returns true if there is one.
 fn walks_on(rows: &PlainRows, text: &mut String, walk: &mut PlainWalk) -> Result<bool, Fail> {
     let Some(identity) = least_unread(rows, walk) else {
         return Ok(false);
@@ -232,7 +232,7 @@ fn walks_on(rows: &PlainRows, text: &mut String, walk: &mut PlainWalk) -> Result
     Ok(true)
 }
 
-/// Reads the children of the server and of the agent, and then on and on.
+/// Reads the children of the server and of the agent, then those of each identity found, until none is left.
 fn read_walk(
     rows: &PlainRows,
     text: &mut String,
@@ -249,7 +249,7 @@ fn read_walk(
     Ok(())
 }
 
-/// Does an entry found name the domain?
+/// Returns true if an entry found names the domain.
 fn is_trusted(rows: &PlainRows, walk: &PlainWalk, domain: usize) -> bool {
     for number in 0..7_usize {
         if let Some(entry) = &rows.entries[number] {
@@ -271,7 +271,7 @@ fn read_trusted(rows: &PlainRows, text: &mut String, walk: &PlainWalk) -> Result
     Ok(())
 }
 
-/// `authorised`, or `trust`.
+/// The reads of `authorised` or `trust`. Returns false if it is refused.
 fn walks(rows: &PlainRows, text: &mut String, words: &[&str]) -> Result<bool, Fail> {
     read(text, "agent", word(words, 1))?;
     let agent = id_place(word(words, 1));
@@ -290,7 +290,7 @@ fn walks(rows: &PlainRows, text: &mut String, words: &[&str]) -> Result<bool, Fa
     Ok(true)
 }
 
-/// A question. Is it answered?
+/// The reads of a query. Returns false if it is refused.
 fn asks(rows: &PlainRows, text: &mut String, words: &[&str]) -> Result<bool, Fail> {
     match word(words, 0) {
         "show" => read(text, "entry", word(words, 1))?,
@@ -303,7 +303,7 @@ fn asks(rows: &PlainRows, text: &mut String, words: &[&str]) -> Result<bool, Fai
     Ok(true)
 }
 
-/// Plays an operation: its reads, and its changes. Is it not refused?
+/// Plays an operation: its reads and its changes. Returns false if it is refused.
 fn plays(rows: &mut PlainRows, text: &mut String, words: &[&str]) -> Result<bool, Fail> {
     match word(words, 0) {
         "create" => creates(rows, text, words),
@@ -318,7 +318,7 @@ fn plays(rows: &mut PlainRows, text: &mut String, words: &[&str]) -> Result<bool
     }
 }
 
-/// Plays the operation of a line; the lines of a token and of a least place are none.
+/// Plays the operation of a line; lines with a token or a minimum place have none.
 fn plays_line(
     alloc: Global,
     rows: &mut PlainRows,
@@ -332,7 +332,7 @@ fn plays_line(
     plays(rows, text, words.as_slice())
 }
 
-/// Plays the operations to the first refusal. Is none refused?
+/// Plays the operations up to the first refusal. Returns true if none is refused.
 fn plays_lines(
     alloc: Global,
     rows: &mut PlainRows,
@@ -352,7 +352,7 @@ fn read_token(alloc: Global, text: &mut String, token: u64) -> Result<(), Fail> 
     read(text, "token", name.as_str())
 }
 
-/// Keeps the token, where there is one.
+/// Stores the token, if there is one.
 fn keep(history: &mut PlainHistory, token: Option<u64>) -> Result<(), Fail> {
     if let Some(token) = token {
         history.tokens.push(token)?;
@@ -360,7 +360,7 @@ fn keep(history: &mut PlainHistory, token: Option<u64>) -> Result<(), Fail> {
     Ok(())
 }
 
-/// Reads the token, where there is one. Is nothing kept under it?
+/// Reads the token, if there is one. Returns true if nothing is stored under it.
 fn reads_token(
     alloc: Global,
     history: &PlainHistory,
@@ -374,7 +374,7 @@ fn reads_token(
     Ok(!history.tokens.as_slice().contains(&token))
 }
 
-/// Plays the lines of a batch that may run. Where no operation is refused the rows are those after it.
+/// Plays the lines of a batch that may run. Unless an operation is refused, the rows are then those after it.
 fn play_batch(
     alloc: Global,
     history: &mut PlainHistory,
@@ -390,7 +390,7 @@ fn play_batch(
     Ok(())
 }
 
-/// Plays a batch at this place, and answers its reads, told as text. A token comes with changes alone.
+/// Plays a batch at this place, and returns its reads, as text. Only batches of changes have a token.
 pub fn footprint(
     alloc: Global,
     history: &mut PlainHistory,

@@ -1,14 +1,14 @@
-//! Which marks do works read, what do they come to, and does a window have the versions that they may begin on?
+//! Which marks do works read, what are their outcomes, and does a window have the versions on which they may begin?
 //!
 //! The crate has tests alone, over the public calls of `batch_work`:
 //!
-//! - `windows`: which versions a window has, and `worked`: the marks of works on small books, and their ends, told by tables.
-//!   `playing` plays a table.
-//! - `random`: long histories of random batches beside the plain book. What they read is compared with what `footprints` tells
-//!   over `plain_rows`.
+//! - `windows`: which versions a window has; `worked`: the marks and the outcomes of works on small books, as tables. `playing` plays a
+//!   table.
+//! - `random`: long histories of random batches, compared with the plain book. Their reads are compared with those that `footprints`
+//!   computes over `plain_rows`.
 //! - `elsewhere`: random batches on pairs of books.
-//! - `running`: a work to its end, and the version after it. `details` tells all that it has come to.
-//! - `values`: values of any type; `wanted`: what a test wants to see.
+//! - `running`: a work to its end, and the version after it. `details` writes the whole outcome.
+//! - `values`: values of any type; `wanted`: assertions.
 #![tactic(auto)]
 
 #[cfg(test)]

@@ -1,4 +1,4 @@
-//! The rows of a small book, as numbers: what the operations of random batches do to them, told by hand.
+//! The rows of a small book, as numbers, and what the operations of random batches do to them.
 
 ghost use Rattle.std.specs.Prelude.{◌<◌};
 
@@ -11,7 +11,7 @@ pub const IDS: [&str; 5] = ["/api", "n1", "n2", "/spire/server", "/web"];
 /// The trust domains that entries of random batches name, in order.
 pub const DOMAINS: [&str; 3] = ["d1", "d2", "d3"];
 
-/// An entry: its IDs as their places among `IDS`, which of the two selectors it has, and which of the domains it names.
+/// An entry: the indices of its IDs in `IDS`, which of the two selectors it has, and which of the domains it names.
 #[derive(Clone, Copy, Drop)]
 pub struct PlainEntry {
     pub parent: usize,
@@ -22,7 +22,7 @@ pub struct PlainEntry {
     pub revision: u64,
 }
 
-/// The entries by their numbers, the selectors of agents by their places among `IDS`, and which of the domains has a bundle.
+/// The entries by their numbers, the selectors of agents by their indices in `IDS`, and which of the domains has a bundle.
 #[derive(Clone, Copy, Drop)]
 pub struct PlainRows {
     pub entries: [Option<PlainEntry>; 7],
@@ -53,7 +53,7 @@ pub fn entry_number(word: &str) -> usize
     }
 }
 
-/// The place of an ID among `IDS`.
+/// The index of an ID in `IDS`.
 pub fn id_place(word: &str) -> usize
     ensures { result < 5 }
 {
@@ -66,7 +66,7 @@ pub fn id_place(word: &str) -> usize
     }
 }
 
-/// The place of a trust domain among `DOMAINS`; that of the own one, which never has a bundle, is behind them.
+/// The index of a trust domain in `DOMAINS`; that of the own domain, which never has a bundle, is after them.
 pub fn domain_place(word: &str) -> usize
     ensures { result < 4 }
 {
@@ -82,7 +82,7 @@ pub fn selectors_of(word: &str) -> [bool; 2] {
     [word.contains("x:1"), word.contains("x:2")]
 }
 
-/// Is the domain among the words of an entry?
+/// Returns true if the domain is among the words of an entry.
 fn names(words: &[&str], domain: &str) -> bool {
     for word in words.iter().skip(6) {
         if *word == domain {
@@ -96,7 +96,7 @@ fn domains_of(words: &[&str]) -> [bool; 3] {
     [names(words, "d1"), names(words, "d2"), names(words, "d3")]
 }
 
-/// The entry that the words tell, at this revision.
+/// The entry of these words, at this revision.
 pub fn entry_of(words: &[&str], revision: u64) -> Result<PlainEntry, Fail> {
     Ok(PlainEntry {
         parent: id_place(word(words, 2)),
@@ -115,7 +115,7 @@ fn is_similar(one: &PlainEntry, other: &PlainEntry) -> bool {
         && one.selectors[1] == other.selectors[1]
 }
 
-/// Is there a similar entry of another number?
+/// Returns true if there is a similar entry with another number.
 pub fn has_similar(rows: &PlainRows, number: usize, new: &PlainEntry) -> bool {
     for other in 0..7_usize {
         if let Some(entry) = &rows.entries[other] {
@@ -127,7 +127,7 @@ pub fn has_similar(rows: &PlainRows, number: usize, new: &PlainEntry) -> bool {
     false
 }
 
-/// Takes the entries away that expire before the moment.
+/// Removes the entries that expire before the moment.
 pub fn prune(rows: &mut PlainRows, moment: u64) {
     for number in 0..7_usize {
         if let Some(entry) = rows.entries[number] {
@@ -138,7 +138,7 @@ pub fn prune(rows: &mut PlainRows, moment: u64) {
     }
 }
 
-/// Does the entry name the domain of this place?
+/// Returns true if the entry names the domain of this index.
 pub fn is_user(entry: &PlainEntry, domain: usize) -> bool {
     domain < 3 && entry.domains[domain]
 }
@@ -154,7 +154,7 @@ pub fn is_used(rows: &PlainRows, domain: usize) -> bool {
     false
 }
 
-/// Takes the entries away that name the domain.
+/// Removes the entries that name the domain.
 pub fn delete_users(rows: &mut PlainRows, domain: usize) {
     for number in 0..7_usize {
         if let Some(entry) = rows.entries[number] {
@@ -175,7 +175,7 @@ fn freed(entry: &PlainEntry, domain: usize) -> PlainEntry {
     freed
 }
 
-/// Takes the domain from the entries that name it.
+/// Removes the domain from the entries that name it.
 pub fn free_users(rows: &mut PlainRows, domain: usize) {
     for number in 0..7_usize {
         if let Some(entry) = rows.entries[number] {

@@ -1,4 +1,4 @@
-//! Batches on a window, and what their works read and come to, told by a table.
+//! Tables of batches on a window, with the expected reads and outcomes of their works.
 
 use crate::running::{commit, end_text, ended};
 use crate::wanted::is_text;
@@ -9,13 +9,13 @@ use std::process::Abort;
 use std::test::Fail;
 use version_book::Version;
 
-/// The window of the empty book alone.
+/// The window that has only the empty book.
 pub fn first_window(alloc: Global) -> Result<Window, Fail> {
     let domain = trust_domain(alloc, "ex.org")?;
     Ok(Window::of(Version::empty(alloc, domain)?))
 }
 
-/// The number of the newest version. Nothing is said of it.
+/// The number of the newest version. It has no contract.
 pub fn newest_number(window: &Window) -> u64 {
     window.newest().number()
 }
@@ -28,7 +28,7 @@ fn reads(alloc: Global, window: &Window, text: &str) -> Result<String, Fail> {
     Ok(told?)
 }
 
-/// What a batch comes to on the window.
+/// The outcome of a batch on the window.
 fn comes(alloc: Global, window: &Window, text: &str) -> Result<String, Fail> {
     let work = ended(alloc, window, text)?;
     let told = end_text(alloc, &work);
@@ -36,7 +36,7 @@ fn comes(alloc: Global, window: &Window, text: &str) -> Result<String, Fail> {
     told
 }
 
-/// Runs a batch, which has to become ready, and pushes the version after it.
+/// Runs a batch, which must become ready, and pushes the version after it.
 fn goes_on(alloc: Global, window: &mut Window, text: &str) -> Result<(), Fail> {
     let work = ended(alloc, window, text)?;
     let pushed = commit(window, &work);
@@ -44,7 +44,7 @@ fn goes_on(alloc: Global, window: &mut Window, text: &str) -> Result<(), Fail> {
     pushed
 }
 
-/// The same batch, so many times one after another.
+/// Does the same for a batch this many times.
 fn goes_on_often(alloc: Global, window: &mut Window, times: &str, text: &str) -> Result<(), Fail> {
     for _ in 0..times.parse::<u64>()? {
         goes_on(alloc, window, text)?;
@@ -52,13 +52,13 @@ fn goes_on_often(alloc: Global, window: &mut Window, times: &str, text: &str) ->
     Ok(())
 }
 
-/// The number of the version that the window gives for this one.
+/// The number of the version that the window returns for this one.
 fn found_number(window: &Window, number: u64) -> Option<u64> {
     let version = window.book(number)?;
     Some(version.number())
 }
 
-/// Adds the number of the version that the window gives for this one.
+/// Appends the number of the version that the window returns for this one.
 fn add_version(alloc: Global, text: &mut String, window: &Window, number: u64) -> Result<(), Fail> {
     if let Some(found) = found_number(window, number) {
         text.push_str(format!(in alloc; "{found} ")?.as_str())?;
@@ -66,7 +66,7 @@ fn add_version(alloc: Global, text: &mut String, window: &Window, number: u64) -
     Ok(())
 }
 
-/// The versions that the window gives for the numbers from the first to the last, and the newest one.
+/// The versions that the window returns for the numbers from the first to the last, and the newest one.
 fn versions(alloc: Global, window: &Window, first: u64, last: u64) -> Result<String, Fail> {
     let mut text = String::new(alloc);
     for number in first..last.wrapping_add(1) {
@@ -77,7 +77,7 @@ fn versions(alloc: Global, window: &Window, first: u64, last: u64) -> Result<Str
     Ok(text)
 }
 
-/// The versions that are asked for by the two numbers behind a word.
+/// The versions for the two numbers after a word.
 fn versions_asked(alloc: Global, window: &Window, question: &str) -> Result<String, Fail> {
     let words = words(alloc, question)?;
     let (first, last) = (number(words.as_slice(), 1)?, number(words.as_slice(), 2)?);
@@ -94,7 +94,7 @@ fn answer(alloc: Global, window: &Window, question: &str) -> Result<String, Fail
     versions_asked(alloc, window, question)
 }
 
-/// A line with no answer: `AGAIN`, a number and a batch, or a batch alone.
+/// A line without an answer: `AGAIN`, a number and a batch, or a batch alone.
 fn runs(alloc: Global, window: &mut Window, line: &str) -> Result<(), Fail> {
     let Some(text) = line.strip_prefix("AGAIN ") else {
         return goes_on(alloc, window, line);
@@ -116,10 +116,10 @@ fn plays_line(rt: &impl Abort, alloc: Global, window: &mut Window, line: &str) -
     Ok(())
 }
 
-/// Plays a table on the window. A question and its answer stand in a line with ` => ` between them: `READS` asks for the marks
-/// that a batch reads, `COMES` for what it comes to, `VERSIONS` for those that the window gives for the numbers from one to
-/// another. `AGAIN` and a number run a batch so many times, and each other line that isn't empty tells a batch. Each of these
-/// becomes ready, and leads to the next version.
+/// Plays a table on the window. A line has a question, ` => `, and the expected answer: `READS` gives the marks that a batch reads,
+/// `COMES` its outcome, and `VERSIONS` the versions that the window returns for a range of numbers. `AGAIN` and a number run a batch
+/// that many times, and any other line that isn't empty is a batch to run. Each of these must become ready, and leads to the next
+/// version.
 pub fn plays_on(
     rt: &impl Abort,
     alloc: Global,
@@ -132,7 +132,7 @@ pub fn plays_on(
     Ok(())
 }
 
-/// Plays a table, from the empty book on.
+/// Plays a table, beginning with the empty book.
 pub fn plays(rt: &impl Abort, alloc: Global, table: &str) -> Result<(), Fail> {
     let mut window = first_window(alloc)?;
     let played = plays_on(rt, alloc, &mut window, table);

@@ -1,4 +1,4 @@
-//! Random batches on random small books: a work comes to what the plain book answers.
+//! Random batches on random small books: a work has the outcome that the plain book gives.
 
 ghost use Rattle.std.specs.Prelude.{◌≡◌};
 
@@ -15,7 +15,7 @@ use std::alloc::Global;
 use std::process::Abort;
 use std::test::Fail;
 
-/// What has to come in some answer, or behind them in some footprint.
+/// What must occur in some reply, or after it in some footprint.
 const COMING: &str = "\
 committed at
 answered at
@@ -55,12 +55,12 @@ fn plain_book(alloc: Global) -> Result<PlainBook, Fail> {
     Ok(PlainBook::new(alloc, trust_domain(alloc, "ex.org")?)?)
 }
 
-/// The plain book's place. Nothing is said of it.
+/// The plain book's place. It has no contract.
 fn place_of_book(book: &PlainBook) -> u64 {
     book.place()
 }
 
-/// The plain book's reply. A run that is refused memory has changed nothing, and is made again.
+/// The plain book's reply. A run that fails for lack of memory must have changed nothing, and is retried.
 fn run(book: &mut PlainBook, batch: &Batch) -> Result<Reply, Fail>
     requires { batch.now.domain ≡ book.old.domain }
 {
@@ -72,7 +72,7 @@ fn run(book: &mut PlainBook, batch: &Batch) -> Result<Reply, Fail>
     }
 }
 
-/// What the plain book answers, told as text.
+/// The plain book's reply, as text.
 fn plain_text(alloc: Global, book: &mut PlainBook, batch: &Batch) -> Result<String, Fail> {
     if batch.domain() != book.domain() {
         return Err(Fail::from("another trust domain"));
@@ -83,7 +83,7 @@ fn plain_text(alloc: Global, book: &mut PlainBook, batch: &Batch) -> Result<Stri
     told
 }
 
-/// What a batch has to read, told by hand, and to come to, told by the plain book.
+/// The expected reads of a batch, from its footprint, and its expected outcome, from the plain book.
 fn wanted(
     alloc: Global,
     book: &mut PlainBook,
@@ -97,7 +97,7 @@ fn wanted(
     Ok(want)
 }
 
-/// The place of what the work has come to: its reply's, or this one where it is ready.
+/// The place of the work's outcome: that of its reply, or this one if it is ready.
 fn place_of(work: &Work, place: u64) -> u64 {
     match work.reply() {
         Some(reply) => reply.place,
@@ -105,7 +105,7 @@ fn place_of(work: &Work, place: u64) -> u64 {
     }
 }
 
-/// The work has read and come to what is wanted. This goes behind what is told.
+/// Asserts the reads and the outcome of the work, and appends them to the transcript.
 fn is_as_wanted(
     rt: &impl Abort,
     alloc: Global,
@@ -121,7 +121,7 @@ fn is_as_wanted(
     Ok(())
 }
 
-/// Holds a work against both, and pushes the next version where it is ready.
+/// Compares a work with both, and pushes the next version if the work is ready.
 fn compare(
     rt: &impl Abort,
     alloc: Global,
@@ -156,7 +156,7 @@ fn round(
     compared
 }
 
-/// So many random batches, one after another.
+/// Runs random batches, one after another.
 fn rounds(
     rt: &impl Abort,
     alloc: Global,
@@ -172,14 +172,14 @@ fn rounds(
     Ok(())
 }
 
-/// Each line of the list has come.
+/// Asserts that each line of the list occurred.
 fn all_came(rt: &impl Abort, told: &str) {
     for line in COMING.lines() {
         holds(rt, told.contains(line), line);
     }
 }
 
-/// Random batches on a window and on the plain book, which are at the same place in the end.
+/// Runs random batches on a window and on the plain book, which have the same place at the end.
 fn plays_on_both(
     rt: &impl Abort,
     alloc: Global,
@@ -196,7 +196,7 @@ fn plays_on_both(
     Ok(())
 }
 
-/// Random batches on a window, with the plain book beside it.
+/// Runs random batches on a window, compared with the plain book.
 fn plays_beside(rt: &impl Abort, alloc: Global, window: &mut Window) -> Result<(), Fail> {
     let mut book = plain_book(alloc)?;
     let played = plays_on_both(rt, alloc, window, &mut book);

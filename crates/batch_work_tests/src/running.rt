@@ -18,10 +18,10 @@ use std::test::Fail;
 use uuid::Uuid;
 use version_book::{Changes, Mark, Version, laws};
 
-/// No history of these tests gets there.
+/// A bound on the length of the histories of these tests.
 const MOST: u64 = 1_000_000;
 
-/// No work of these tests makes so many steps.
+/// A bound on the number of steps of a work in these tests.
 const STEPS: u64 = 10_000;
 
 fn may_begin(window: &Window, batch: &Batch) -> bool
@@ -30,7 +30,7 @@ fn may_begin(window: &Window, batch: &Batch) -> bool
     batch.domain() == window.newest().domain() && window.newest().number() <= MOST
 }
 
-/// A work of the batch, that has begun on the window.
+/// A work of the batch, begun on the window.
 pub fn begun(alloc: Global, window: &Window, batch: Batch) -> Result<Work, Fail> {
     if !may_begin(window, &batch) {
         drop(batch);
@@ -41,7 +41,7 @@ pub fn begun(alloc: Global, window: &Window, batch: Batch) -> Result<Work, Fail>
     Ok(where_done(begun, work)?)
 }
 
-/// One step more, and its mark behind the others; where the work doesn't run, none.
+/// Makes one more step, appends its mark, and returns true; returns false if the work isn't running.
 fn step(alloc: Global, work: &mut Work, text: &mut String) -> Result<bool, Fail> {
     if work.status() != Status::Running {
         return Ok(false);
@@ -54,7 +54,7 @@ fn step(alloc: Global, work: &mut Work, text: &mut String) -> Result<bool, Fail>
     Ok(true)
 }
 
-/// Makes all steps, and answers the marks that they read, told as text.
+/// Makes all steps, and returns the marks that they read, as text.
 pub fn run_to_end(alloc: Global, work: &mut Work) -> Result<String, Fail> {
     let mut text = String::new(alloc);
     for _ in 0..STEPS {
@@ -68,7 +68,7 @@ pub fn run_to_end(alloc: Global, work: &mut Work) -> Result<String, Fail> {
     Ok(text)
 }
 
-/// What a batch that only asks is answered at once on the window, told as text.
+/// The reply of `answer` to a read-only batch on the window, as text.
 fn answered_text(alloc: Global, window: &Window, batch: &Batch) -> Result<String, Fail> {
     if !batch.is_query() || !may_begin(window, batch) {
         return Err(Fail::from("no window for this question"));
@@ -82,7 +82,7 @@ fn answered_text(alloc: Global, window: &Window, batch: &Batch) -> Result<String
     Ok(text?)
 }
 
-/// Makes all steps; where the batch only asks, it is answered at once as the work is in the end.
+/// Makes all steps. If the batch is read-only, checks that `answer` gives the same reply as the work.
 fn run_and_ask(alloc: Global, window: &Window, work: &mut Work) -> Result<(), Fail> {
     run_to_end(alloc, work)?;
     if work.batch().is_query()
@@ -100,7 +100,7 @@ pub fn ended(alloc: Global, window: &Window, text: &str) -> Result<Work, Fail> {
     where_done(run, work)
 }
 
-/// What a work has come to, told as text: it is ready, with these replies, or settled with this reply.
+/// The outcome of a work, as text: it is ready, with these replies, or settled with this reply.
 pub fn end_text(alloc: Global, work: &Work) -> Result<String, Fail> {
     if let Some(reply) = work.reply() {
         return Ok(reply_text(alloc, reply)?);
@@ -120,7 +120,7 @@ fn has_token(version: &Version, token: Uuid) -> Result<bool, AllocError>
     Ok(!has_none)
 }
 
-/// Is something kept under the token, where there is one?
+/// Returns true if something is stored under the token, if there is one.
 fn is_kept(version: &Version, token: Option<Uuid>) -> Result<bool, AllocError>
     ensures { IfOk result (λ is_kept. is_kept ≡ false → kept_under token (book_of version.now.rows) ≡ None) }
 {
@@ -188,7 +188,7 @@ pub fn commit(window: &mut Window, work: &Work) -> Result<(), Fail> {
     Ok(())
 }
 
-/// Commits the batch of a work where it is ready. Is it?
+/// Commits the batch of a work if it is ready. Returns true if it is.
 pub fn commits(window: &mut Window, work: &Work) -> Result<bool, Fail> {
     if work.status() != Status::Ready {
         return Ok(false);

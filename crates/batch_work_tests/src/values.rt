@@ -1,6 +1,6 @@
-//! Values of any type: what becomes of one where a step behind it fails.
+//! Values of any type, and what happens to them if a step on them fails.
 
-/// What a step worked on, where the step was done.
+/// Returns the value that a step worked on if the step succeeded, and drops it otherwise.
 pub fn where_done<T: Drop, E>(done: Result<(), E>, worked_on: T) -> Result<T, E> {
     match done {
         Ok(()) => Ok(worked_on),

@@ -50,7 +50,7 @@ VERSIONS 0 3 => 1 2 3 newest 64
 VERSIONS 63 66 => 63 64 newest 64
 ";
 
-/// The owner of a window with 64 versions goes on, and a copy stays as it was.
+/// A window with 64 versions goes on, and a copy of it stays as it was.
 fn play_both(
     rt: &impl Abort,
     alloc: Global,
@@ -61,7 +61,7 @@ fn play_both(
     plays_on(rt, alloc, copy, COPY)
 }
 
-/// Takes a copy of the window once it has 64 versions.
+/// Copies the window once it has 64 versions.
 fn play_copied(rt: &impl Abort, alloc: Global, window: &mut Window) -> Result<(), Fail> {
     plays_on(rt, alloc, window, "AGAIN 64 set_agent n1 x:1")?;
     let mut copy = window.clone()?;

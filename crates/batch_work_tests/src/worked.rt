@@ -1,4 +1,4 @@
-//! What works read on small worked books, mark by mark, and what they come to.
+//! What works read on small worked books, mark by mark, and their outcomes.
 
 use crate::playing::plays;
 use std::test::Fail;
@@ -11,7 +11,7 @@ READS authorised n1 => agent n1 | children /spire/server | children n1 | childre
 COMES authorised n1 => answered at 2; entries 1.0 2.0 3.0
 ";
 
-/// An alias is held by the agent that has its selectors, whatever others that agent has.
+/// An agent holds an alias if it has its selectors, whatever others it has.
 const ALIAS: &str = "
 set_agent n1 x:1,x:2,x:3; set_agent n2 x:1
 create 1 /spire/server /alias x:1,x:2 0; create 2 /alias /web x:1 0; create 3 /web /side x:1 0
@@ -38,7 +38,7 @@ READS trust n1 => agent n1 | children /spire/server | children n1 | children /we
 COMES trust n1 => answered at 3; bundles bundle b.org 0
 ";
 
-/// A read that shows a refusal is the last one.
+/// A read that leads to a refusal is the last one.
 const REFUSED: &str = "
 create 1 n1 /web x:1 0
 READS create 1 n1 /api x:1 0 => entry 1
@@ -77,7 +77,7 @@ READS after 1; set_agent n1 x:1 => agent n1
 COMES after 1; set_agent n1 x:1 => ready; agent n1 1
 ";
 
-/// What is kept under a token is read first, and alone where a batch was committed with it.
+/// The token is read first, and nothing else if a batch was committed with it.
 const TOKEN: &str = "
 READS token 7; create 1 n1 /web x:1 0 => token 7 | entry 1 | group n1 /web
 COMES token 7; create 1 n1 /web x:1 0 => ready; entry 1.0
