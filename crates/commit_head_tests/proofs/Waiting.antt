@@ -1,4 +1,4 @@
--- What becomes of a work's begin while others commit, and where a checkpoint drops items.
+-- A waiting work is still based on the head after others commit, and after a checkpoint drops items.
 use Rattle.std.proofs.Common.{◌≡◌, ℕ, zero, suc, ◌-◌, List, [], ◌∷◌, ◌++◌, length, take, drop, Option, Some, None, refl, sym, ap, subst, ◌∙◌, inl, inr, ⊎_elim, append_assoc}
 use Rattle.std.specs.Prelude.{All}
 use Rattle.std.proofs.lemmas.List.{append-nil, take-append-drop}
@@ -13,7 +13,7 @@ use Rattle.commit_head.specs.Heads.{BeganOn, Head, IsAppended, IsCommit, Stays, 
 use Rattle.commit_head.specs.Journals.{Agrees, IsEnding, Joins, Leads}
 use Rattle.commit_head.proofs.Journals.{leads_more}
 
--- ---- one item more
+-- ---- one more item
 
 ending_more : (whole end : List Item) (item : Item) → IsEnding whole end → IsEnding (whole ++ item ∷ []) (end ++ item ∷ [])
 ending_more whole end item e = (e.0, ap (λ l. l ++ item ∷ []) e.1 ∙ append_assoc e.0 end (item ∷ []))
@@ -58,7 +58,7 @@ pub after_checkpoint : (base : Option Base) (old new : Head) → new.window ≡ 
 after_checkpoint None old new w k b = b
 after_checkpoint (Some base) old new w k b = (b.0, subst (Leads base.newest b.0) (sym (ap (λ w. w.newest) w)) b.1, subst (Agrees b.0) (sym k) (agrees_less (length old.kept - 64) b.0 old.kept b.2))
 
--- ---- all works that wait
+-- ---- all waiting works
 
 pub all_after_commit : (works : List Work) (old new : Head) (seat call : ℕ) (w : Work) (c : Commit) → IsCommit old seat call w c new → All (λ work. BeganOn work.base old) works → All (λ work. BeganOn work.base new) works
 all_after_commit works old new seat call w c k h = All-weaker (λ (work : Work). BeganOn work.base old) (λ (work : Work). BeganOn work.base new) (λ work b. after_commit work.base old new seat call w c k b) works h

@@ -13,7 +13,7 @@ use std::alloc::{AllocError, Global};
 use std::marker::Model;
 use std::test::Fail;
 
-/// No work of these tests makes so many steps.
+/// A bound on the number of steps of a work in these tests.
 const STEPS: u64 = 10_000;
 
 /// Makes all steps of a work that has begun on the head.
@@ -31,7 +31,7 @@ fn run_to_end(head: &Head, work: &mut Work) -> Result<(), Fail>
     Ok(())
 }
 
-/// A work of the batch, that has begun on the head.
+/// A work of the batch, begun on the head.
 fn begun(alloc: Global, head: &Head, batch: Batch) -> Result<Work, Fail>
     ensures { IfOk result (λ work. BeganOn work.base head.now) }
 {
@@ -53,7 +53,7 @@ fn begun(alloc: Global, head: &Head, batch: Batch) -> Result<Work, Fail>
     }
 }
 
-/// May the work be handed to the head?
+/// Returns true if the head may commit the work.
 fn may_commit(head: &Head, work: &Work) -> bool
     ensures ready { result ≡ true → status_of work.now ≡ status.Ready }
     ensures domain { result ≡ true → work.now.batch.domain ≡ head.now.window.newest.domain }
@@ -61,7 +61,7 @@ fn may_commit(head: &Head, work: &Work) -> bool
     work.status() == Status::Ready && work.batch().domain() == head.window().newest().domain()
 }
 
-/// Commits in two calls. Beside what became of it: are place, journal and window between the two calls as they were?
+/// Commits in two calls. Also returns whether the place and the number of stored items were unchanged between the two calls.
 fn commit_in_two(head: &mut Head, seat: u32, call: u64, work: &Work) -> (Commit, bool)
     requires ready { status_of work.now ≡ status.Ready }
     requires domain { work.now.batch.domain ≡ head.old.window.newest.domain }
@@ -102,7 +102,7 @@ impl Desk {
     ghost use Rattle.batch_work.specs.declared.status.Status.TheVariants as status;
     ghost use Rattle.commit_head.specs.Heads.{BeganOn};
 
-    /// The head of a trust domain's server, with no work.
+    /// The head of a trust domain's server, without a work.
     pub fn new(alloc: Global, domain: TrustDomain) -> Result<Desk, Fail> {
         Ok(Desk {
             head: Head::new(alloc, domain)?,
@@ -114,12 +114,12 @@ impl Desk {
         &self.head
     }
 
-    /// How many works wait.
+    /// The number of waiting works.
     pub fn waiting(&self) -> usize {
         self.works.len()
     }
 
-    /// Begins a work of the batch, makes its steps, and lets it wait behind the others where it is ready. Is it?
+    /// Begins a work of the batch and makes its steps. If it is then ready, adds it to the waiting works and returns true.
     pub fn begin(&mut self, alloc: Global, batch: Batch) -> Result<bool, Fail> {
         let work = begun(alloc, &self.head, batch)?;
         if work.status() != Status::Ready {
@@ -130,7 +130,7 @@ impl Desk {
         Ok(true)
     }
 
-    /// The work at this index, which waits no longer, where it is ready.
+    /// Removes and returns the work at this index, if it is ready.
     fn taken(&mut self, index: usize) -> Result<Work, Fail>
         ensures head { self.new ≡ self.old }
         ensures ready { IfOk result (λ work. status_of work ≡ status.Ready) }
@@ -149,14 +149,14 @@ impl Desk {
         }
     }
 
-    /// Commits the work at this index, which waits no longer: what became of it, and the work.
+    /// Removes and commits the work at this index. Returns the result, and the work.
     pub fn commit(&mut self, index: usize, seat: u32, call: u64) -> Result<(Commit, Work), Fail> {
         let work = self.taken(index)?;
         let commit = self.head.commit(seat, call, &work);
         Ok((commit, work))
     }
 
-    /// Commits the work at this index in two calls. Beside what became of it: was the head between the two as it had been?
+    /// Removes the work at this index and commits it in two calls, as the function above.
     pub fn commit_in_two(
         &mut self,
         index: usize,
@@ -169,7 +169,7 @@ impl Desk {
         Ok(done)
     }
 
-    /// Drops the items of the journal but the last 64.
+    /// Drops all but the last 64 items of the journal (the commit log).
     pub fn checkpoint(&mut self) -> u64 {
         self.head.checkpoint()
     }

@@ -2,10 +2,10 @@
 //!
 //! The crate has tests alone, over the public calls of `commit_head`:
 //!
-//! - `worked`: small histories, told by tables. `playing` plays a table on a `desk`: a head, and the works that wait for their
-//!   commits. `telling` tells commits and items.
-//! - `random`: a long history of random batches beside the plain book.
-//! - `wanted`: what a test wants to see.
+//! - `worked`: small histories, as tables. `playing` plays a table on a `desk`: a head, and the works that wait for their commits.
+//!   `telling` writes commits and items as text.
+//! - `random`: a long history of random batches, compared with the plain book.
+//! - `wanted`: assertions.
 #![tactic(auto)]
 
 #[cfg(test)]

@@ -1,4 +1,4 @@
-//! Histories on a desk, told by a table.
+//! Tables of histories on a desk, with the expected answers.
 
 use crate::desk::Desk;
 use crate::telling::{commit_text, item_text};
@@ -13,13 +13,13 @@ pub fn first_desk(alloc: Global) -> Result<Desk, Fail> {
     Desk::new(alloc, trust_domain(alloc, "ex.org")?)
 }
 
-/// Begins a work of the batch that a text tells, which then waits where it is ready. Is it?
+/// Begins a work of the batch of a text. Returns true if it is ready, and then waits.
 pub fn begin(alloc: Global, desk: &mut Desk, text: &str) -> Result<bool, Fail> {
     let batch = batch(alloc, text)?;
     desk.begin(alloc, batch)
 }
 
-/// The same for a batch that has to be ready in the end.
+/// The same for a batch that must be ready in the end.
 fn begins(alloc: Global, desk: &mut Desk, text: &str) -> Result<(), Fail> {
     if !begin(alloc, desk, text)? {
         return Err(Fail::from("not ready"));
@@ -27,14 +27,14 @@ fn begins(alloc: Global, desk: &mut Desk, text: &str) -> Result<(), Fail> {
     Ok(())
 }
 
-/// What becomes of the work at an index.
+/// Commits the work at an index.
 fn commit_at(desk: &mut Desk, index: usize, seat: u32, call: u64) -> Result<Commit, Fail> {
     let (commit, work) = desk.commit(index, seat, call)?;
     drop(work);
     Ok(commit)
 }
 
-/// Begins a batch and commits it at once, which has to come about.
+/// Begins a batch and commits it immediately, which must succeed.
 fn goes_on(alloc: Global, desk: &mut Desk, text: &str) -> Result<(), Fail> {
     begins(alloc, desk, text)?;
     let last = desk.waiting().wrapping_sub(1);
@@ -45,7 +45,7 @@ fn goes_on(alloc: Global, desk: &mut Desk, text: &str) -> Result<(), Fail> {
     }
 }
 
-/// The same batch, so many times one after another.
+/// Does the same for a batch this many times.
 fn goes_on_often(alloc: Global, desk: &mut Desk, times: u64, text: &str) -> Result<(), Fail> {
     for _ in 0..times {
         goes_on(alloc, desk, text)?;
@@ -53,19 +53,19 @@ fn goes_on_often(alloc: Global, desk: &mut Desk, times: u64, text: &str) -> Resu
     Ok(())
 }
 
-/// The seat that the third word tells.
+/// The seat in the third word.
 fn seat(words: &[&str]) -> Result<u32, Fail> {
     Ok(word(words, 2).parse::<u32>()?)
 }
 
-/// What becomes of the work at an index, for a seat and a call: these three are words.
+/// The result of committing the work at an index, for a seat and a call; these three are words.
 fn commits(alloc: Global, desk: &mut Desk, words: &[&str]) -> Result<String, Fail> {
     let (index, seat, call) = (number(words, 1)?, seat(words)?, number(words, 3)?);
     let commit = commit_at(desk, index as usize, seat, call)?;
     Ok(commit_text(alloc, &commit)?)
 }
 
-/// What became of a commit in two calls. Between these the head has to be the same as before.
+/// The result of a commit in two calls. The head must not change between these.
 fn commit_in_two_text(alloc: Global, commit: &Commit, same: bool) -> Result<String, Fail> {
     if !same {
         return Err(Fail::from("prepare has changed the head"));
@@ -91,7 +91,7 @@ fn item(alloc: Global, desk: &Desk, number: u64) -> Result<String, Fail> {
     }
 }
 
-/// Place, count of items kept, and the number of the newest version.
+/// The place, the number of stored items, and the number of the newest version.
 fn state_text(alloc: Global, desk: &Desk) -> Result<String, Fail> {
     let (place, kept) = (desk.head().place(), desk.head().kept());
     let newest = desk.head().window().newest().number();
@@ -114,7 +114,7 @@ fn answer(alloc: Global, desk: &mut Desk, question: &str) -> Result<String, Fail
     answer_to(alloc, desk, words.as_slice())
 }
 
-/// A line with no answer: `BEGIN` and a batch, `AGAIN`, a number and a batch, or a batch alone.
+/// A line without an answer: `BEGIN` and a batch, `AGAIN`, a number and a batch, or a batch alone.
 fn runs(alloc: Global, desk: &mut Desk, line: &str) -> Result<(), Fail> {
     if let Some(text) = line.strip_prefix("BEGIN ") {
         return begins(alloc, desk, text);
@@ -139,11 +139,11 @@ fn plays_line(rt: &impl Abort, alloc: Global, desk: &mut Desk, line: &str) -> Re
     Ok(())
 }
 
-/// Plays a table, from the empty book on. `BEGIN` begins a work, which waits behind the others. A question and its answer stand in
-/// a line with ` => ` between them: `COMMIT` and `COMMIT-IN-TWO`, with an index from 0 among the works that wait, a seat and a
-/// call, ask what becomes of that work, which then waits no longer; `ITEM` asks for an item of the journal, `HEAD` for place,
-/// journal and window, `CHECKPOINT` for how many items it drops. `AGAIN` and a number begin and commit a batch so many times, and
-/// each other line that isn't empty tells a batch that is begun and committed at once.
+/// Plays a table, beginning with the empty book. `BEGIN` begins a work, which waits after the others. A line with a question has
+/// ` => ` and the expected answer: `COMMIT` and `COMMIT-IN-TWO`, with an index from 0 among the waiting works, a seat and a call,
+/// commit this work and remove it from the waiting ones; `ITEM` gives an item of the journal, `HEAD` the place, the journal and the
+/// window, `CHECKPOINT` the number of dropped items. `AGAIN` and a number begin and commit a batch that many times. Any other line
+/// that isn't empty is a batch to begin and commit immediately.
 pub fn plays(rt: &impl Abort, alloc: Global, table: &str) -> Result<(), Fail> {
     let mut desk = first_desk(alloc)?;
     for line in table.lines() {

@@ -1,5 +1,5 @@
-//! Random batches, many of which are under way at once: what commits is what the plain book commits, and what is refused was
-//! hit by a commit since.
+//! Random batches, many of which are in flight together: what commits is what the plain book commits, and what is refused was hit by
+//! a later commit.
 
 ghost use Rattle.std.specs.Prelude.{◌≡◌};
 
@@ -16,7 +16,7 @@ use std::process::Abort;
 use std::test::Fail;
 use version_book::Mark;
 
-/// How many works were committed, and refused after up to 63 other commits, and after more.
+/// The numbers of works that were committed, and that were refused after up to 63 other commits, and after more.
 #[derive(Drop)]
 struct Counts {
     committed: u64,
@@ -36,7 +36,7 @@ fn plain_book(alloc: Global) -> Result<PlainBook, Fail> {
     Ok(PlainBook::new(alloc, trust_domain(alloc, "ex.org")?)?)
 }
 
-/// The plain book's reply. A run that is refused memory has changed nothing, and is made again.
+/// The plain book's reply. A run that fails for lack of memory must have changed nothing, and is retried.
 fn run(book: &mut PlainBook, batch: &Batch) -> Result<Reply, Fail>
     requires { batch.now.domain ≡ book.old.domain }
 {
@@ -48,7 +48,7 @@ fn run(book: &mut PlainBook, batch: &Batch) -> Result<Reply, Fail>
     }
 }
 
-/// What the plain book answers, told as text.
+/// The plain book's reply, as text.
 fn plain_text(alloc: Global, book: &mut PlainBook, batch: &Batch) -> Result<String, Fail> {
     if batch.domain() != book.domain() {
         return Err(Fail::from("another trust domain"));
@@ -57,7 +57,7 @@ fn plain_text(alloc: Global, book: &mut PlainBook, batch: &Batch) -> Result<Stri
     Ok(reply_text(alloc, &reply)?)
 }
 
-/// The item of this number, which has to be kept.
+/// The item of this number, which must be in the journal.
 fn kept_item<'a>(head: &'a Head, number: u64) -> Result<&'a Item, Fail> {
     match head.item(number) {
         Some(item) => Ok(item),
@@ -65,7 +65,7 @@ fn kept_item<'a>(head: &'a Head, number: u64) -> Result<&'a Item, Fail> {
     }
 }
 
-/// The committed batch of this number is one that the plain book commits, with the same replies.
+/// Asserts that the plain book commits the batch of this number too, with the same replies.
 fn is_as_told(
     rt: &impl Abort,
     alloc: Global,
@@ -80,7 +80,7 @@ fn is_as_told(
     Ok(())
 }
 
-/// Does a write of the item hit one of the marks?
+/// Returns true if a write of the item hits one of the marks.
 fn hits_one(item: &Item, marks: &[Mark]) -> bool {
     for mark in marks {
         if item.changes.hits(mark) {
@@ -90,7 +90,7 @@ fn hits_one(item: &Item, marks: &[Mark]) -> bool {
     false
 }
 
-/// Does a write of one of the items behind the first number, up to the last one, hit one of the marks?
+/// Returns true if a write of one of the items after the first number, up to the last one, hits one of the marks.
 fn is_hit(head: &Head, first: u64, last: u64, marks: &[Mark]) -> Result<bool, Fail> {
     let mut hit = false;
     for number in first..last {
@@ -108,8 +108,8 @@ fn base_number(work: &Work) -> Result<u64, Fail> {
     }
 }
 
-/// Where at most 63 batches were committed between the work's begin and the book of this number, it is a conflict exactly if one
-/// of them wrote what the work has read. Were they so few?
+/// Returns true if at most 63 batches were committed between the work's begin and the book of this number. Then asserts that it is a
+/// conflict exactly if one of them wrote what the work has read.
 fn is_due(
     rt: &impl Abort,
     head: &Head,
@@ -126,7 +126,7 @@ fn is_due(
     Ok(true)
 }
 
-/// Holds what became of a work against the plain book, and against the commits since its begin.
+/// Compares the result of a commit with the plain book, and with the commits since the work began.
 fn compare(
     rt: &impl Abort,
     alloc: Global,
@@ -153,14 +153,14 @@ fn compare(
     }
 }
 
-/// Begins a work of a random batch; one that awaits no commit doesn't stay.
+/// Begins a work of a random batch; one that isn't ready for a commit is dropped.
 fn begins_one(alloc: Global, desk: &mut Desk, state: &mut u64) -> Result<(), Fail> {
     let text = batch_text(alloc, state, desk.head().place())?;
     begin(alloc, desk, text.as_str())?;
     Ok(())
 }
 
-/// Commits one of the works that wait.
+/// Commits one of the waiting works.
 fn commits_one(
     rt: &impl Abort,
     alloc: Global,
@@ -175,7 +175,7 @@ fn commits_one(
     compared
 }
 
-/// The index of one of so many works, three times of four of the one that began last: the others get old.
+/// The index of one of `count` works. In three of four cases it is the one that began last, so that the others get old.
 fn index_of_one(state: &mut u64, count: usize) -> usize {
     if count == 0 {
         return 0;
@@ -186,7 +186,7 @@ fn index_of_one(state: &mut u64, count: usize) -> usize {
     below(state, count as u64)
 }
 
-/// So many random steps, each a begin or a commit, with at most so many works that wait. Then the journal is cut.
+/// Makes 600 random steps, each a begin or a commit, with at most `most` waiting works. Then makes a checkpoint.
 fn rounds(
     rt: &impl Abort,
     alloc: Global,
@@ -210,7 +210,7 @@ fn rounds(
     Ok(())
 }
 
-/// Rounds with few works at once, and with many.
+/// Rounds with few works in flight, and with many.
 fn all_rounds(
     rt: &impl Abort,
     alloc: Global,
@@ -225,7 +225,7 @@ fn all_rounds(
     Ok(())
 }
 
-/// Rounds on a desk and on the plain book, which are at the same place in the end.
+/// Rounds on a desk and on the plain book, which have the same place at the end.
 fn play_both(
     rt: &impl Abort,
     alloc: Global,

@@ -1,4 +1,4 @@
-//! Commits and items of the journal, told as text.
+//! Commits and items of the journal as text.
 
 use batch_texts::{Failed, placed, replies_text};
 use commit_head::{Commit, Item};
@@ -10,7 +10,7 @@ fn full_text(alloc: Global, limit: &Limit, place: u64) -> Result<String, Failed>
     placed(alloc, code, place)
 }
 
-/// What became of a commit, and the number. Want of memory is an error, so that no table has to know of it.
+/// The result of a commit, and its number. Out of memory is an error, so that no table has to handle it.
 pub fn commit_text(alloc: Global, commit: &Commit) -> Result<String, Failed> {
     match commit {
         Commit::Committed(number) => placed(alloc, "committed", *number),
@@ -20,7 +20,7 @@ pub fn commit_text(alloc: Global, commit: &Commit) -> Result<String, Failed> {
     }
 }
 
-/// An item of the journal: its seat and call, how many operations and writes it has, and the replies.
+/// An item of the journal: its seat and call, its numbers of operations and writes, and the replies.
 pub fn item_text(alloc: Global, item: &Item) -> Result<String, Failed> {
     let (seat, call) = (item.seat, item.call);
     let (ops, writes) = (item.batch.ops().len(), item.changes.len());

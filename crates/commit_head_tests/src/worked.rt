@@ -42,7 +42,7 @@ COMMIT 0 2 1 => conflict at 1
 HEAD => place 1 kept 1 newest 1
 ";
 
-/// An entry that names a bundle is created, and then the bundle is to be dropped.
+/// An entry that names a bundle is created, and then a begun drop of the bundle tries to commit.
 const NAMED_FIRST: &str = "
 set_bundle b.org
 BEGIN create 1 n1 /web x:1 0 b.org
@@ -53,7 +53,7 @@ HEAD => place 2 kept 2 newest 2
 ITEM 2 => seat 1 call 1 operations 1 writes 1; entry 1.0 b.org
 ";
 
-/// The bundle is dropped, and then an entry that names it is to be created.
+/// The bundle is dropped, and then a begun create of an entry that names it tries to commit.
 const DROPPED_FIRST: &str = "
 set_bundle b.org
 BEGIN create 1 n1 /web x:1 0 b.org
@@ -64,7 +64,7 @@ HEAD => place 2 kept 2 newest 2
 ITEM 2 => seat 2 call 1 operations 1 writes 1; dropped /
 ";
 
-/// A prune, and an entry that came meanwhile and expires before its moment.
+/// A prune, and an entry that was created meanwhile and expires before its moment.
 const PRUNED: &str = "
 create 1 n1 /web x:1 50
 BEGIN prune 100
@@ -75,7 +75,7 @@ COMMIT 0 1 2 => committed at 3
 ITEM 3 => seat 1 call 2 operations 1 writes 2; pruned 1 2
 ";
 
-/// A prune, and an entry that came meanwhile and doesn't expire before its moment.
+/// A prune, and an entry that was created meanwhile and doesn't expire before its moment.
 const NOT_PRUNED: &str = "
 create 1 n1 /web x:1 50
 BEGIN prune 100
@@ -124,7 +124,8 @@ COMMIT 0 1 4 => conflict at 193
 HEAD => place 193 kept 193 newest 193
 ";
 
-/// An entry of the group came and went in the first two of up to 65 commits. Up to 63 are told by their writes, more by the rows.
+/// An entry of the group is created and deleted in the first two of up to 65 commits. Up to 63 commits are checked by their writes,
+/// more by comparing the rows.
 const CAME_AND_WENT: &str = "
 BEGIN create 1 n1 /web x:1 0
 create 11 n1 /web x:11 0
@@ -148,7 +149,7 @@ COMMIT 0 1 4 => committed at 196
 HEAD => place 196 kept 196 newest 196
 ";
 
-/// A checkpoint keeps the last 64 items, and works that wait go on.
+/// A checkpoint keeps the last 64 items, and waiting works continue.
 const CHECKPOINT: &str = "
 AGAIN 99 set_agent n9 x:1
 BEGIN create 1 n1 /web x:1 0
@@ -171,7 +172,7 @@ CHECKPOINT => 0
 HEAD => place 101 kept 64 newest 101
 ";
 
-/// An entry of the group came and went, and of these two commits a checkpoint has dropped the first.
+/// An entry of the group is created and deleted, and a checkpoint drops the first of these two commits.
 const DROPPED_ITEMS: &str = "
 BEGIN create 1 n1 /web x:1 0
 create 11 n1 /web x:11 0
@@ -182,7 +183,7 @@ HEAD => place 65 kept 64 newest 65
 COMMIT 0 1 1 => committed at 66
 ";
 
-/// A commit in two calls comes to the same as one in one call.
+/// A commit in two calls has the same result as one in one call.
 const IN_TWO: &str = "
 BEGIN create 1 n1 /web x:1 0
 BEGIN create 2 n1 /web x:1 0
@@ -197,7 +198,7 @@ ITEM 2 => seat 3 call 1 operations 2 writes 1; entry 3.0; shown 3.0
 HEAD => place 2 kept 2 newest 2
 ";
 
-/// What is kept under a token is read, and written at the commit: the same batch once more is a conflict, and then no commit.
+/// The token is read, and written at the commit: the same batch committed again is a conflict, and then no commit.
 const TOKEN: &str = "
 BEGIN token 7; set_agent n1 x:1
 BEGIN token 7; set_agent n2 x:1
