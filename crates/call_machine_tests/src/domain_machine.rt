@@ -1,4 +1,4 @@
-//! A machine, and what a test has to know of it: its trust domain, and its calls.
+//! A machine with its trust domain, which the tests need to know.
 
 ghost use Rattle.std.specs.Prelude.{◌≡◌, IfOk, true};
 ghost use Rattle.call_events.specs.Events.{IsFor};
@@ -11,7 +11,7 @@ use std::alloc::Global;
 use std::marker::Model;
 use std::test::Fail;
 
-/// May the event be handed to a machine of this trust domain?
+/// Returns true if the event may be submitted to a machine of this trust domain.
 fn is_for(domain: &TrustDomain, event: &Event) -> bool
     ensures { result ≡ true → IsFor domain.now event.now }
 {
@@ -21,7 +21,7 @@ fn is_for(domain: &TrustDomain, event: &Event) -> bool
     }
 }
 
-/// May each of the events?
+/// Returns true if each of the events may.
 fn are_for(domain: &TrustDomain, events: &[Event]) -> bool
     ensures { result ≡ true → AreFor domain.now events.now }
 {
@@ -31,7 +31,7 @@ fn are_for(domain: &TrustDomain, events: &[Event]) -> bool
     }
 }
 
-/// Is it refused for want of memory?
+/// Returns true if it is refused because memory ran out.
 pub fn lacks_memory(answer: &Result<Done, RefusedEvent>) -> bool {
     match answer {
         Ok(_) => false,
@@ -64,7 +64,7 @@ impl DomainMachine {
         Ok(DomainMachine { domain, machine })
     }
 
-    /// One event. Want of memory is an error.
+    /// Applies one event. Out of memory is an error.
     pub fn apply(&mut self, event: Event) -> Result<Result<Done, RefusedEvent>, Fail> {
         if !is_for(&self.domain, &event) {
             drop(event);
@@ -83,14 +83,14 @@ impl DomainMachine {
     }
 }
 
-/// A machine of this trust domain, which was handed no event.
+/// A new machine of this trust domain.
 fn new_machine(alloc: Global, domain: &TrustDomain) -> Result<Machine, Fail>
     ensures { IfOk result (λ machine. machine.domain ≡ domain.now) }
 {
     Ok(Machine::new(alloc, domain.clone()?)?)
 }
 
-/// The answers of a machine of this trust domain, which was handed no event, to a list of events.
+/// The answers of a new machine of this trust domain to a list of events.
 fn answers_of(
     mut machine: Machine,
     domain: &TrustDomain,

@@ -1,11 +1,11 @@
-//! What is each event answered, and what do all the answers together come to?
+//! What does each event return, and do all the answers together agree?
 //!
 //! The crate has tests alone, over the public calls of `call_machine`:
 //!
-//! - `worked`: small schedules, told by tables, which `playing` plays. `making` reads events, `telling` tells answers.
-//! - `domain_machine`: a machine, and what a test has to know of it; `refused`: that a refused event is handed back and
-//!   changes nothing.
-//! - `values`: values of any type; `wanted`: what a test wants to see.
+//! - `worked`: small schedules as tables, which `playing` plays. `making` parses events, `telling` writes answers as text.
+//! - `domain_machine`: a machine with its trust domain; `refused`: a refused event is returned to the caller and changes
+//!   nothing.
+//! - `values`: values of any type; `wanted`: assertions.
 #![tactic(auto)]
 
 #[cfg(test)]

@@ -1,4 +1,4 @@
-//! Events, made of the words of a text.
+//! Events from the words of a text.
 
 use batch_texts::batch;
 use call_machine::Event;
@@ -16,7 +16,7 @@ fn event_of(kind: &str, call: u64) -> Result<Event, Fail> {
     }
 }
 
-/// The invoke that a text tells: a call, and its batch.
+/// The invoke of a text: a call, and its batch.
 fn invoke(alloc: Global, text: &str) -> Result<Event, Fail> {
     match text.split_once(" ") {
         Some((call, text)) => Ok(Event::Invoke(call.parse::<u64>()?, batch(alloc, text)?)),
@@ -24,7 +24,7 @@ fn invoke(alloc: Global, text: &str) -> Result<Event, Fail> {
     }
 }
 
-/// The event that a text tells: its kind and its call, and behind an invoke the batch.
+/// The event of a text: its kind and its call, and after an invoke the batch.
 pub fn event(alloc: Global, text: &str) -> Result<Event, Fail> {
     if let Some(text) = text.strip_prefix("invoke ") {
         return invoke(alloc, text);
@@ -35,7 +35,7 @@ pub fn event(alloc: Global, text: &str) -> Result<Event, Fail> {
     }
 }
 
-/// A batch that sets so many bundles, of the domains from this number on.
+/// A batch that sets this many bundles, of domains with consecutive numbers.
 pub fn bundles(alloc: Global, first: u64, count: u64) -> Result<String, Fail> {
     let mut text = String::new(alloc);
     for index in 0..count {

@@ -1,4 +1,4 @@
-//! Schedules, told by a table.
+//! Tables of schedules, with the expected answers.
 
 ghost use Rattle.std.specs.Prelude.{◌<◌};
 
@@ -15,25 +15,25 @@ use std::alloc::Global;
 use std::process::Abort;
 use std::test::Fail;
 
-/// The calls up to this number are looked at where an event is refused.
+/// The calls up to this number are checked when an event is refused.
 const LAST: u64 = 8;
 
 fn first_machine(alloc: Global) -> Result<DomainMachine, Fail> {
     DomainMachine::new(alloc, trust_domain(alloc, "ex.org")?)
 }
 
-/// The answer to an event that has to be accepted.
+/// The answer to an event that must be accepted.
 fn accepted(machine: &mut DomainMachine, event: Event) -> Result<Done, Fail> {
     had(machine.apply(event)?, "refused")
 }
 
-/// Hands in an event that has to be accepted.
+/// Submits an event that must be accepted.
 fn does(machine: &mut DomainMachine, event: Event) -> Result<(), Fail> {
     drop(accepted(machine, event)?);
     Ok(())
 }
 
-/// What a call waits for that has begun.
+/// What a call that has begun waits for.
 fn status_begun(done: &Done) -> Option<Status> {
     match done {
         Done::Begun(_, _, status) => Some(*status),
@@ -49,7 +49,7 @@ fn begins(machine: &mut DomainMachine, call: u64) -> Result<Status, Fail> {
     Ok(status.ok_or("not begun")?)
 }
 
-/// What a call waits for that has made a step.
+/// What a call that has made a step waits for.
 fn status_stepped(done: &Done) -> Option<Status> {
     match done {
         Done::Stepped(_, _, status) => Some(*status),
@@ -65,7 +65,7 @@ fn steps(machine: &mut DomainMachine, call: u64) -> Result<Status, Fail> {
     Ok(status.ok_or("no step")?)
 }
 
-/// Makes a call of the batch that a text tells, from its invoke to its reply.
+/// Makes a call of the batch of a text, from its invoke to its reply.
 fn runs(alloc: Global, machine: &mut DomainMachine, call: u64, text: &str) -> Result<(), Fail> {
     does(machine, Event::Invoke(call, batch(alloc, text)?))?;
     let mut status = begins(machine, call)?;
@@ -81,7 +81,7 @@ fn runs(alloc: Global, machine: &mut DomainMachine, call: u64, text: &str) -> Re
     does(machine, Event::Reply(call))
 }
 
-/// So many new bundles, 64 in each call, from this call on.
+/// Sets this many new bundles, 64 in each call, with consecutive numbers of calls.
 fn fills(alloc: Global, machine: &mut DomainMachine, first: u64, count: u64) -> Result<(), Fail> {
     for index in 0..count.div_ceil(64) {
         let from = index.wrapping_mul(64);
@@ -91,7 +91,7 @@ fn fills(alloc: Global, machine: &mut DomainMachine, first: u64, count: u64) -> 
     Ok(())
 }
 
-/// The calls up to this number are handed in, each with the batch that a text tells.
+/// Invokes all calls up to this number, each with the batch of a text.
 fn hands_in(alloc: Global, machine: &mut DomainMachine, last: u64, text: &str) -> Result<(), Fail> {
     for call in 0..last {
         does(
@@ -102,7 +102,7 @@ fn hands_in(alloc: Global, machine: &mut DomainMachine, last: u64, text: &str) -
     Ok(())
 }
 
-/// A line with no answer: a word, a number, and what the word needs.
+/// A line without an answer: a word, a number, and what the word needs.
 fn prepares(alloc: Global, machine: &mut DomainMachine, line: &str) -> Result<(), Fail> {
     let Some((word, rest)) = line.split_once(" ") else {
         return Err(Fail::from("no such line"));
@@ -162,11 +162,11 @@ fn plays_lines(
     Ok(())
 }
 
-/// Plays a table, on a new machine. A question and its answer stand in a line with ` => ` between them: an event and what it is
-/// answered; `ORDER` and the order; `CALL` with a number, and what is known of that call. A refused event is looked at for what it
-/// hands back, and for what it has changed. Other lines that aren't empty are to be done, and each of their events has to be
-/// accepted: `RUN` makes a whole call of this number, from its invoke to its reply; `FILL` sets so many new bundles, by calls from
-/// this number on; `HAND-IN` hands in all calls up to this number.
+/// Plays a table on a new machine. A line with a question has ` => ` and the expected answer: an event and its answer; `ORDER` and the
+/// order of calls; `CALL` with a number, and the state of that call. For a refused event, checks what it returns to the caller, and that
+/// nothing changed. Other lines that aren't empty are actions, whose events must all be accepted: `RUN` makes a whole call of this
+/// number, from its invoke to its reply; `FILL` sets the given number of new bundles, by calls from this number on; `HAND-IN` invokes
+/// all calls up to this number.
 pub fn plays(rt: &impl Abort, alloc: Global, table: &str) -> Result<(), Fail> {
     let mut machine = first_machine(alloc)?;
     let played = plays_lines(rt, alloc, &mut machine, table);
@@ -174,7 +174,7 @@ pub fn plays(rt: &impl Abort, alloc: Global, table: &str) -> Result<(), Fail> {
     played
 }
 
-/// The event of a line and its answer, where it tells one.
+/// The event of a line and its answer, if it has one.
 fn event_of(line: &str) -> Option<(&str, &str)> {
     let (question, want) = line.split_once(" => ")?;
     if question == "ORDER" || question.starts_with("CALL ") {
@@ -196,14 +196,14 @@ fn add_events(alloc: Global, events: &mut Vec<Event>, table: &str) -> Result<(),
     Ok(())
 }
 
-/// The events of a table. Lines without an event are passed over.
+/// The events of a table. Lines without an event are skipped.
 fn events_of(alloc: Global, table: &str) -> Result<Vec<Event>, Fail> {
     let mut events = Vec::new(alloc);
     let added = add_events(alloc, &mut events, table);
     where_done(added, events)
 }
 
-/// The answer to an event of a list. Want of memory is an error, so that no table has to know of it.
+/// The answer to an event of a list. Out of memory is an error, so that no table has to handle it.
 fn listed_answer(
     alloc: Global,
     answer: Option<&Result<Done, RefusedEvent>>,
@@ -215,7 +215,7 @@ fn listed_answer(
     }
 }
 
-/// The answers are those of the table's events, one after another.
+/// Asserts that the answers are those of the table's events, one after another.
 fn check_answers(
     rt: &impl Abort,
     alloc: Global,
@@ -233,7 +233,7 @@ fn check_answers(
     Ok(())
 }
 
-/// Hands in the events of a table in one call.
+/// Submits all events of a table in one call.
 pub fn plays_at_once(rt: &impl Abort, alloc: Global, table: &str) -> Result<(), Fail> {
     let domain = trust_domain(alloc, "ex.org")?;
     let answers = run_at_once(alloc, &domain, events_of(alloc, table)?)?;

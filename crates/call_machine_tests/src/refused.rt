@@ -1,4 +1,4 @@
-//! An event that is refused is handed back, and has changed nothing.
+//! A refused event is returned to the caller, and has changed nothing.
 
 use crate::domain_machine::DomainMachine;
 use crate::making::event;
@@ -11,7 +11,7 @@ use std::process::Abort;
 use std::test::Fail;
 use uuid::Uuid;
 
-/// What is kept of a batch that is answered by nothing.
+/// A stored batch without replies.
 fn kept(alloc: Global, batch: &Batch) -> Result<KeptBatch, Fail> {
     let no_replies = Shared::of(alloc, Sequence::empty(alloc));
     let (ops, replies) = both(batch.shared_ops().clone(), no_replies)?;
@@ -48,7 +48,7 @@ fn is_same_event(alloc: Global, first: &Event, second: &Event) -> Result<bool, F
     }
 }
 
-/// Is it the event that a text tells?
+/// Returns true if it is the event of a text.
 fn is_told(alloc: Global, told: &str, refused: &Event) -> Result<bool, Fail> {
     let event = event(alloc, told)?;
     let is_same = is_same_event(alloc, &event, refused);
@@ -56,7 +56,7 @@ fn is_told(alloc: Global, told: &str, refused: &Event) -> Result<bool, Fail> {
     is_same
 }
 
-/// All that a machine tells of its order, and of the calls up to this number.
+/// The machine's order, and its state of the calls up to this number.
 fn machine_text(alloc: Global, machine: &DomainMachine, last: u64) -> Result<String, Fail> {
     let mut text = numbers_text(alloc, machine.order()?.as_slice())?;
     for number in 0..last {
@@ -66,7 +66,7 @@ fn machine_text(alloc: Global, machine: &DomainMachine, last: u64) -> Result<Str
     Ok(text)
 }
 
-/// The event that a text tells is handed back, and what the machine tells of the calls up to this number is what it told before.
+/// Asserts that the event of a text is returned, and that the machine reports the same as before for the calls up to this number.
 fn check_refused(
     rt: &impl Abort,
     alloc: Global,
@@ -81,7 +81,7 @@ fn check_refused(
     Ok(())
 }
 
-/// The text of an answer to the event that a text tells. One that is refused is looked at.
+/// The text of an answer to the event of a text. If it is refused, it is checked.
 fn checked_text(
     rt: &impl Abort,
     alloc: Global,
@@ -96,8 +96,8 @@ fn checked_text(
     Ok(answer_text(alloc, answer)?)
 }
 
-/// What is answered to the event that a text tells. One that is refused is handed back, and what the machine tells of the calls up
-/// to this number has stayed.
+/// The answer to the event of a text. If it is refused, asserts that the event is returned, and that the machine reports the same as
+/// before for the calls up to this number.
 pub fn answer(
     rt: &impl Abort,
     alloc: Global,

@@ -1,4 +1,4 @@
-//! Answers, and what is known of calls, told as text.
+//! Answers, and the states of calls, as text.
 
 use batch_texts::{Failed, mark_text, placed, reply_text};
 use batch_work::Status;
@@ -34,7 +34,7 @@ fn status_word(status: &Status) -> &'static str {
     }
 }
 
-/// What is told of a call, behind its number.
+/// A text about a call, after its number.
 fn of_call(alloc: Global, call: u64, text: &str) -> Result<String, Failed> {
     Ok(format!(in alloc; "{call} {text}")?)
 }
@@ -49,7 +49,7 @@ fn stepped_text(alloc: Global, call: u64, mark: &Mark, status: &Status) -> Resul
     Ok(format!(in alloc; "{call} {word} by {read}")?)
 }
 
-/// The answer to an event: the call's number, and what it has come to.
+/// The answer to an event: the call's number, and the result.
 pub fn done_text(alloc: Global, done: &Done) -> Result<String, Failed> {
     match done {
         Done::Invoked(call) => of_call(alloc, *call, "new"),
@@ -93,7 +93,7 @@ fn stamp_text(alloc: Global, kind: &str, stamp: Option<u64>) -> Result<String, F
     }
 }
 
-/// A call's answer, where it has one.
+/// A call's answer, or `no answer`.
 fn call_answer_text(alloc: Global, answer: Option<&CallAnswer>) -> Result<String, Failed> {
     match answer {
         Some(answer) => answer_of_call(alloc, answer),
@@ -101,7 +101,7 @@ fn call_answer_text(alloc: Global, answer: Option<&CallAnswer>) -> Result<String
     }
 }
 
-/// The accepted numbers of a call, as far as they came.
+/// The event numbers of a call, as far as they exist.
 fn stamps_text(
     alloc: Global,
     invoked: u64,
@@ -127,7 +127,7 @@ fn known_call_text(alloc: Global, call: KnownCall<'_>) -> Result<String, Failed>
     Ok(format!(in alloc; "operations {ops}; {stamps}; {answer}")?)
 }
 
-/// What is known of a call: how many operations it has, its accepted numbers as far as they came, and its answer.
+/// The state of a call: its number of operations, its event numbers as far as they exist, and its answer.
 pub fn known_text(alloc: Global, call: Option<KnownCall<'_>>) -> Result<String, Failed> {
     match call {
         Some(call) => known_call_text(alloc, call),

@@ -1,14 +1,14 @@
-//! Values of any type, as steps that may fail leave them.
+//! Values of any type, and what happens to them if a step on them fails.
 
 use std::test::Fail;
 
-/// What a step worked on, where the step was done.
+/// Returns the value that a step worked on if the step succeeded, and drops it otherwise.
 pub fn where_done<T: Drop>(done: Result<(), Fail>, worked_on: T) -> Result<T, Fail> {
     done?;
     Ok(worked_on)
 }
 
-/// The value, but for this fault of it.
+/// Returns the value, or drops it and returns this error if it has the fault.
 pub fn unless<T: Drop>(is_fault: bool, fault: &'static str, value: T) -> Result<T, Fail> {
     if is_fault {
         return Err(Fail::from(fault));
@@ -16,7 +16,7 @@ pub fn unless<T: Drop>(is_fault: bool, fault: &'static str, value: T) -> Result<
     Ok(value)
 }
 
-/// The value that has to be there.
+/// Returns the value if there is one, and this error otherwise.
 pub fn had<T: Drop, E: Drop>(value: Result<T, E>, fault: &'static str) -> Result<T, Fail> {
     match value {
         Ok(value) => Ok(value),

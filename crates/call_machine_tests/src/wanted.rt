@@ -1,13 +1,13 @@
-//! What a test wants to see.
+//! Assertions.
 
 use std::process::Abort;
 
-/// It holds.
+/// Asserts that it holds.
 pub fn holds(rt: &impl Abort, it: bool, at: &str) {
     assert!(rt; it, "{at}");
 }
 
-/// The two texts are the same.
+/// Asserts that the two texts are equal.
 pub fn is_text(rt: &impl Abort, got: &str, want: &str, at: &str) {
     assert_eq!(rt; got, want, "{at}");
 }

@@ -1,9 +1,9 @@
-//! Which answers come of small worked schedules, and in which order the calls stand in the end.
+//! The answers to small worked schedules, and the order of the calls at the end.
 
 use crate::playing::{plays, plays_at_once};
 use std::test::Fail;
 
-/// Both creates look for a similar entry before either is there. The second is a conflict, and is refused when it is tried again.
+/// Both creates look for a similar entry before either is there. The second is a conflict, and is refused when it is retried.
 const PHANTOM: &str = "
 invoke 1 create 1 n1 /web u:1 0 => 1 new
 invoke 2 create 2 n1 /web u:1 0 => 2 new
@@ -29,7 +29,7 @@ CALL 3 => operations 1; invoked 11; decided 12; replied 17; refused O2 at 1; ope
 CALL 4 => none
 ";
 
-/// A prune looks for what expires, and such an entry comes meanwhile.
+/// A prune looks for expired entries, and one is created meanwhile.
 const PHANTOM_OF_PRUNE: &str = "
 RUN 1 create 1 n1 /e1 u:1 0; create 2 n1 /e2 u:1 99; create 3 n1 /e3 u:1 100
 invoke 2 prune 100 => 2 new
@@ -83,7 +83,7 @@ reply 2 => 2 conflict at 2
 ORDER => 1 3
 ";
 
-/// Two updates of one entry, neither of which knows the other.
+/// Two updates of one entry, neither of which has seen the other.
 const LOST_UPDATE: &str = "
 RUN 1 create 1 n1 /web u:1 0
 invoke 2 update 1 n1 /web u:1 5 => 2 new
@@ -117,8 +117,8 @@ commit 3 => 3 conflict at 2
 ORDER => 1 2
 ";
 
-/// A call that is handed in after another one's answer reads what that one has written; one that began before reads the book of
-/// its begin, to its end.
+/// A call that is invoked after another one's answer reads what that one wrote. One that began before reads the book of its begin, to
+/// its end.
 const STALE_READ: &str = "
 invoke 1 show 1; show 1 => 1 new
 begin 1 => 1 running at 0
@@ -139,7 +139,7 @@ reply 1 => 1 answered at 0; none; none
 ORDER => 1 2 3
 ";
 
-/// What isn't committed is seen by the call itself alone, and is gone where its commit is a conflict.
+/// Only the call itself sees its uncommitted changes, and they are dropped if its commit is a conflict.
 const DIRTY_READ: &str = "
 invoke 1 create 1 n1 /web u:1 0; show 1 => 1 new
 begin 1 => 1 running at 0
@@ -155,7 +155,7 @@ CALL 4 => operations 2; invoked 17; decided 18; replied 21; answered at 1; shown
 ORDER => 2 3 4
 ";
 
-/// Neither call passes the limit on bundles, and both together do. The second is told so at its commit, when it is no conflict.
+/// Neither call passes the limit on bundles, but both together do. The second is refused at its commit, without a conflict.
 const LIMIT_PASSED_BY_TWO: &str = "
 FILL 101 1023
 invoke 1 set_bundle b.org => 1 new
@@ -190,7 +190,7 @@ reply 1 => 1 committed at 1; entry 1.0
 ORDER => 1 2
 ";
 
-/// A query settles at its last read. It stands in the order where it began, once it has replied.
+/// A query settles at its last read. Once it has replied, it takes its position in the order where it began.
 const QUERY: &str = "
 invoke 1 show 1; show_agent n1; show_bundle b.org => 1 new
 invoke 2 set_agent n1 x:1 => 2 new
@@ -221,7 +221,7 @@ reply 2 => 2 answered at 1; bundles bundle b.org 0
 ORDER => 1 2
 ";
 
-/// An operation is refused by what those before it have done. Nothing of the batch is done.
+/// An operation is refused because of what those before it did. Nothing of the batch takes effect.
 const REFUSED: &str = "
 RUN 1 create 1 n1 /web u:1 0
 invoke 2 create 2 n1 /api u:1 0; update0 1 n1 /web u:1 0; delete0 1 => 2 new
@@ -237,7 +237,7 @@ CALL 3 => operations 2; invoked 15; decided 16; replied 19; answered at 1; shown
 ORDER => 1 2 3
 ";
 
-/// A batch reads what its own operations have done.
+/// A batch reads the effects of its own operations.
 const OWN_CHANGES: &str = "
 RUN 1 set_bundle b.org
 invoke 2 create 1 n1 /web u:1 0 b.org; drop_bundle b.org dissociate; show 1 => 2 new
@@ -274,7 +274,7 @@ CALL 7 => operations 1; invoked 36; decided 37; replied 39; answered at 2; page 
 ORDER => 1 2 3 4 5 6 7
 ";
 
-/// A batch that may run only at a later place is refused at its begin.
+/// A batch whose minimum place isn't reached is refused at its begin.
 const AFTER: &str = "
 invoke 1 after 1; show 1 => 1 new
 begin 1 => 1 settled at 0
@@ -292,7 +292,7 @@ reply 4 => 4 refused W1 at 1
 ORDER => 1 3 2 4
 ";
 
-/// A batch with a token is committed once. The same batch is then answered as it was, and another one is refused.
+/// A batch with a token is committed once. The same batch then gets its first reply, and another batch is refused.
 const TOKEN: &str = "
 invoke 1 token 7; set_agent n1 x:1 => 1 new
 invoke 2 token 7; set_agent n1 x:1 => 2 new
@@ -318,7 +318,7 @@ CALL 6 => operations 1; invoked 24; decided 25; replied 27; repeated at 1; agent
 ORDER => 1 3 4 5 6
 ";
 
-/// Events of unknown calls, and events out of turn of a query.
+/// Events of unknown calls, and events of a query that aren't possible in its state.
 const OUT_OF_TURN: &str = "
 begin 1 => E2
 step 1 => E2
@@ -349,7 +349,7 @@ CALL 1 => operations 1; invoked 1; decided 2; replied 4; answered at 0; none
 ORDER => 1
 ";
 
-/// Events out of turn of two calls that change the same row.
+/// The same for two calls that change the same row.
 const OUT_OF_TURN_IN_CHANGES: &str = "
 invoke 1 set_agent n1 x:1 => 1 new
 invoke 2 set_agent n1 x:2 => 2 new
@@ -377,7 +377,7 @@ CALL 2 => operations 1; invoked 2; replied 9; conflict at 1
 ORDER => 1
 ";
 
-/// As many calls as there can be. A number that is taken is told before that.
+/// The maximum number of calls. A number in use is refused for that first.
 const MOST_CALLS: &str = "
 HAND-IN 4095 show 1
 invoke 5 show 1 => E1
