@@ -1,4 +1,4 @@
-//! What are eight threads told that talk to a registry at once?
+//! What replies do eight threads get that run batches on a registry concurrently?
 
 use crate::failed::Failed;
 use crate::site::Site;
@@ -14,19 +14,19 @@ use std::sync::Wait;
 use std::thread::{Threads, map_indices};
 use std::time::Clock;
 
-/// What was said, and what was told.
+/// A line that a thread ran, and the reply to it.
 #[derive(Drop)]
 pub struct Call {
     pub text: String,
     pub told: String,
 }
 
-/// Is it what became of a batch, and not of a letter?
+/// Returns true if the reply is that to a batch, and not to a letter.
 pub fn is_of_batch(call: &Call) -> bool {
     !matches!(kind_of(call.told.as_str()), "sent" | "taken")
 }
 
-/// A random batch, with its tries.
+/// A random batch, with a number of tries.
 fn drawn(alloc: Global, state: &mut u64, place: u64) -> Result<String, Failed> {
     let text = batch_text(alloc, state, place)?;
     let tries = below(state, 3) + 1;
@@ -34,7 +34,7 @@ fn drawn(alloc: Global, state: &mut u64, place: u64) -> Result<String, Failed> {
     Ok(format!(in alloc; "tries {tries}; {text}")?)
 }
 
-/// What is said by a line.
+/// The text to run for a line.
 fn text_of(alloc: Global, line: &str, state: &mut u64, place: u64) -> Result<String, Failed> {
     if line == "DRAW" {
         return drawn(alloc, state, place);
@@ -43,7 +43,7 @@ fn text_of(alloc: Global, line: &str, state: &mut u64, place: u64) -> Result<Str
     Ok(String::from_str(alloc, text)?)
 }
 
-/// Behind what became of the batch, and its place, this is told, where the line wants anything.
+/// Asserts the replies to the operations, which follow the outcome and its place, if the line has any.
 fn check_told(rt: &impl Abort, line: &str, told: &str) {
     if let Some((_, want)) = line.split_once(" => ") {
         let (_, replies) = told.split_once("; ").unwrap_or((told, ""));
@@ -51,9 +51,9 @@ fn check_told(rt: &impl Abort, line: &str, told: &str) {
     }
 }
 
-/// A call is told the place that its seat has then seen, or the place of its commit where it is repeated. The seat has seen no less
-/// than it had seen or heard of before, and more where there was a conflict. Answers what the next call has to see at least: of the
-/// place of a letter the seat has heard.
+/// Checks the place of a reply, which is the place that the seat has then seen, or that of the first commit for a repeated batch. The
+/// seat has seen at least what it had seen or was informed of before, and more after a conflict. Returns the least place that the next
+/// call must see: the seat is informed of the place of a letter.
 fn check_place(rt: &impl Abort, told: &str, least: u64, seen: u64) -> Result<u64, Failed> {
     let place = place_of(told)?;
     let kind = kind_of(told);
@@ -79,7 +79,7 @@ fn calls_once<J: Naming, R: Wait + Clock>(
     Ok(Call { text, told })
 }
 
-/// The calls of a seat that says these lines.
+/// The calls of a seat that runs these lines.
 fn calls_of<J: Naming, R: Wait + Clock + Abort>(
     site: &Site<J, R>,
     seat: &mut Seat<J>,
@@ -99,7 +99,7 @@ fn calls_of<J: Naming, R: Wait + Clock + Abort>(
     Ok(calls)
 }
 
-/// So many of the calls were of batches.
+/// Asserts how many of the calls were of batches.
 fn check_count(rt: &impl Abort, calls: &[Call], count: u64) {
     let mut batches: u64 = 0;
     for call in calls {
@@ -108,7 +108,7 @@ fn check_count(rt: &impl Abort, calls: &[Call], count: u64) {
     is_number(rt, batches, count, "calls");
 }
 
-/// The calls of one thread, at a seat of its own.
+/// The calls of one thread, which has a seat of its own.
 fn calls_of_thread<J: Naming, R: Wait + Clock + Abort>(
     site: &Site<J, R>,
     gate: &Turnstile<R>,
@@ -122,7 +122,7 @@ fn calls_of_thread<J: Naming, R: Wait + Clock + Abort>(
     Ok(calls)
 }
 
-/// The same. When that thread is done, no other waits for it at the gate.
+/// The same. Afterwards, no other thread waits for this one at the gate.
 fn thread_calls<J: Naming, R: Wait + Clock + Abort>(
     site: &Site<J, R>,
     gate: &Turnstile<R>,
@@ -134,7 +134,7 @@ fn thread_calls<J: Naming, R: Wait + Clock + Abort>(
     calls
 }
 
-/// What all threads made, in order. The error is the first one's that failed.
+/// The calls of all threads, in order, or the error of the first one that failed.
 fn joined(alloc: Global, done: Vec<Result<Vec<Call>, Failed>>) -> Result<Vec<Call>, Failed> {
     let mut all = Vec::new(alloc);
     for one in done {

@@ -1,4 +1,4 @@
-//! Why can't a test go on? Threads hand it out, so it may be let go.
+//! Why can't a test continue? Threads return this error, so it implements `Drop`.
 
 use batch_texts::Failed as NoText;
 use shared_registry::{NoAnswer, NoEntry, NoSeat};
@@ -7,11 +7,11 @@ use std::io;
 use std::num::ParseIntError;
 use std::test::Fail;
 
-/// A test, or one of its threads, can't go on, for this reason.
+/// A test, or one of its threads, can't continue, for this reason.
 #[derive(Drop)]
 pub struct Failed(pub &'static str);
 
-/// The test's own failure.
+/// Converts the result to that of a test.
 pub fn as_fail(done: Result<(), Failed>) -> Result<(), Fail> {
     match done {
         Ok(()) => Ok(()),

@@ -1,5 +1,5 @@
-//! Is there one list of committed batches that explains all that eight threads were answered? The list is rebuilt from the places of
-//! the answers, and each answer is held against a plain book that is run through it.
+//! Is there one list of committed batches that explains all replies to eight threads? The list is rebuilt from the places of the
+//! replies, and each reply is compared with that of a plain book that runs the list.
 
 use crate::calls::{Call, calls_of_all, is_of_batch};
 use crate::failed::Failed;
@@ -21,16 +21,16 @@ use std::test::Fail;
 use std::thread::Threads;
 use std::time::Clock;
 
-/// How many random calls each of the eight threads makes, where nothing else is said.
+/// The default number of random calls of each of the eight threads.
 const CALLS: u64 = 500;
 
-/// What may become of a batch.
+/// The possible outcomes of a batch.
 const KINDS: &str = "committed repeated refused conflict answered";
 
-/// The place of a call, whether it wasn't committed there, and its index.
+/// The place of a call, whether it was not committed there, and its index.
 type Turn = (u64, bool, usize);
 
-/// The order in which the plain book runs the calls: by their places, and at each place the one first that was committed there.
+/// The order in which the plain book runs the calls: by their places, and at each place first the one that was committed there.
 fn in_order(alloc: Global, calls: &[Call]) -> Result<Vec<Turn>, Failed> {
     let mut order = Vec::new(alloc);
     for (index, call) in calls.iter().enumerate() {
@@ -41,7 +41,7 @@ fn in_order(alloc: Global, calls: &[Call]) -> Result<Vec<Turn>, Failed> {
     Ok(order)
 }
 
-/// What the plain book answers.
+/// The plain book's reply.
 fn plain_reply(book: &mut PlainBook, batch: &Batch) -> Result<Reply, Failed> {
     if batch.domain() != book.domain() {
         return Err(Failed("a batch isn't for the plain book"));
@@ -53,7 +53,7 @@ fn told_by(alloc: Global, reply: Reply) -> Result<String, Failed> {
     Ok(reply_text(alloc, &reply)?)
 }
 
-/// What the plain book answers, as text.
+/// The plain book's reply, as text.
 fn plain_text(alloc: Global, book: &mut PlainBook, text: &str) -> Result<String, Failed> {
     let batch = batch(alloc, without_tries(text))?;
     let reply = plain_reply(book, &batch);
@@ -61,8 +61,8 @@ fn plain_text(alloc: Global, book: &mut PlainBook, text: &str) -> Result<String,
     told_by(alloc, reply?)
 }
 
-/// The plain book, which has come to the call's place or is one short of it, answers as the call was answered. A conflict has no
-/// answer of the plain book.
+/// Asserts that the plain book gives the same reply as the call got; the book is at the call's place, or one before it. The plain book
+/// has no conflicts.
 fn check_call(
     rt: &impl Abort,
     alloc: Global,
@@ -79,7 +79,7 @@ fn check_call(
     Ok(())
 }
 
-/// Holds all calls against one plain book, which ends at this place.
+/// Compares all calls with one plain book, and asserts that it ends at this place.
 fn check_calls(
     rt: &impl Abort,
     alloc: Global,
@@ -97,7 +97,7 @@ fn check_calls(
     Ok(())
 }
 
-/// Batches were committed at each place up to this one, one at each.
+/// Asserts that exactly one batch was committed at each place up to this one.
 fn check_places(rt: &impl Abort, order: &[Turn], place: u64) {
     let mut last: u64 = 0;
     for (place, is_later, _) in order {
@@ -109,7 +109,7 @@ fn check_places(rt: &impl Abort, order: &[Turn], place: u64) {
     is_number(rt, last, place, "the last place");
 }
 
-/// How many calls were told so.
+/// The number of calls with this kind of reply.
 fn count_of(calls: &[Call], kind: &str) -> u64 {
     let mut count: u64 = 0;
     for call in calls {
@@ -118,7 +118,7 @@ fn count_of(calls: &[Call], kind: &str) -> u64 {
     count
 }
 
-/// How many calls were told in which way, and how often a batch of changes began.
+/// The number of calls with each kind of reply, and how often a batch of changes began.
 fn counts_text(alloc: Global, calls: &[Call], begun: u64) -> Result<String, Failed> {
     let mut text = String::new(alloc);
     for kind in KINDS.split_whitespace() {
@@ -129,7 +129,7 @@ fn counts_text(alloc: Global, calls: &[Call], begun: u64) -> Result<String, Fail
     Ok(text)
 }
 
-/// These are the counts. Where none are wanted they are printed, and none of them is 0.
+/// Asserts these counts. If none are given, prints them and asserts that none is 0.
 fn check_counts(rt: &(impl Abort + Print), counts: &str, want: &str) -> Result<(), Failed> {
     if !want.is_empty() {
         is_text(rt, counts, want, "counts");
@@ -142,8 +142,8 @@ fn check_counts(rt: &(impl Abort + Print), counts: &str, want: &str) -> Result<(
     Ok(())
 }
 
-/// One list of committed batches explains the calls: there is one for each place up to this one, and the plain book that runs them
-/// answers as calls were answered whose answers aren't known beforehand.
+/// Asserts that exactly one batch was committed at each place up to this one. For tokens and random batches, also asserts that the plain
+/// book that runs this list gives the same replies.
 fn check_list(
     rt: &impl Abort,
     alloc: Global,
@@ -159,7 +159,8 @@ fn check_list(
     }
 }
 
-/// The talk of eight threads, the first batches of which all begin before one goes on, and which one list of committed batches explains. So many calls were told in which way.
+/// Runs a talk of eight threads, and asserts that one list of committed batches explains it, and the number of calls with each kind of
+/// reply. All first batches begin before one of them goes on.
 pub fn explains<J: Naming + Send + Sync, R: Threads + Wait + Clock + Abort + Print + Sync>(
     site: &Site<J, R>,
     talk: Talk,
@@ -174,7 +175,7 @@ pub fn explains<J: Naming + Send + Sync, R: Threads + Wait + Clock + Abort + Pri
     check_counts(site.rt, counts.as_str(), want)
 }
 
-/// The number of calls is the word behind the test's name, where its program is given one.
+/// The word after the test's name, if the program gets one, is the number of calls.
 #[test]
 fn answers_of_eight_threads_are_those_of_one_list(rt: HostRuntime) -> Result<(), Fail> {
     let each = match env::args(&rt)?.nth(2) {

@@ -1,15 +1,15 @@
-//! What becomes of batches that many threads run at once?
+//! What are the outcomes of batches that many threads run concurrently?
 //!
 //! The crate has tests alone, over the public calls of `shared_registry`:
 //!
-//! - `seats`: what one seat is told, what new seats see, and a long journal, which is cut.
-//! - `overtaken`: batches that a gate, the `turnstile`, holds on their way while others commit.
-//! - `together`: eight threads that commit at once, and receipts that go round them.
-//! - `history`: many random batches by eight threads: one list of committed batches explains all answers.
+//! - `seats`: the replies to one seat, what new seats see, and a long journal, which is truncated by checkpoints.
+//! - `overtaken`: batches that a gate (test hook), the `turnstile`, holds while others commit.
+//! - `together`: eight threads that commit concurrently, and receipts that go round them.
+//! - `history`: many random batches by eight threads: one list of committed batches explains all replies.
 //!
-//! `plays` plays each test on a registry of its own, at a `site`: those of one thread or two are `scripts`, and those of eight are
-//! `talks`, of which `calls` keeps what was told. `telling` tells outcomes and seats, `wanted` has what a test wants to see,
-//! `failed` says why a test can't go on.
+//! `plays` runs each test on a registry of its own, at a `site`. Tests of one or two threads are `scripts`, and those of eight are
+//! `talks`, whose calls and replies `calls` collects. `telling` writes outcomes and seats as text, `wanted` has assertions, and `failed`
+//! says why a test can't continue.
 #![tactic(auto)]
 
 #[cfg(test)]

@@ -1,4 +1,4 @@
-//! What becomes of a batch that is held on its way while others commit?
+//! What is the outcome of a batch that is held while others commit?
 
 use crate::plays::plays;
 use std::test::Fail;
@@ -14,7 +14,7 @@ DONE => 1; conflict at 1
 1 show 1; show 2 => answered at 1; none; shown 2.0
 ";
 
-/// All tries of an update are overtaken by another one.
+/// Each try of an update is overtaken by another update.
 const ALL_TRIES: &str = "\
 NEW
 NEW
@@ -40,7 +40,7 @@ DONE => 16; conflict at 17
 1 SEAT => number 1; place 17; calls 1
 ";
 
-/// All tries but the last one are overtaken.
+/// All tries except the last one are overtaken.
 const LAST_TRY: &str = "\
 NEW
 NEW
@@ -52,7 +52,7 @@ DONE => 3; committed at 4; entry 1.3
 1 SEAT => number 1; place 4; calls 1
 ";
 
-/// A query beside a create that is held under the lock shows nothing of it. Once that is committed, it is there.
+/// A query sees nothing of a create that is held under the lock. Once that is committed, it sees it.
 const UNDER_THE_LOCK: &str = "\
 NEW
 NEW

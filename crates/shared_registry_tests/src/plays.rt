@@ -1,4 +1,4 @@
-//! What is played, at a site of its own?
+//! Runs a script or a talk, at a site of its own.
 
 ghost use Rattle.std.specs.Prelude.{◌≡◌};
 
@@ -18,11 +18,11 @@ use std::test::Fail;
 use std::thread::Threads;
 use std::time::Clock;
 
-/// What happens at a site that begins with the empty book.
+/// What to run at a site that begins with the empty book.
 #[derive(Clone, Copy)]
 enum Play<'a> {
     Script(&'a str),
-    /// A talk of eight threads, and how many calls are told in which way.
+    /// A talk of eight threads, and the expected number of calls with each kind of reply.
     Talk(Talk, &'a str),
 }
 
@@ -36,7 +36,7 @@ fn plays_on<J: Naming + Send + Sync, R: Threads + Wait + Clock + Abort + Print +
     }
 }
 
-/// Opens a site of this history and trust domain, plays there, and closes it.
+/// Opens a site with this history and trust domain, runs the play there, and closes it.
 fn plays_at<J: Naming + Send + Sync, R: Threads + Wait + Clock + Abort + Print + Sync>(
     rt: &R,
     alloc: Global,
@@ -54,7 +54,7 @@ fn plays_at<J: Naming + Send + Sync, R: Threads + Wait + Clock + Abort + Print +
     played
 }
 
-/// Plays at a site of its own.
+/// Runs a play at a site of its own.
 fn plays_anew<R: Threads + Wait + Clock + Abort + Print + Sync>(
     rt: &R,
     alloc: Global,
@@ -66,7 +66,7 @@ fn plays_anew<R: Threads + Wait + Clock + Abort + Print + Sync>(
     as_fail(played)
 }
 
-/// Plays a script.
+/// Runs a script.
 pub fn plays<R: Threads + Wait + Clock + Abort + Print + Sync>(
     rt: &R,
     alloc: Global,
@@ -75,7 +75,7 @@ pub fn plays<R: Threads + Wait + Clock + Abort + Print + Sync>(
     plays_anew(rt, alloc, Play::Script(script))
 }
 
-/// Plays a talk of eight threads, of which so many calls are told in which way.
+/// Runs a talk of eight threads, with the expected number of calls of each kind of reply.
 pub fn talks<R: Threads + Wait + Clock + Abort + Print + Sync>(
     rt: &R,
     alloc: Global,

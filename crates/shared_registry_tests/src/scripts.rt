@@ -1,11 +1,11 @@
-//! Scripts of several seats of one thread, or of two where a batch is held on its way.
+//! Scripts of several seats of one thread, or of two threads if a batch is held.
 //!
-//! `NEW` takes a seat, and `GONE` lets all go; `LEFT` says whether there is a seat more, and `KEPT` how many items are kept. A line
-//! that begins with a number is said by the seat of that number. What stands behind ` => ` is what is told.
+//! `NEW` takes a seat, and `GONE` drops all of them; `LEFT` gives whether another seat is left, and `KEPT` the number of stored items.
+//! A line that begins with a number is run by the seat of that number. The text after ` => ` is the expected answer.
 //!
-//! A script may hold a batch of the last seat, `HOLD after its begin: delete 1` or `HOLD under the lock: delete 1`. Each of the
-//! lines behind it is played when that batch came to the point once more, by another thread, before it lets that one on. Behind
-//! `DONE => ` stands how often the batch came there, and what it was told.
+//! A script may hold a batch of the last seat, `HOLD after its begin: delete 1` or `HOLD under the lock: delete 1`. Another thread runs
+//! each of the following lines after that batch has reached the point again, and then lets the batch continue. After `DONE => ` come the
+//! number of times that the batch reached the point, and the reply to it.
 
 use crate::failed::Failed;
 use crate::site::Site;
@@ -18,7 +18,7 @@ use std::sync::Wait;
 use std::thread::{Threads, join};
 use std::time::Clock;
 
-/// What is told to the seat whose number begins the line.
+/// The answer to the seat whose number begins the line.
 fn seat_answer<J: Naming, R: Wait + Clock>(
     site: &Site<J, R>,
     seats: &mut [Seat<J>],
@@ -32,7 +32,7 @@ fn seat_answer<J: Naming, R: Wait + Clock>(
     }
 }
 
-/// Takes a seat, and tells it.
+/// Takes a seat, and returns its text.
 fn takes_seat<J: Naming, R: Wait + Clock>(
     site: &Site<J, R>,
     seats: &mut Vec<Seat<J>>,
@@ -43,7 +43,7 @@ fn takes_seat<J: Naming, R: Wait + Clock>(
     Ok(told)
 }
 
-/// Is there a seat more?
+/// Whether another seat is left.
 fn seat_left<J: Naming, R: Wait + Clock>(site: &Site<J, R>) -> &'static str {
     match site.seat() {
         Ok(_) => "one",
@@ -75,7 +75,7 @@ fn question_of(line: &str) -> &str {
     line.split_once(" => ").unwrap_or((line, "")).0
 }
 
-/// This is what the line wants to be told, where it wants anything.
+/// Asserts the answer that the line expects, if it has one.
 fn check_told(rt: &impl Abort, line: &str, told: &str) {
     if let Some((question, want)) = line.split_once(" => ") {
         is_text(rt, told, want, question);
@@ -94,7 +94,7 @@ fn plays_lines<J: Naming, R: Wait + Clock + Abort>(
     Ok(())
 }
 
-/// Plays a line when the batch that is held came so often, and lets that on.
+/// Runs a line when the held batch has reached its point this many times, and then lets it continue.
 fn plays_beside<J: Naming, R: Wait + Clock + Abort>(
     site: &Site<J, R>,
     seats: &mut [Seat<J>],
@@ -125,7 +125,7 @@ fn plays_all_beside<J: Naming, R: Wait + Clock + Abort>(
     Ok(())
 }
 
-/// Plays the lines beside the batch that is held. Then it is held no longer, however that went.
+/// Runs the lines while the batch is held. Afterwards it is held no longer, whatever the result.
 fn overtakes<J: Naming, R: Wait + Clock + Abort>(
     site: &Site<J, R>,
     seats: &mut [Seat<J>],
@@ -137,7 +137,7 @@ fn overtakes<J: Naming, R: Wait + Clock + Abort>(
     played
 }
 
-/// What the batch is told that a line holds. Nothing is asserted of it here: the lines beside it may have failed.
+/// The reply to the batch that a line holds. It makes no assertions, since the concurrent lines may have failed.
 fn is_held<J: Naming, R: Wait + Clock>(
     site: &Site<J, R>,
     seat: &mut Seat<J>,
@@ -150,7 +150,7 @@ fn is_held<J: Naming, R: Wait + Clock>(
     told
 }
 
-/// What the last seat's batch is told, which the first of the lines holds; the others are played beside it.
+/// The reply to the last seat's batch, which the first of the lines holds; the other lines run concurrently.
 fn told_beside<J: Naming + Send + Sync, R: Threads + Wait + Clock + Abort + Sync>(
     site: &Site<J, R>,
     seats: &mut [Seat<J>],
@@ -178,7 +178,7 @@ fn point_of(line: &str) -> Point {
     Point::AfterBegin
 }
 
-/// How often the batch that the first line holds came to its point, and what it is told.
+/// How often the batch that the first line holds reached its point, and the reply to it.
 fn plays_held<J: Naming + Send + Sync, R: Threads + Wait + Clock + Abort + Sync>(
     site: &Site<J, R>,
     seats: &mut Vec<Seat<J>>,
@@ -191,7 +191,7 @@ fn plays_held<J: Naming + Send + Sync, R: Threads + Wait + Clock + Abort + Sync>
     Ok(format!(in site.alloc; "{passes}; {told}")?)
 }
 
-/// Plays a script.
+/// Runs a script.
 pub fn plays_script<J: Naming + Send + Sync, R: Threads + Wait + Clock + Abort + Sync>(
     site: &Site<J, R>,
     script: &str,

@@ -1,9 +1,9 @@
-//! What does a seat see, how many seats are there, and how many items are kept of a long journal?
+//! What does a seat see, how many seats are there, and how many items of a long journal are stored?
 
 use crate::plays::plays;
 use std::test::Fail;
 
-/// Each outcome and each answer that one seat alone can have.
+/// Each outcome and each reply that one seat alone can have.
 const ONE_SEAT: &str = "\
 NEW => number 0; place 0; calls 0
 0 token 7; create 1 n1 /web u:1 0 => committed at 1; entry 1.0
@@ -18,9 +18,9 @@ NEW => number 0; place 0; calls 0
 KEPT => 2
 ";
 
-/// Seats that were there before a commit see it, whichever way each comes to it: seat 0 asks, seat 1 hears of it and tells others,
-/// and seat 2 has learnt of it, which makes it see nothing before its query. Seat 3 has learnt of it, and hears of it, too. Two more are
-/// taken behind it: seat 5 asks, and seat 6 hears of it.
+/// Seats that existed before a commit see it, in each way in which they can be informed: seat 0 queries; seat 1 obtains a receipt and
+/// sends it on; seat 2 learns that receipt, which changes what it sees only at its next query; seat 3 learns it, and obtains one too.
+/// Two more seats are taken after the commit: seat 5 queries, and seat 6 obtains a receipt.
 const NEW_SEATS: &str = "\
 NEW
 NEW
@@ -52,7 +52,7 @@ NEW => number 6; place 0; calls 0
 6 SEAT => number 6; place 1; calls 0
 ";
 
-/// A seat has found its own commits, and those of others before them.
+/// A seat has seen its own commits, and those of others before them.
 const OWN_COMMITS: &str = "\
 NEW
 NEW
@@ -64,7 +64,7 @@ NEW
 1 FOUND show 1; show 3 AFTER delete 1 => answered at 4; none; shown 3.0
 ";
 
-/// All seats of a registry, and one more, which isn't there after they are gone, either.
+/// All seats of a registry, and one more, which is refused, and still is after the others are dropped.
 const ALL_SEATS: &str = "\
 NEW => number 0; place 0; calls 0
 NEW => number 1; place 0; calls 0
@@ -103,7 +103,7 @@ GONE
 LEFT => none
 ";
 
-/// A commit that finds 4,096 items kept drops all but the last 64 first.
+/// A commit that finds 4,096 stored items first drops all but the last 64.
 const CHECKPOINT: &str = "\
 NEW
 0 TIMES 4096 set_agent n1 x:1 => committed at 4096; agent n1 1

@@ -18,17 +18,17 @@ use std::sync::{Mutex, Wait};
 use std::thread;
 use std::time::{Clock, Duration};
 
-/// What one seat sends to another: a receipt, and how far it had then seen.
+/// What one seat sends to another: a receipt, and the place up to which it had then seen.
 #[derive(Drop)]
 struct Letter<J: Naming> {
     receipt: Receipt<J>,
     place: u64,
 }
 
-/// The letters that wait for one seat.
+/// The letters for one seat.
 type Mailbox<J> = Mutex<VecDeque<Letter<J>>>;
 
-/// A mailbox for each of as many seats as there are threads.
+/// One mailbox for each thread.
 fn mailboxes<J: Naming>(alloc: Global) -> Result<Vec<Mailbox<J>>, Failed> {
     let mut mailboxes = Vec::new(alloc);
     for _ in 0..THREADS {
@@ -37,7 +37,7 @@ fn mailboxes<J: Naming>(alloc: Global) -> Result<Vec<Mailbox<J>>, Failed> {
     Ok(mailboxes)
 }
 
-/// How many tries a batch has, which may stand before it, as in `tries 16; delete 1`.
+/// The number of tries of a batch, which may come before it, as in `tries 16; delete 1`; 1 by default.
 fn tries_of(text: &str) -> Result<u32, Failed> {
     let Some(rest) = text.strip_prefix("tries ") else {
         return Ok(1);
@@ -46,7 +46,7 @@ fn tries_of(text: &str) -> Result<u32, Failed> {
     Ok(tries.parse::<u32>()?)
 }
 
-/// The text of the batch, behind its tries.
+/// The text of the batch, after its tries.
 pub fn without_tries(text: &str) -> &str {
     if !text.starts_with("tries ") {
         return text;
@@ -54,8 +54,7 @@ pub fn without_tries(text: &str) -> &str {
     text.split_once("; ").unwrap_or((text, "")).1
 }
 
-/// The answer to a query, with rows that the seat lends, or with rows of its own, at each other call. There is nothing here to wait
-/// with.
+/// The reply to a query, alternately with borrowed and with owned rows from call to call. It has no `Wait` handle.
 fn query<J: Naming>(
     registry: &Registry<J>,
     alloc: Global,
@@ -80,7 +79,7 @@ fn query<J: Naming>(
     Ok(reply?)
 }
 
-/// Commits a batch of changes, and returns the answer to a query on what the seat has then found, without a look.
+/// Commits a batch of changes, and returns the reply to a query on what the seat has then seen, without looking for news.
 fn query_after<J: Naming, R: Wait>(
     rt: &R,
     registry: &Registry<J>,
@@ -110,12 +109,12 @@ fn query_after<J: Naming, R: Wait>(
     }
 }
 
-/// Learns a receipt. There is nothing here to wait with, either.
+/// Learns a receipt. It has no `Wait` handle, either.
 fn learn<J: Naming>(seat: &mut Seat<J>, receipt: &Receipt<J>) {
     seat.learn(receipt);
 }
 
-/// A registry, its trust domain, and the mailboxes of its seats, with what threads run it by.
+/// A registry, its trust domain, and the mailboxes of its seats, with what threads need to use it.
 pub struct Site<'a, J: Naming, R: Wait + Clock> {
     pub rt: &'a R,
     pub alloc: Global,
@@ -128,7 +127,7 @@ pub struct Site<'a, J: Naming, R: Wait + Clock> {
 impl<'a, J: Naming, R: Wait + Clock> Site<'a, J, R> {
     ghost use Rattle.std.specs.Prelude.{◌≡◌};
 
-    /// A site of this history and trust domain, which is told twice.
+    /// A site with this history and trust domain, which is passed twice.
     pub fn open(
         rt: &'a R,
         alloc: Global,
@@ -170,25 +169,25 @@ impl<'a, J: Naming, R: Wait + Clock> Site<'a, J, R> {
         Ok(self.registry.seat(self.rt)?)
     }
 
-    /// How many items are kept.
+    /// The number of stored items.
     pub fn kept(&self) -> u64 {
         self.registry.kept(self.rt)
     }
 
-    /// The last place, as a new seat hears of it.
+    /// The last place, as a new seat is informed of it.
     pub fn place(&self) -> Result<u64, Failed> {
         let mut seat = self.seat()?;
         self.registry.news(self.rt, &mut seat)?;
         Ok(seat.place())
     }
 
-    /// The answer to a query, as text.
+    /// The reply to a query, as text.
     fn asks(&self, seat: &mut Seat<J>, batch: Batch) -> Result<String, Failed> {
         let reply = query(&self.registry, self.alloc, &self.domain, seat, batch)?;
         Ok(reply_text(self.alloc, &reply)?)
     }
 
-    /// What becomes of a batch of changes, as text.
+    /// The outcome of a batch of changes, as text.
     fn does<G: Gate>(
         &self,
         seat: &mut Seat<J>,
@@ -203,7 +202,7 @@ impl<'a, J: Naming, R: Wait + Clock> Site<'a, J, R> {
         outcome_text(self.alloc, &outcome)
     }
 
-    /// What becomes of the batch that a text tells, with its tries.
+    /// The outcome of the batch of a text, with its tries.
     fn runs<G: Gate>(&self, seat: &mut Seat<J>, gate: &G, text: &str) -> Result<String, Failed> {
         let tries = tries_of(text)?;
         let batch = batch(self.alloc, without_tries(text))?;
@@ -213,7 +212,7 @@ impl<'a, J: Naming, R: Wait + Clock> Site<'a, J, R> {
         self.does(seat, gate, batch, tries)
     }
 
-    /// The answer to a query, without a look, after the changes that stand behind it are committed, as in `show 1 AFTER delete 2`.
+    /// The reply to a query, without looking for news, after committing the changes that follow it, as in `show 1 AFTER delete 2`.
     fn asks_after(&self, seat: &mut Seat<J>, text: &str) -> Result<String, Failed> {
         let (query, changes) = text.split_once(" AFTER ").unwrap_or((text, ""));
         let (query, changes) = (batch(self.alloc, query)?, batch(self.alloc, changes)?);
@@ -229,7 +228,7 @@ impl<'a, J: Naming, R: Wait + Clock> Site<'a, J, R> {
         Ok(reply_text(self.alloc, &reply)?)
     }
 
-    /// What becomes of the last of so many batches.
+    /// The outcome of the last of the given number of equal batches.
     fn runs_often(
         &self,
         seat: &mut Seat<J>,
@@ -251,7 +250,7 @@ impl<'a, J: Naming, R: Wait + Clock> Site<'a, J, R> {
         Ok(())
     }
 
-    /// Sends a receipt of all that was committed to a mailbox, and says how far the seat has then seen.
+    /// Sends a receipt of all commits to a mailbox, and returns the place up to which the seat has then seen.
     fn sends(&self, seat: &mut Seat<J>, to: &str) -> Result<String, Failed> {
         let to = to.parse::<u64>()?;
         let receipt = self.registry.news(self.rt, seat)?;
@@ -275,7 +274,7 @@ impl<'a, J: Naming, R: Wait + Clock> Site<'a, J, R> {
         Err(Failed("no letter came, as where there is no memory for a thread"))
     }
 
-    /// Learns a letter's receipt, and says what its place is.
+    /// Learns a letter's receipt, and returns its place.
     fn takes(&self, seat: &mut Seat<J>, number: u64) -> Result<String, Failed> {
         let letter = self.letter(number)?;
         let place = letter.place;
@@ -284,9 +283,9 @@ impl<'a, J: Naming, R: Wait + Clock> Site<'a, J, R> {
         Ok(placed(self.alloc, "taken", place)?)
     }
 
-    /// What is told to a seat, with the mailbox of a number, that says a line: `SEND 2` sends a receipt to mailbox 2, `TAKE` waits
-    /// for a letter and learns its receipt, `SEAT` tells the seat, `TIMES 3` runs the batch behind it so often, `FOUND show 1 AFTER
-    /// delete 2` commits the changes and queries without a look; other lines run a batch, whose changes pass the gate.
+    /// The answer to a seat, with the mailbox of a number, that runs a line. `SEND 2` sends a receipt to mailbox 2, `TAKE` waits for a
+    /// letter and learns its receipt, `SEAT` describes the seat, `TIMES 3` runs the following batch that often, and `FOUND show 1 AFTER
+    /// delete 2` commits the changes and queries without looking for news. Any other line runs a batch, whose changes pass the gate.
     pub fn answer<G: Gate>(
         &self,
         seat: &mut Seat<J>,

@@ -1,9 +1,9 @@
-//! What does each of eight threads say, line by line?
+//! What does each of eight threads run, line by line?
 
 use crate::failed::Failed;
 use std::alloc::Global;
 
-/// So many threads talk.
+/// The number of threads.
 pub const THREADS: u64 = 8;
 
 const ROUNDS: u64 = 20;
@@ -11,14 +11,14 @@ const ROUNDS: u64 = 20;
 /// What the threads do.
 #[derive(Clone, Copy)]
 pub enum Talk {
-    /// Each creates a hundred entries, and asks for each of them, in both ways in which a site asks.
+    /// Each creates a hundred entries, and queries each of them, in both ways in which a site queries.
     Creates,
-    /// All hand in the same batch with a token, with tries to spare.
+    /// All submit the same batch with a token, with more tries than needed.
     Token,
-    /// They stand in a ring. In each round each of them creates an entry, sends a receipt to the next one, learns the one that it
-    /// gets, and asks for all entries of which that one tells.
+    /// The threads form a ring. In each round, each of them creates an entry, sends a receipt to the next one, learns the one that it
+    /// gets, and queries all entries that its sender knew of.
     Ring,
-    /// Each draws so many random batches.
+    /// Each runs this many random batches.
     Draws(u64),
 }
 
@@ -27,7 +27,7 @@ const CREATE: &str = "create # n# /web u:# 0 => entry #.0\n";
 
 const SHOW: &str = "show # => shown #.0\n";
 
-/// Of two calls that follow one another one is answered with rows that are lent, and the other with rows of its own.
+/// Of two consecutive queries, one is answered with borrowed rows, and the other with owned rows.
 const SHOW_TWICE: &str = "show # => shown #.0\nshow # => shown #.0\n";
 
 /// Sends a letter to a thread, and takes one.
@@ -37,7 +37,7 @@ const TOKEN: &str = "\
 tries 16; token 7; set_agent n1 x:1; create 1 n1 /web u:1 0 => agent n1 1; entry 1.0
 ";
 
-/// Adds a text in which `#` stands for the number.
+/// Appends a text in which `#` is replaced by the number.
 fn add(alloc: Global, lines: &mut String, text: &str, number: u64) -> Result<(), Failed> {
     let number = format!(in alloc; "{number}")?;
     let text = text.replace(alloc, "#", number.as_str())?;
@@ -64,13 +64,13 @@ fn entry_of(round: u64, thread: u64) -> u64 {
         .wrapping_add(1)
 }
 
-/// The thread that stands so many places before this one, at most as many as there are.
+/// The thread this many positions before this one in the ring; at most the number of threads.
 fn before(thread: u64, count: u64) -> u64 {
     thread.wrapping_add(THREADS).wrapping_sub(count) % THREADS
 }
 
-/// Asks for the entries of which the letter of a round tells, all the way round the ring: the one that its sender created in that
-/// round, the one that the thread before created in the round before, and so on.
+/// Queries the entries of which the letter of a round informs, all the way round the ring: the one that its sender created in that
+/// round, the one that the thread before it created in the round before, and so on.
 fn add_shows(alloc: Global, lines: &mut String, thread: u64, round: u64) -> Result<(), Failed> {
     for back in 0..THREADS {
         if back <= round {
@@ -100,8 +100,8 @@ fn draws(alloc: Global, count: u64) -> Result<String, Failed> {
     Ok(lines)
 }
 
-/// The lines of one thread: `DRAW` stands for a random batch. What is told besides what becomes of a batch, and at which place,
-/// stands behind ` => ` where it is known.
+/// The lines of one thread; `DRAW` means a random batch. The text after ` => `, if the replies are known, has the replies to the
+/// operations, without the outcome and its place.
 pub fn lines_of(alloc: Global, talk: Talk, thread: u64) -> Result<String, Failed> {
     match talk {
         Talk::Creates => creates(alloc, thread),

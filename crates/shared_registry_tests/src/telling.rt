@@ -1,12 +1,12 @@
-//! What became of batches, and what a seat is, told as text; and what such a text tells.
+//! The outcomes of batches, and the state of a seat, as text; and parts of such texts.
 
 use crate::failed::Failed;
 use batch_texts::{placed, reply_text};
 use shared_registry::{Naming, Outcome, Seat};
 use std::alloc::Global;
 
-/// What became of a batch of changes, or `conflict`, each with its place. Where memory was wanting or the seat wasn't let in,
-/// the test can't go on.
+/// The outcome of a batch of changes, or `conflict`, each with its place. If memory ran out or the seat was not admitted, the test can't
+/// continue.
 pub fn outcome_text(alloc: Global, outcome: &Outcome) -> Result<String, Failed> {
     match outcome {
         Outcome::Committed(reply) | Outcome::Repeated(reply) | Outcome::Refused(reply) => {
@@ -18,19 +18,19 @@ pub fn outcome_text(alloc: Global, outcome: &Outcome) -> Result<String, Failed> 
     }
 }
 
-/// A seat's number, how far it has seen, and how many calls it made; `at most` where it may make no more.
+/// A seat's number, the place up to which it has seen, and its number of calls; `at most` if it may make no more.
 pub fn seat_text<J: Naming>(alloc: Global, seat: &Seat<J>) -> Result<String, Failed> {
     let (number, place, calls) = (seat.number(), seat.place(), seat.calls());
     let most = if seat.has_calls() { "" } else { " at most" };
     Ok(format!(in alloc; "number {number}; place {place}; calls {calls}{most}")?)
 }
 
-/// The first word of what a call was told.
+/// The first word of a reply.
 pub fn kind_of(told: &str) -> &str {
     told.split_once(" ").unwrap_or((told, "")).0
 }
 
-/// The place at which a call was told so.
+/// The place of a reply.
 pub fn place_of(told: &str) -> Result<u64, Failed> {
     let (head, _) = told.split_once("; ").unwrap_or((told, ""));
     let (_, place) = head.split_once(" at ").unwrap_or((head, ""));

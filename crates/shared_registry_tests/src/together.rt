@@ -1,4 +1,4 @@
-//! What are eight threads told that commit at once?
+//! What replies do eight threads get that commit concurrently?
 
 use crate::plays::talks;
 use crate::talks::Talk;
@@ -10,14 +10,14 @@ fn creates_of_eight_threads_are_all_committed_and_seen(rt: HostRuntime) -> Resul
     talks(&rt, rt.alloc(), Talk::Creates, counts)
 }
 
-/// All have begun before one commits, so seven of them begin again.
+/// All begin before one commits, so seven of them begin again.
 #[test]
 fn a_token_of_many_threads_commits_once(rt: HostRuntime) -> Result<(), Fail> {
     let counts = "committed 1; repeated 7; refused 0; conflict 0; answered 0; begun 15";
     talks(&rt, rt.alloc(), Talk::Token, counts)
 }
 
-/// Receipts that go round a ring of eight threads.
+/// Receipts go round a ring of eight threads.
 #[test]
 fn a_query_shows_all_that_receipts_told(rt: HostRuntime) -> Result<(), Fail> {
     let counts = "committed 160; repeated 0; refused 0; conflict 0; answered 1056; begun 160";

@@ -1,4 +1,4 @@
-//! A gate that holds batches of changes on their way, each for ten seconds and some at most.
+//! A gate (test hook) that holds batches of changes, or some of them, for at most ten seconds each.
 
 use crate::failed::Failed;
 use shared_registry::{Gate, Point};
@@ -6,11 +6,11 @@ use std::sync::atomic::{AtomicBool, AtomicU64, Ordering};
 use std::thread;
 use std::time::{Clock, Duration};
 
-/// How often a thread looks before it gives up, a millisecond apart.
+/// How often a thread checks before it gives up, at intervals of a millisecond.
 pub const TURNS: u64 = 10_000;
 
-/// Holds the batches of the seats from one number on, at one point: each that comes there waits until as many were let on. Where as
-/// many came as are to meet there, all are let on.
+/// Holds the batches of the seats from one number on, at one point: each waits there until as many as have come were let on. Once a
+/// given number has come, all are let on.
 #[derive(Drop)]
 pub struct Turnstile<'a, R: Clock> {
     rt: &'a R,
@@ -37,7 +37,7 @@ impl<'a, R: Clock> Turnstile<'a, R> {
         }
     }
 
-    /// Waits until so many came, or no more will come, and says whether they did.
+    /// Waits until this many have come, or no more will come. Returns true if they have.
     pub fn holds(&self, count: u64) -> bool {
         for _ in 0..TURNS {
             let left = self.left.load(Ordering::SeqCst);
@@ -52,7 +52,7 @@ impl<'a, R: Clock> Turnstile<'a, R> {
         false
     }
 
-    /// Waits until so many were let on, and says whether they were.
+    /// Waits until this many are let on. Returns true if they are.
     fn is_let_on(&self, count: u64) -> bool {
         for _ in 0..TURNS {
             if self.let_on.load(Ordering::SeqCst) >= count {
@@ -63,22 +63,22 @@ impl<'a, R: Clock> Turnstile<'a, R> {
         false
     }
 
-    /// No more will come.
+    /// No more batches will come.
     pub fn leaves(&self) {
         self.left.store(true, Ordering::SeqCst);
     }
 
-    /// Lets as many on in all.
+    /// Lets this many on in all.
     pub fn lets_on(&self, count: u64) {
         self.let_on.store(count, Ordering::SeqCst);
     }
 
-    /// Holds nobody any longer.
+    /// Lets all batches on.
     pub fn opens(&self) {
         self.lets_on(u64::MAX);
     }
 
-    /// How many came. It is an error that one went on without leave, since it had waited too long.
+    /// Returns how many came, or an error if one went on because it had waited too long.
     pub fn passes(&self) -> Result<u64, Failed> {
         if self.gave_up.load(Ordering::SeqCst) {
             return Err(Failed("no leave came, as where there is no memory for a thread"));

@@ -1,5 +1,5 @@
 use Rattle.shared_registry_tests.proofs.plays.plays_anew.Given as goal
 
--- the history that was just opened, and its trust domain
+-- the newly opened history, and its trust domain
 abbrev pub ghosts-plays_at : goal.ghosts-plays_at
 ghosts-plays_at g a = record { history = a.opened.seen.book; domain = a.domain }
