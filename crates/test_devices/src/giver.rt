@@ -8,18 +8,18 @@ use std::io::Read;
 /// A reader over memory.
 #[derive(Drop)]
 pub struct Giver<'a> {
-    /// What it has not given yet.
+    /// The bytes that it hasn't returned yet.
     pub rest: &'a [u8],
-    /// How many calls were made.
+    /// The number of calls.
     pub calls: u64,
-    /// Whether the last call that succeeded answered that nothing is left.
+    /// Whether the last successful call returned 0 bytes.
     pub has_ended: bool,
     pace: Pace,
     trouble: Trouble,
 }
 
 impl<'a> Giver<'a> {
-    /// A reader that gives these bytes and was not called yet.
+    /// A reader of these bytes that hasn't been called yet.
     pub fn new(rest: &'a [u8], pace: Pace, trouble: Trouble) -> Giver<'a> {
         Giver {
             rest,

@@ -1,10 +1,10 @@
-//! Which readers and writers do tests run on? This crate is for tests alone.
+//! Readers and writers over memory for tests. This crate is for tests alone.
 //!
-//! Both work over memory, at a [`Pace`] that says how much they move in a call, and with a [`Trouble`]: they fail, or are
-//! interrupted, at the call of a given number.
+//! Both have a [`Pace`], which says how much they move in a call, and a [`Trouble`]: they fail, or are interrupted, at the
+//! call of a given number.
 //!
-//! - `giver`: a [`Giver`] is a reader. It tells what it has not given yet, and how often it was called.
-//! - `taker`: a [`Taker`] is a writer. It tells what it was given, and how often it was called and flushed.
+//! - `giver`: a [`Giver`] is a reader. It shows which bytes it hasn't returned yet, and how often it was called.
+//! - `taker`: a [`Taker`] is a writer. It shows the bytes that it got, and how often it was called and flushed.
 //! - `pace` and `trouble`: what the two have in common.
 #![tactic(auto)]
 

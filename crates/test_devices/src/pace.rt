@@ -5,19 +5,19 @@ ghost use Rattle.std.specs.Prelude.{◌≡◌, ◌≤◌, ℕ, length, take};
 /// How much of its bytes a device moves in a call.
 #[derive(Clone, Copy, Debug)]
 pub enum Pace {
-    /// As much as there is room for.
+    /// As much as the caller has room for or offers.
     All,
-    /// No more than to the end of a line.
+    /// At most up to the end of a line.
     Line,
     /// One byte.
     Byte,
 }
 
 impl Pace {
-    /// Each pace once.
+    /// All paces.
     pub const EACH: [Pace; 3] = [Pace::All, Pace::Line, Pace::Byte];
 
-    /// The bytes that are moved, of those that there are.
+    /// Returns the prefix of the bytes that a call moves.
     pub(crate) fn front(self, bytes: &[u8]) -> &[u8]
         ensures { (k : ℕ) × (k ≤ length bytes.now) × (result.now ≡ take k bytes.now) }
     {

@@ -9,18 +9,18 @@ use std::io::Write;
 /// A writer to memory.
 #[derive(Drop)]
 pub struct Taker {
-    /// What it was given.
+    /// The bytes that it got.
     pub bytes: Vec<u8>,
-    /// How many calls were made, flushes among them.
+    /// The number of calls, including flushes.
     pub calls: u64,
-    /// How many of the calls were flushes.
+    /// The number of flushes.
     pub flushes: u64,
     pace: Pace,
     trouble: Trouble,
 }
 
 impl Taker {
-    /// A writer that has no bytes and was not called yet.
+    /// A writer without bytes that hasn't been called yet.
     pub fn new(alloc: Global, pace: Pace, trouble: Trouble) -> Taker {
         Taker {
             bytes: Vec::new(alloc),

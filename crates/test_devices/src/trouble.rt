@@ -1,9 +1,9 @@
-//! At which of its calls does a device fail?
+//! Which call of a device fails?
 
 use std::io;
 use std::io::ErrorKind;
 
-/// What happens at the call of a number, counted from 1: it fails or is interrupted.
+/// A failure or an interruption of the call with a given number, counted from 1.
 #[derive(Clone, Copy, Debug)]
 pub struct Trouble {
     failing: u64,
@@ -33,7 +33,7 @@ impl Trouble {
         }
     }
 
-    /// What becomes of the call of this number.
+    /// Returns the error of the call of this number, if it has one.
     pub(crate) fn meet(self, call: u64) -> io::Result<()> {
         if call == self.failing {
             return Err(io::Error::from(ErrorKind::Other));
