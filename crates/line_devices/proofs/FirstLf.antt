@@ -31,7 +31,7 @@ whole_at bytes at some =
     let p = position-Some (λ b. b == 10) bytes at 0 some in
     (omega (arith, p.0), (take at bytes, no_lf_before bytes at (λ k d h. (position-Some (λ b. b == 10) bytes at d some).2 k h), take_more bytes at 0 p.0 ∙ ap (λ b. take at bytes ++ b ∷ []) (is_ten _ p.1)))
 
--- it is found where there is one
+-- it is found if there is one
 pub found_if_any : (bytes : List ℕ) (first : Option ℕ) → first ≡ position (λ b. b == 10) bytes → is_some first ≡ has_lf bytes
 found_if_any bytes None e = sym (no_lf bytes (sym e))
 found_if_any bytes (Some at) e =

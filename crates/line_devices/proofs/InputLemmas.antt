@@ -1,4 +1,4 @@
--- A line that has come in part.
+-- A line that was read in part.
 use Rattle.std.proofs.Common.{◌≡◌, ◌||◌, ◌<◌, not, lit<, ℕ, zero, suc, Bool, true, false, ◌==◌, cond, List, [], ◌∷◌, ◌++◌, take, Option, None, Some, refl, sym, ap, ◌∙◌, append_assoc, append-nil, arith}
 use Rattle.std.specs.Prelude.{MatchBool, IsTrue, ◌↔◌, ⊤}
 use Rattle.std.proofs.lemmas.Bool.{false≢true}
@@ -6,7 +6,7 @@ use Rattle.std.proofs.lemmas.List.Folds.{list_any-append}
 use Rattle.std.specs.Io.KnownBytes.{Consumes, IsAtEnd, Keeps, prepend_known}
 use Rattle.line_devices.specs.Lines.{onto_line, lines_of, has_lf, kept, kept_bytes, MovesLine, TakesLine}
 
--- of the first line seen has come
+-- a part of the first line without its LF was read, and `line` is what is kept of it
 abbrev pub IsBegun : Option (List ℕ) → Option (List ℕ) → List ℕ → Type 0
 IsBegun None new line = ⊤
 IsBegun (Some xs) None line = ⊥
@@ -62,7 +62,7 @@ pub IsBegun-start : (a : Option (List ℕ)) (line : List ℕ) → line ≡ [] �
 IsBegun-start None line e = tt
 IsBegun-start (Some xs) line e = ([], refl, refl, e ∙ sym (take_nil kept_bytes))
 
--- all that was held went into the line
+-- everything that was buffered went into the line
 pub IsBegun-moved : (a b : Option (List ℕ)) (held mid line new : List ℕ) → IsBegun a (prepend_known held b) line → MovesLine held mid line new false → IsBegun a b new
 IsBegun-moved None b held mid line new p m = tt
 IsBegun-moved (Some xs) None held mid line new p m = absurd p
@@ -70,14 +70,14 @@ IsBegun-moved (Some xs) (Some z) held mid line new p m =
     let all : held ≡ m.0 = m.1 ∙ (ap (λ l. m.0 ++ l) m.3.1 ∙ append-nil m.0) in
     (p.0 ++ m.0, no_lf-append p.0 m.0 p.1 m.3.0, p.2 ∙ (ap (λ l. p.0 ++ (l ++ z)) all ∙ sym (append_assoc p.0 m.0 z)), kept_more line p.0 m.0 new p.3 m.2)
 
--- more bytes came
+-- more bytes were read
 pub IsBegun-filled : (a b c : Option (List ℕ)) (held line : List ℕ) → IsBegun a b line → Consumes b c held → IsBegun a (prepend_known held c) line
 IsBegun-filled None b c held line p q = tt
 IsBegun-filled (Some xs) None c held line p q = absurd p
 IsBegun-filled (Some xs) (Some y) None held line p q = absurd q
 IsBegun-filled (Some xs) (Some y) (Some z) held line p q = (p.0, p.1, p.2 ∙ ap (λ l. p.0 ++ l) q, p.3)
 
--- its LF came
+-- its LF was read
 pub TakesLine-whole : (a b : Option (List ℕ)) (held mid line new : List ℕ) → IsBegun a (prepend_known held b) line → MovesLine held mid line new true → TakesLine a (prepend_known mid b) new
 TakesLine-whole None b held mid line new p m = tt
 TakesLine-whole (Some xs) None held mid line new p m = absurd p
@@ -99,7 +99,7 @@ TakesLine-end None b line true p q empty = (tt, q)
 TakesLine-end (Some xs) None line is_empty p q empty = absurd p
 TakesLine-end (Some xs) (Some y) line is_empty p q empty = ended xs y line p.0 is_empty p.1 p.2 p.3 q empty
 
--- what came is lost
+-- what was read is lost
 pub IsBegun-lost : (a b : Option (List ℕ)) (line : List ℕ) → IsBegun a b line → (lost : List ℕ) × (has_lf lost ≡ false) × Consumes a b lost
 IsBegun-lost None b line p = ([], refl, tt)
 IsBegun-lost (Some xs) None line p = absurd p

@@ -1,4 +1,4 @@
--- Lines that come part by part.
+-- Lines that are read part by part.
 use Rattle.std.proofs.Common.{◌≡◌, ◌+◌, ◌-◌, ◌≤◌, ℕ, List, ◌++◌, length, take, arith, ap, sym, refl, ◌∙◌}
 use Rattle.line_devices.specs.Lines.{kept, kept_bytes}
 use Rattle.std.proofs.Math.Seq.{take-append-add}

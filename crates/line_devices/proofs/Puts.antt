@@ -20,7 +20,7 @@ above_zero n h e = omega arith
 moved : (a b c : Option (List ℕ)) (t : List ℕ) → AppendsFront a b t → c ≡ b → AppendsFront a c t
 moved a b c t f e = (f.0, f.1, f.2, (let P : Option (List ℕ) → Type 0 = λ x. Appends a x f.0 in subst P (sym e) f.3))
 
--- what was held and put goes on as what was sent, held then, and put then
+-- what was buffered, put and put again is what was sent, followed by what is buffered
 joined : (held text mid sent more rest sent2 : List ℕ) → held ++ text ≡ sent ++ mid → mid ++ more ≡ sent2 ++ rest → held ++ (text ++ more) ≡ (sent ++ sent2) ++ rest
 joined held text mid sent more rest sent2 e f =
     sym (append_assoc held text more) ∙ (ap (λ l. l ++ more) e ∙ (append_assoc sent mid more ∙ (ap (λ l. sent ++ l) f ∙ sym (append_assoc sent sent2 rest))))
@@ -56,19 +56,19 @@ Appends-kept_nil None b k = tt
 Appends-kept_nil (Some x) None k = absurd k
 Appends-kept_nil (Some x) (Some y) k = k ∙ sym (append-nil x)
 
--- the text is held behind what was held
+-- the text is appended to the buffer
 pub Puts-held : (a b : OutputState) (text : List ℕ) → a.failures ≡ 0 → b ≡ record a { held = a.held ++ text } → Puts a b text
 Puts-held a b text f e =
     let same : b.written ≡ a.written = ap (λ o. o.written) e in
     let P : Option (List ℕ) → Type 0 = λ w. Appends a.written w [] in
     whole f (ap (λ o. o.failures) e ∙ f) [] (subst P (sym same) (Appends-nil a.written)) (sym (ap (λ o. o.held) e))
 
--- what was held and the text went to the sink, or a beginning of them
+-- what was buffered and the text went to the sink, or a prefix of them did
 pub Puts-sent : {T E : Type 0} (a b : OutputState) (text sent : List ℕ) (r : Result T E) → a.failures ≡ 0 → b.failures ≡ (if is_ok r then 0 else 1) → a.held ++ text ≡ sent → b.held ≡ [] → SendsAll a.written b.written sent r → Puts a b text
 Puts-sent a b text sent (Ok x) f g e h s = whole f g sent s (e ∙ (sym (append-nil sent) ∙ ap (λ l. sent ++ l) (sym h)))
 Puts-sent a b text sent (Err x) f g e h s = cut f g (front_of _ _ _ _ (sym e) s)
 
--- the device handed on what it had
+-- the device passed on what it had
 pub Puts-handed : {T E : Type 0} (a b : OutputState) (r : Result T E) → a.failures ≡ 0 → b.failures ≡ (if is_ok r then 0 else 1) → b.held ≡ a.held → Keeps a.written b.written → Puts a b []
 Puts-handed a b (Ok x) f g h k = whole f g [] (Appends-kept_nil a.written b.written k) (append-nil a.held ∙ sym h)
 Puts-handed a b (Err x) f g h k = cut f g ([], a.held ++ [], refl, Appends-kept_nil a.written b.written k)

@@ -1,4 +1,4 @@
--- A part of a buffer whose front is taken.
+-- A part of a buffer whose first bytes are taken.
 use Rattle.std.proofs.Common.{◌≡◌, ◌+◌, ◌-◌, ◌≤◌, ℕ, List, ◌++◌, length, take, drop, arith, ap, sym, ◌∙◌}
 use Rattle.std.specs.Prelude.{slice_range}
 use Rattle.std.proofs.lemmas.List.{take-append-drop, drop-take, drop-drop, length-take}

@@ -1,4 +1,4 @@
--- A run on its way.
+-- Lemmas about a run in progress.
 use Rattle.std.proofs.Common.{◌≡◌, ◌+◌, ◌≤◌, ◌<◌, ℕ, List, [], ◌∷◌, ◌++◌, take, drop, length, Option, None, Some, false, refl, sym, ap, ◌∙◌, append_assoc, append-nil, arith, subst, length-append, inl}
 use Rattle.std.specs.Prelude.{⊤, IfSome}
 use Rattle.std.specs.Io.KnownBytes.{Appends, Consumes, IsAtEnd}
@@ -17,7 +17,7 @@ IsRun-push {State} step first mid last [] line text reply r s =
 IsRun-push step first mid last (l ∷ lines) line text reply r s =
     (r.0, r.1, r.2 ++ reply, r.3, ap (λ t. t ++ reply) r.4 ∙ append_assoc r.1 r.2 reply, IsRun-push step r.0 mid last lines line r.2 reply r.5 s)
 
--- Of the lines that were left at first, some are answered: as many as count says. The text of their replies is put.
+-- Of the lines that were left at first, `count` lines are answered. The text of their replies is put.
 pub record IsOnTheWay {State : Type 0} (step : State → List ℕ → State → List ℕ → Type 0) (first : State) (all left : List ℕ) (start now : OutputState) (count : ℕ) (last : State) : Type 0 where
   pub done : List (List ℕ)
   pub text : List ℕ
@@ -26,7 +26,7 @@ pub record IsOnTheWay {State : Type 0} (step : State → List ℕ → State → 
   pub run : IsRun step first done last text
   pub put : Puts start now text
 
--- the same of known bytes
+-- the same for known bytes
 abbrev pub RunsFrom : {State : Type 0} → (State → List ℕ → State → List ℕ → Type 0) → State → Option (List ℕ) → Option (List ℕ) → OutputState → OutputState → ℕ → State → Type 0
 RunsFrom step first None left start now count last = ⊤
 RunsFrom step first (Some xs) None start now count last = ⊥
@@ -72,7 +72,7 @@ RunsFrom-more step first (Some xs) (Some ys) (Some zs) start now then count last
 above_zero : (n : ℕ) → 0 < n → n ≡ 0 → ⊥
 above_zero n h e = omega arith
 
--- what was put is what the sink has, or a beginning
+-- what was put has reached the sink, or a prefix of it has
 pub front_put : (a b : OutputState) (text : List ℕ) → a.failures ≡ 0 → a.held ≡ [] → Puts a b text → AppendsFront a.written b.written text
 front_put a b text f h (stopped p q) = absurd (above_zero _ p f)
 front_put a b text f h (whole p q sent s e) = (sent, b.held, ap (λ l. l ++ text) (sym h) ∙ e, s)
@@ -91,7 +91,7 @@ lines_done xs ys done count e n = sym (ap (take count) e ∙ take_at done (lines
 taken : (xs ys : List ℕ) (done : List (List ℕ)) (count : ℕ) → lines_of xs ≡ done ++ lines_of ys → length done ≡ count → lines_of xs ≡ take count (lines_of xs) ++ lines_of ys
 taken xs ys done count e n = e ∙ ap (λ ls. ls ++ lines_of ys) (sym (ap (take count) e ∙ take_at done (lines_of ys) count n))
 
--- a read failed: the replies to the lines so far are out, where nothing is held
+-- a read failed: the replies to the lines so far are out, if nothing is buffered
 pub AppendsRun-so_far : {State : Type 0} (step : State → List ℕ → State → List ℕ → Type 0) (first : State) (all left rest : Option (List ℕ)) (start now : OutputState) (count : ℕ) (last : State) → start.failures ≡ 0 → start.held ≡ [] → now.failures ≡ 0 → now.held ≡ [] → ((lost : List ℕ) × (has_lf lost ≡ false) × Consumes left rest lost) → RunsFrom step first all left start now count last → IfSome all (λ bytes. (k : ℕ) × TakesLines k bytes rest × AppendsRun step first (first_lines k bytes) start.written now.written)
 AppendsRun-so_far step first None left rest start now count last f h g k c w = tt
 AppendsRun-so_far step first (Some xs) None rest start now count last f h g k c w = absurd w
@@ -104,7 +104,7 @@ lines_end xs ys done count most e n none l =
     let all : lines_of xs ≡ done = e ∙ (ap (λ b. done ++ lines_of b) none ∙ append-nil done) in
     sym (ap (take most) all ∙ take_all most done (omega (arith, n, l)))
 
--- at the input's end the replies to all lines are out
+-- at the input's end, the replies to all lines are out
 pub AppendsRun-at_end : {State : Type 0} (step : State → List ℕ → State → List ℕ → Type 0) (first : State) (all left : Option (List ℕ)) (start now : OutputState) (count most : ℕ) (last : State) → start.failures ≡ 0 → start.held ≡ [] → now.failures ≡ 0 → now.held ≡ [] → IsAtEnd left → count ≤ most → RunsFrom step first all left start now count last → IfSome all (λ bytes. AppendsRun step first (first_lines most bytes) start.written now.written)
 AppendsRun-at_end step first None left start now count most last f h g k e l w = tt
 AppendsRun-at_end step first (Some xs) None start now count most last f h g k e l w = absurd w
@@ -112,7 +112,7 @@ AppendsRun-at_end step first (Some xs) (Some ys) start now count most last f h g
     let P : List (List ℕ) → Type 0 = λ ls. IsRun step first ls last w.text in
     (last, w.text, subst P (lines_end xs ys w.done count most w.lines w.counted e l) w.run, all_put _ _ _ f h g k w.put)
 
--- after the last line that is answered the replies to all are out
+-- after the last line that is answered, the replies to all are out
 pub AppendsRun-at_most : {State : Type 0} (step : State → List ℕ → State → List ℕ → Type 0) (first : State) (all left : Option (List ℕ)) (start now : OutputState) (count most : ℕ) (last : State) → start.failures ≡ 0 → start.held ≡ [] → now.failures ≡ 0 → now.held ≡ [] → count ≡ most → RunsFrom step first all left start now count last → IfSome all (λ bytes. AppendsRun step first (first_lines most bytes) start.written now.written)
 AppendsRun-at_most step first None left start now count most last f h g k e w = tt
 AppendsRun-at_most step first (Some xs) None start now count most last f h g k e w = absurd w
@@ -120,7 +120,7 @@ AppendsRun-at_most step first (Some xs) (Some ys) start now count most last f h 
     let P : List (List ℕ) → Type 0 = λ ls. IsRun step first ls last w.text in
     (last, w.text, subst P (lines_done xs ys w.done most w.lines (w.counted ∙ e)) w.run, all_put _ _ _ f h g k w.put)
 
--- where each line may get a reply in each state, a run of the first lines goes on to the last
+-- if each line may get a reply in each state, a run of the first lines can be continued to the last
 pub IsRun-on : {State : Type 0} (step : State → List ℕ → State → List ℕ → Type 0) → ((s : State) (l : List ℕ) → (next : State) × (reply : List ℕ) × step s l next reply) → (first : State) (lines : List (List ℕ)) → (last : State) × (text : List ℕ) × IsRun step first lines last text
 IsRun-on step answers first [] = (first, [], (refl, refl))
 IsRun-on step answers first (l ∷ lines) =
@@ -143,7 +143,7 @@ lines_more xs count most l =
 pub front_longer : (a b : Option (List ℕ)) (t u : List ℕ) → AppendsFront a b t → AppendsFront a b (t ++ u)
 front_longer a b t u f = (f.0, f.1 ++ u, ap (λ w. w ++ u) f.2 ∙ append_assoc f.0 f.1 u, f.3)
 
--- Whatever happened, the sink has a beginning of the replies to all lines.
+-- In every case, the sink has a prefix of the replies to all lines.
 pub AppendsRunFront-of : {State : Type 0} (step : State → List ℕ → State → List ℕ → Type 0) → ((s : State) (l : List ℕ) → (next : State) × (reply : List ℕ) × step s l next reply) → (first : State) (all left : Option (List ℕ)) (start now : OutputState) (count most : ℕ) (last : State) → start.failures ≡ 0 → start.held ≡ [] → count ≤ most → RunsFrom step first all left start now count last → IfSome all (λ bytes. AppendsRunFront step first (first_lines most bytes) start.written now.written)
 AppendsRunFront-of step answers first None left start now count most last f h l w = tt
 AppendsRunFront-of step answers first (Some xs) None start now count most last f h l w = absurd w

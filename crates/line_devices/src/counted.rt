@@ -1,4 +1,4 @@
-//! How is a reader or a writer of std a source or a sink?
+//! How is a reader or a writer of std used as a source or a sink?
 
 use crate::sink::{Sink, SinkFailed};
 use crate::source::{Source, SourceFailed};
@@ -6,8 +6,8 @@ use std::io::{ErrorKind, Read, Write};
 
 /// A reader or a writer of std as a source or a sink.
 ///
-/// A call that the system interrupted is made again. All calls of the device together are at most
-/// 2^64 - 1, for each program ends: a call after those counts as failed.
+/// It repeats calls that the system interrupted. It makes at most 2^64 - 1 calls, so that each program terminates; any
+/// further call fails.
 #[derive(Drop)]
 pub struct CountedDevice<D> {
     device: D,
@@ -20,7 +20,7 @@ impl<D> CountedDevice<D> {
     ghost use Rattle.std.specs.Prelude.{◌≡◌, ◌-◌, ◌^◌, IsTrue};
     ghost use Rattle.line_devices.specs.CountedDevice.{calls_left_of, device_of, failures_of, is_flushed_of};
 
-    /// The device, of which no call was made yet.
+    /// Wraps a device; no call is counted yet.
     pub fn new(device: D) -> CountedDevice<D>
         ensures device { device_of result ≡ device }
         ensures fresh { failures_of result ≡ 0 }
@@ -35,7 +35,7 @@ impl<D> CountedDevice<D> {
         }
     }
 
-    /// The device.
+    /// Returns the device.
     pub fn into_inner(self) -> D
         ensures { result ≡ device_of self }
     {

@@ -1,4 +1,4 @@
-//! Which line of a source comes next, and is it held already?
+//! What is the next line of a source, and is it buffered already?
 
 use crate::line::Line;
 use crate::read_buffer::ReadBuffer;
@@ -31,7 +31,7 @@ impl<S: Source> Input<S> {
     ghost use Rattle.std.specs.Prelude.{◌≡◌, false, IsTrue, IsOk, is_ok, if◌then◌else◌};
     ghost use Rattle.line_devices.specs.Lines.{GivesLine};
 
-    /// All lines of the source.
+    /// Makes an input of all lines of the source.
     pub fn new(source: S) -> Input<S>
         ensures { result ≡ record { left = S.left source; has_line = false; failures = S.failures source; calls_left = S.calls_left source } }
     {
@@ -41,16 +41,16 @@ impl<S: Source> Input<S> {
         }
     }
 
-    /// Whether the next line is held whole, so that reading it calls no source and never waits.
+    /// Returns true if the next line is buffered whole, so that reading it makes no call and never waits.
     pub fn has_line(&self) -> bool
         ensures { result ≡ self.now.has_line }
     {
         self.held.has_line()
     }
 
-    /// Reads the next line into the line given, and answers false at the end. Of a longer line than
-    /// is kept the rest is passed over. After an error bytes of the line may be lost. Where a whole
-    /// line is held, no call of the source is made.
+    /// Reads the next line into the given line, and returns false at the end. If the line is longer than
+    /// what is kept, the rest is skipped. An error may lose bytes of the line. If a whole line is buffered,
+    /// the source isn't called.
     pub fn read_line(&mut self, line: &mut Line) -> Result<bool, SourceFailed>
         requires { self.old.failures ≡ 0 }
         ensures line { GivesLine self.old.left self.new.left line.new result }

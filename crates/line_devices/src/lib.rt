@@ -1,23 +1,23 @@
-//! Which lines do bytes hold, and which bytes are on their way out?
+//! Which lines do bytes consist of, and which bytes are still buffered for output?
 //!
-//! Bytes come in from a [`Source`] and go out to a [`Sink`]: two traits whose ghost members say
-//! which bytes are left or written, where that is known, and how many calls have failed. [`CountedDevice`]
-//! makes either of a reader or a writer of std.
+//! Bytes come from a [`Source`] and go to a [`Sink`]. The ghost members of these two traits say which
+//! bytes are left or written, if that is known, and how many calls have failed. [`CountedDevice`] makes
+//! either of a reader or a writer of std.
 //!
-//! - [`Input`] reads a source line by line into a [`Line`], whose memory is taken once. It tells
-//!   whether the next line is held already; [`flush_before_waiting`] asks it.
-//! - [`Output`] holds bytes on their way to a sink. `put` answers nothing: after a failed call no
-//!   more is written, and one relation, `Puts`, says what the sink has and what is held, so that
-//!   printing is straight-line code.
-//! - [`lines_law`] says what the lines of bytes are; [`KEPT_BYTES`] and [`most_lines`] are the limits.
+//! - [`Input`] reads a source line by line into a [`Line`], whose memory is allocated once. It reports
+//!   whether the next line is buffered already; [`flush_before_waiting`] asks for this.
+//! - [`Output`] buffers bytes for a sink. `put` returns nothing: after a failed call no more is written,
+//!   and one relation, `Puts`, says what the sink has and what is buffered. So printing is straight-line
+//!   code.
+//! - [`lines_law`] is the theorem about the lines of bytes; [`KEPT_BYTES`] and [`most_lines`] are the limits.
 //!
-//! The definitions stand in `specs/`: what lines are in `Lines`, what a sink has and what is held in `Stream`, lines that are
-//! answered one after another in `Runs`.
+//! The definitions are in `specs/`: `Lines` defines lines, `Stream` what a sink has and what is buffered, and `Runs` lines
+//! that are answered one after another.
 //!
-//! - `source`, `sink`: what a device has to answer; `counted`: how a reader or a writer of std is one.
+//! - `source`, `sink`: what a device must implement; `counted`: how a reader or a writer of std does so.
 //! - `input`, `read_buffer`, `line`: bytes come in line by line; `lines`: what lines are; `limits`: how much of them is
 //!   kept.
-//! - `output`: bytes go out; `waiting`: when they have to be out.
+//! - `output`: bytes go out; `waiting`: when they must be out.
 #![tactic(auto)]
 
 mod counted;

@@ -3,12 +3,12 @@
 ghost use Rattle.std.specs.Prelude.{◌≡◌, ◌<◌, ◌^◌};
 ghost use Rattle.line_devices.specs.Lines.{most_lines};
 
-/// How many bytes of a line are kept at most: one more than a request line may have, so that a line
-/// over the limit is known by what is kept of it.
+/// The maximum number of bytes that are kept of a line: one more than the limit for a request line, so
+/// that the kept bytes show whether a line is over the limit.
 pub const KEPT_BYTES: usize = 1_048_577;
 
-/// How many lines of an input are read at most, 2^48. After them a run goes on as at the input's
-/// end, so that line numbers and counts of calls fit a `u64`, whatever the input.
+/// The maximum number of lines that are read from an input, 2^48. After them a run ends as at the end of
+/// the input, so that line numbers and counts of calls fit a `u64` for any input.
 #[tactic(auto, unfolding(crate::specs::Lines::most_lines))]
 pub fn most_lines() -> u64
     ensures value { result ≡ most_lines }

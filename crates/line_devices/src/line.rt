@@ -6,9 +6,9 @@ use crate::limits::KEPT_BYTES;
 use std::alloc::{AllocError, Global};
 use std::marker::Model;
 
-/// What is kept of a line, with its LF where that is among the bytes kept.
+/// The bytes that are kept of a line, with its LF if that is among them.
 ///
-/// Its memory is taken when it is made, and is enough for each line that is read into it.
+/// The memory is allocated when the line is made, and suffices for each line that is read into it.
 #[derive(Drop)]
 pub struct Line {
     bytes: Vec<u8>,
@@ -29,7 +29,7 @@ impl Line {
     ghost use Rattle.std.specs.Prelude.{◌≡◌, ◌↔◌, ◌++◌, [], IfOk, IsTrue};
     ghost use Rattle.line_devices.specs.Lines.{kept};
 
-    /// An empty line. The error is that memory was refused.
+    /// Makes an empty line. The error is out of memory.
     #[tactic(auto, unfolding(crate::specs::Lines::kept_bytes))]
     pub fn new(alloc: Global) -> Result<Line, AllocError>
         ensures { IfOk result (λ line. line ≡ []) }
@@ -39,28 +39,28 @@ impl Line {
         })
     }
 
-    /// The bytes that are kept.
+    /// Returns the kept bytes.
     pub fn as_bytes(&self) -> &[u8]
         ensures { result.now ≡ self.now }
     {
         self.bytes.as_slice()
     }
 
-    /// Whether no byte is kept.
+    /// Returns true if no byte is kept.
     pub fn is_empty(&self) -> bool
         ensures { IsTrue result ↔ (self.now ≡ []) }
     {
         self.bytes.is_empty()
     }
 
-    /// Forgets the line, and keeps the memory.
+    /// Clears the line, and keeps its memory.
     pub(crate) fn clear(&mut self)
         ensures { self.new ≡ [] }
     {
         self.bytes.clear();
     }
 
-    /// Adds the part that comes next, as far as it is kept.
+    /// Appends the next part, as far as it is kept.
     #[tactic(auto, unfolding(crate::specs::Lines::kept_bytes))]
     pub(crate) fn keep(&mut self, part: &[u8])
         ensures { self.new ≡ kept (self.old ++ part.now) }
@@ -70,7 +70,7 @@ impl Line {
     }
 }
 
-/// The first bytes, as many as asked for, or all.
+/// Returns the first `most` bytes, or all if there are fewer.
 fn front(bytes: &[u8], most: usize) -> &[u8]
     ensures { result.now ≡ take most bytes.now }
 {

@@ -2,8 +2,8 @@
 
 ghost use Rattle.line_devices.specs.Lines.{LinesJoin, LinesAreLines, OnlyLinesJoin};
 
-/// What the lines of bytes are: joined they give the bytes, each ends with its only LF but for a last
-/// part without one, and no other list of lines is such. It is a law, and does nothing.
+/// The theorem about the lines of bytes: concatenated they are the bytes, each ends with its only LF,
+/// except a last part without one, and no other list of lines is like this. The body is empty.
 pub fn lines_law()
     ensures joined { LinesJoin }
     ensures lines { LinesAreLines }

@@ -1,4 +1,4 @@
-//! Which bytes are on their way to a sink, and has a call of it failed?
+//! Which bytes are buffered for a sink, and has a call of it failed?
 
 ghost use Rattle.std.specs.Prelude.{◌≡◌, ◌+◌, ◌<◌, ◌^◌, is_ok, if◌then◌else◌};
 ghost use Rattle.line_devices.specs.Stream.{SendsAll};
@@ -6,11 +6,11 @@ ghost use Rattle.line_devices.specs.Stream.{SendsAll};
 use crate::sink::{Sink, SinkFailed};
 use std::marker::Model;
 
-/// How many bytes are held at most.
+/// The size of the buffer in bytes.
 const ROOM: usize = 65_536;
 
-/// Writes all of the bytes, in as many calls as the sink needs. After a failed call it has a
-/// beginning of them.
+/// Writes all of the bytes, in as many calls as the sink needs. After a failed call, the sink has a
+/// prefix of them.
 fn send_all<S: Sink>(sink: &mut S, bytes: &[u8]) -> Result<(), SinkFailed>
     requires { S.failures sink.old + 1 < 2 ^ 64 }
     ensures bytes { SendsAll (S.written sink.old) (S.written sink.new) bytes.now result }
@@ -24,7 +24,7 @@ fn send_all<S: Sink>(sink: &mut S, bytes: &[u8]) -> Result<(), SinkFailed>
     Ok(())
 }
 
-/// Bytes on their way to a sink. They are held until there is no room for more, or until `flush`.
+/// Bytes for a sink, which are buffered until the buffer is full, or until `flush`.
 ///
 /// After a call of the sink has failed, nothing more is written.
 #[derive(Drop)]
@@ -51,7 +51,7 @@ impl<S: Sink> Output<S> {
     ghost use Rattle.std.specs.Prelude.{◌≡◌, ◌+◌, ◌<◌, ◌≤◌, ◌↔◌, [], ◌++◌, length, IsTrue};
     ghost use Rattle.line_devices.specs.Stream.{IsOut, OutputState, Puts};
 
-    /// Nothing put yet on the way to the sink.
+    /// Makes an output with an empty buffer.
     pub fn new(sink: S) -> Output<S>
         requires { S.failures sink ≡ 0 }
         ensures { result ≡ record { written = S.written sink; held = []; failures = 0; is_flushed = S.is_flushed sink } }
@@ -64,7 +64,7 @@ impl<S: Sink> Output<S> {
         }
     }
 
-    /// The sink. Bytes that are still held are lost, so flush first.
+    /// Returns the sink. Bytes that are still buffered are lost, so flush first.
     pub fn into_sink(self) -> S
         ensures written { S.written result ≡ self.written }
         ensures failed { S.failures result ≡ self.failures }
@@ -74,14 +74,14 @@ impl<S: Sink> Output<S> {
         sink
     }
 
-    /// Whether a call of the sink has failed.
+    /// Returns true if a call of the sink has failed.
     pub fn has_failed(&self) -> bool
         ensures { IsTrue result ↔ (0 < self.now.failures) }
     {
         self.has_failed
     }
 
-    /// Puts the bytes behind those that were put before.
+    /// Appends the bytes to those that were put before.
     #[inline]
     pub fn put(&mut self, bytes: &[u8])
         ensures { Puts self.old self.new bytes.now }
@@ -96,7 +96,7 @@ impl<S: Sink> Output<S> {
         }
     }
 
-    /// Writes all bytes that are held, and hands on what the device holds back.
+    /// Writes all buffered bytes, and flushes the device.
     pub fn flush(&mut self)
         ensures put { Puts self.old self.new [] }
         ensures out { self.new.failures ≡ 0 → IsOut self.new }
@@ -107,7 +107,7 @@ impl<S: Sink> Output<S> {
         }
     }
 
-    /// Adds the bytes to those held.
+    /// Appends the bytes to the buffer.
     fn hold(&mut self, bytes: &[u8])
         requires { length self.old.held + length bytes.now ≤ ROOM }
         ensures { self.new ≡ record self.old { held = self.old.held ++ bytes.now } }
@@ -117,7 +117,7 @@ impl<S: Sink> Output<S> {
         self.len = end;
     }
 
-    /// Puts bytes for which there is no room beside those held.
+    /// Puts bytes for which the buffer has no room left.
     #[inline(never)]
     fn put_past(&mut self, bytes: &[u8])
         requires { self.old.failures ≡ 0 }
@@ -131,7 +131,7 @@ impl<S: Sink> Output<S> {
         }
     }
 
-    /// Writes the bytes held.
+    /// Writes the buffered bytes.
     fn send_held(&mut self)
         requires { self.old.failures ≡ 0 }
         ensures put { Puts self.old self.new [] }
@@ -142,7 +142,7 @@ impl<S: Sink> Output<S> {
         self.has_failed = sent.is_err();
     }
 
-    /// Holds the bytes where none are held.
+    /// Buffers the bytes, in an empty buffer.
     fn put_short(&mut self, bytes: &[u8])
         requires none { self.old.held ≡ [] }
         requires fits { length bytes.now ≤ ROOM }
@@ -153,7 +153,7 @@ impl<S: Sink> Output<S> {
         }
     }
 
-    /// Writes the bytes where none are held.
+    /// Writes the bytes, past an empty buffer.
     fn put_long(&mut self, bytes: &[u8])
         requires { self.old.held ≡ [] }
         ensures { Puts self.old self.new bytes.now }
@@ -163,7 +163,7 @@ impl<S: Sink> Output<S> {
         }
     }
 
-    /// Has the device hand on what it holds back.
+    /// Flushes the device.
     fn flush_sink(&mut self)
         ensures put { Puts self.old self.new [] }
         ensures held { self.new.held ≡ self.old.held }

@@ -1,4 +1,4 @@
-//! Which bytes have come from a source and were not taken yet, and do they hold a whole line?
+//! Which bytes of a source are buffered, and do they contain a whole line?
 
 ghost use Rattle.std.specs.Prelude.{◌≡◌, ◌==◌, ◌≤◌, length, take, position, false, MatchOption};
 ghost use Rattle.line_devices.specs.Lines.{has_lf, IsWhole};
@@ -7,10 +7,10 @@ use crate::line::Line;
 use crate::source::{Source, SourceFailed};
 use std::marker::Model;
 
-/// How many bytes are read from a source at once.
+/// The size of the buffer, in bytes.
 const ROOM: usize = 8192;
 
-/// The bytes that came from a source and weren't taken yet.
+/// The bytes that were read from a source but not taken yet.
 #[derive(Drop)]
 pub(crate) struct ReadBuffer {
     buffer: [u8; ROOM],
@@ -29,14 +29,14 @@ impl Model for ReadBuffer {
     ghost invariant = { λ h. (h.start ≤ h.end) × (h.end ≤ ROOM) };
 }
 
-/// Where the first LF is.
+/// Returns the index of the first LF.
 fn lf_at(bytes: &[u8]) -> Option<usize>
     ensures { result ≡ position (λ b. b == 10) bytes.now }
 {
     bytes.iter().position(|byte| *byte == b'\n')
 }
 
-/// How many bytes the first line has with its LF, where there is one.
+/// Returns the length of the first line with its LF, if there is an LF.
 fn line_len(bytes: &[u8]) -> Option<usize>
     ensures { MatchOption result (has_lf bytes.now ≡ false) (λ n. (n ≤ length bytes.now) × IsWhole (take n bytes.now)) }
 {
@@ -51,7 +51,7 @@ impl ReadBuffer {
     ghost use Rattle.line_devices.specs.Lines.{has_lf, MovesLine};
     ghost use Rattle.line_devices.specs.Stream.{Fills};
 
-    /// No bytes.
+    /// Makes an empty buffer.
     pub(crate) fn new() -> ReadBuffer
         ensures { result ≡ [] }
     {
@@ -62,15 +62,15 @@ impl ReadBuffer {
         }
     }
 
-    /// Whether a whole line is held, with its LF.
+    /// Returns true if a whole line is buffered, with its LF.
     pub(crate) fn has_line(&self) -> bool
         ensures { result ≡ has_lf self.now }
     {
         lf_at(&self.buffer[self.start..self.end]).is_some()
     }
 
-    /// Moves the bytes up to the first LF into the line, or all where there is no LF, and answers
-    /// whether the LF came.
+    /// Moves the bytes up to the first LF into the line, or all if there is no LF. Returns true if there
+    /// was one.
     pub(crate) fn take_line(&mut self, line: &mut Line) -> bool
         ensures { MovesLine self.old self.new line.old line.new result }
     {
@@ -89,7 +89,7 @@ impl ReadBuffer {
         }
     }
 
-    /// Reads the bytes that come next, and answers whether there was one.
+    /// Reads the next bytes. Returns false at the end.
     pub(crate) fn fill<S: Source>(&mut self, source: &mut S) -> Result<bool, SourceFailed>
         requires empty { self.old ≡ [] }
         requires countable { S.failures source.old + 1 < 2 ^ 64 }

@@ -1,4 +1,4 @@
-//! Where do bytes go?
+//! Where do bytes go to?
 
 ghost use Rattle.std.specs.Prelude.{◌≡◌, ◌+◌, ◌<◌, ◌≤◌, ◌^◌, ℕ, Bool, List, Option, IfOk, IsFalse, IsTrue, OnOk, is_ok, if◌then◌else◌, length};
 ghost use Rattle.std.specs.Io.KnownBytes.{Keeps, WriteAppends};
@@ -7,19 +7,19 @@ ghost use Rattle.std.specs.Io.KnownBytes.{Keeps, WriteAppends};
 #[derive(Clone, Copy, Debug, PartialEq, Eq)]
 pub struct SinkFailed;
 
-/// Where bytes go. It counts its calls that failed.
+/// A writer of bytes. It counts its calls that failed.
 pub trait Sink {
-    // The bytes that it has: known over memory, unknown over a device.
+    // The bytes that it has: known for memory, unknown for a device.
     ghost written: { Self → Option (List ℕ) };
 
     // How many calls have failed.
     ghost failures: { Self → ℕ };
 
-    // Whether it has handed on all that was written: not from a write on, until a flush has succeeded.
+    // Whether it has passed on everything that was written: false after a write, until a flush has succeeded.
     ghost is_flushed: { Self → Bool };
 
-    /// Writes at least one of the bytes, from the front, and answers how many. A call that takes
-    /// none of the bytes offered has failed, and a call that failed has taken none.
+    /// Writes a prefix of the bytes, at least one byte, and returns its length. A call that takes no byte
+    /// has failed, and a failed call has taken none.
     fn write_some(&mut self, bytes: &[u8]) -> Result<usize, SinkFailed>
         requires some { 0 < length bytes.now }
         requires countable { failures self.old + 1 < 2 ^ 64 }
@@ -28,7 +28,7 @@ pub trait Sink {
         ensures failed { failures self.new ≡ failures self.old + (if is_ok result then 0 else 1) }
         ensures unflushed { OnOk result (IsFalse (is_flushed self.new)) };
 
-    /// Hands on what the device itself may hold back.
+    /// Flushes what the device itself buffers.
     fn flush(&mut self) -> Result<(), SinkFailed>
         requires { failures self.old + 1 < 2 ^ 64 }
         ensures bytes { Keeps (written self.old) (written self.new) }

@@ -8,19 +8,19 @@ ghost use Rattle.std.specs.Io.KnownBytes.{ReadConsumes};
 #[derive(Clone, Copy, Debug, PartialEq, Eq)]
 pub struct SourceFailed;
 
-/// Where bytes come from. It counts its calls that failed, and it can't be called for ever.
+/// A reader of bytes. It counts its calls that failed, and only finitely many calls can succeed.
 pub trait Source {
-    // The bytes that are still to come: known over memory, unknown over a device.
+    // The bytes that are left: known for memory, unknown for a device.
     ghost left: { Self → Option (List ℕ) };
 
     // How many calls have failed.
     ghost failures: { Self → ℕ };
 
-    // More than the number of calls that can still succeed.
+    // A bound on the number of calls that can still succeed.
     ghost calls_left: { Self → ℕ };
 
-    /// Reads bytes into the buffer's front and answers how many: none only at the end, or where
-    /// the buffer has no room. A call that failed has taken no byte.
+    /// Reads bytes into the front of the buffer and returns their number: 0 only at the end, or if the
+    /// buffer has no room. A failed call has read no byte.
     fn read_some(&mut self, buffer: &mut [u8]) -> Result<usize, SourceFailed>
         requires { failures self.old + 1 < 2 ^ 64 }
         ensures bound { ReadsAtMost result buffer.new }
