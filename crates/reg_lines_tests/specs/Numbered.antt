@@ -1,4 +1,4 @@
--- The engine that runs over bytes: each line is answered by its number and itself.
+-- The step of the engine that these tests run: the reply to a line is its number, a colon, and what is kept of the line.
 use Rattle.std.specs.Prelude.{◌≡◌, ℕ, ◌+◌, List, ◌++◌, codes, decimal}
 use Rattle.reg_lines.specs.Lines.{kept}
 

@@ -14,7 +14,7 @@ const TEXT: &[u8] = b"one\n\ntwo\r\nthree\nlast";
 
 const NUMBERED: &[u8] = b"1:one\n2:\n3:two\r\n4:three\n5:last";
 
-/// A writer that has room for so many bytes: it never wants memory, which its user couldn't tell from a failed device.
+/// A writer with room for this many bytes, so that it never allocates: its user couldn't distinguish that failure from one of the device.
 fn roomy_taker(
     alloc: Global,
     room: usize,
@@ -26,7 +26,7 @@ fn roomy_taker(
     Ok(taker)
 }
 
-/// Does the engine end well over these devices?
+/// Returns true if the engine succeeds over these devices.
 fn ends_well(giver: &mut Giver<'_>, taker: &mut Taker, line: &mut Line, most: u32) -> bool {
     let mut input = Input::new(CountedDevice::new(giver));
     let mut output = Output::new(CountedDevice::new(taker));
@@ -69,7 +69,7 @@ fn lines_after_the_last_one_are_left(rt: HostRuntime) -> Result<(), Fail> {
     Ok(())
 }
 
-/// The lines are numbered though the call of this number is interrupted.
+/// Asserts that the lines are numbered although the call of this number is interrupted.
 fn is_numbered(rt: &impl Abort, alloc: Global, line: &mut Line, call: u64) -> Result<(), Fail> {
     let trouble = Trouble::interrupted_at(call);
     let mut taker = roomy_taker(alloc, NUMBERED.len(), Pace::Byte, trouble)?;
@@ -107,7 +107,7 @@ fn a_writer_that_takes_nothing_has_failed(rt: HostRuntime) -> Result<(), Fail> {
     Ok(())
 }
 
-/// So many letters, and a line behind them.
+/// A line of the given number of letters, and a line after it.
 fn long_text(alloc: Global, len: usize) -> Result<Vec<u8>, Fail>
     requires { len < 2 ^ 32 }
 {
@@ -116,7 +116,7 @@ fn long_text(alloc: Global, len: usize) -> Result<Vec<u8>, Fail>
     Ok(text)
 }
 
-/// How much is kept of the first line of a text, where the second one is `next`.
+/// The number of bytes that are kept of the first line of a text whose second line is `next`.
 fn kept(text: &[u8], line: &mut Line) -> Option<usize> {
     let mut input = Input::new(CountedDevice::new(text));
     input.read_line(line).ok()?;
@@ -128,7 +128,7 @@ fn kept(text: &[u8], line: &mut Line) -> Option<usize> {
     Some(kept)
 }
 
-/// Of a line of so many letters so many bytes are kept.
+/// Asserts the number of bytes that are kept of a line of the given number of letters.
 fn keeps(rt: &impl Abort, alloc: Global, len: usize, want: usize) -> Result<(), Fail>
     requires { len < 2 ^ 32 }
 {
@@ -147,7 +147,7 @@ fn of_a_long_line_the_front_is_kept_and_the_rest_passed_over(rt: HostRuntime) ->
     keeps(&rt, rt.alloc(), 1_100_000, KEPT_BYTES)
 }
 
-/// Many bytes that don't repeat at the edges of a buffer.
+/// Many bytes, without a period that fits the size of a buffer.
 fn many_bytes(alloc: Global) -> Result<Vec<u8>, Fail> {
     let mut bytes = Vec::new(alloc);
     for index in 0..200_000u32 {
@@ -156,7 +156,7 @@ fn many_bytes(alloc: Global) -> Result<Vec<u8>, Fail> {
     Ok(bytes)
 }
 
-/// Can the bytes be put into the writer, in pieces of this length?
+/// Returns true if the bytes can be put into the writer, in pieces of this length.
 fn puts(taker: &mut Taker, bytes: &[u8], len: usize) -> bool
     requires { 0 < len }
 {
@@ -168,7 +168,7 @@ fn puts(taker: &mut Taker, bytes: &[u8], len: usize) -> bool
     !output.has_failed()
 }
 
-/// The bytes come out whole where they are put in pieces of this length.
+/// Asserts that the bytes come out completely if they are put in pieces of this length.
 fn comes_out(rt: &impl Abort, alloc: Global, bytes: &[u8], len: usize) -> Result<(), Fail>
     requires { 0 < len }
 {

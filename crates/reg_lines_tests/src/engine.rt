@@ -1,4 +1,4 @@
-//! How are the lines of an input numbered? It is the least engine over the bytes, proved as each engine is.
+//! A minimal engine that numbers the lines of an input, proved as each engine is.
 
 ghost use Rattle.std.specs.Prelude.{◌≡◌, ◌+◌, ◌<◌, ◌≤◌, ◌^◌, ◌⊎◌, ℕ, [], ◌++◌, codes, decimal, OnOk, IfOk, IfErr, IfSome, IsTrue};
 ghost use Rattle.reg_lines.specs.Runs.{AppendsRun, AppendsRunFront, TakesLines, first_lines};
@@ -10,7 +10,7 @@ use reg_lines::{
 };
 use std::alloc::Global;
 
-/// Why the engine ended early.
+/// Why the engine failed.
 #[derive(Drop)]
 pub(crate) enum Ended {
     Input,
@@ -37,7 +37,7 @@ fn finish<W: Sink>(output: &mut Output<W>) -> Result<(), Ended>
     Ok(())
 }
 
-/// Writes each line, as far as it is kept, behind its number.
+/// Writes each line, as far as it is kept, after its number.
 pub(crate) fn number_lines<R: Source, W: Sink>(
     input: &mut Input<R>,
     output: &mut Output<W>,

@@ -1,9 +1,9 @@
-//! Which events do lines spell?
+//! Which events do lines represent?
 
 use crate::tables::{Asked, tells, tells_at, tells_in_a_row};
 use std::test::Fail;
 
-/// Lines, and what each spells.
+/// Lines, and the event of each.
 const TABLE: &str = r#"
 # each event
 {"event":"invoke","call":1,"batch":{"ops":[{"op":"show","id":"00000000-0000-0000-0000-000000000001"}]}} => invoke 1; show "00000000-0000-0000-0000-000000000001"
@@ -115,7 +115,7 @@ fn the_keys_of_events_are_read_in_their_turn(rt: HostRuntime) -> Result<(), Fail
     tells(&rt, rt.alloc(), Asked::Event, TABLE)
 }
 
-/// Lines with the ids of the seed of zeros, and what each spells.
+/// Lines with the ids of the all-zero seed, and the event of each.
 const DRAWN: &str = r#"
 # the first ids of the seed of zeros
 {"event":"invoke","call":1,"batch":{"ops":[{"op":"create","parent":"spiffe://ex.org/a","identity":"spiffe://ex.org/b","selectors":["u:1"]}]}} => invoke 1; create "76b8e0ad-a0f1-4d90-805d-6ae55386bd28" "spiffe://ex.org/a" "spiffe://ex.org/b" ["u:1"] "" [] 0
@@ -137,7 +137,7 @@ fn only_batches_that_are_handed_in_draw_ids(rt: HostRuntime) -> Result<(), Fail>
     tells_in_a_row(&rt, rt.alloc(), Asked::Event, DRAWN)
 }
 
-/// Lines that aren't framed as they should be, and lines as long as they can be and longer, each the seventh.
+/// Lines that aren't framed correctly, and lines of the maximum length and longer; each is the seventh line.
 const FRAMES: &str = r#"
 {"event":"begin","call":1}«» => {"code":"L3","line":7}
 «ff» => {"code":"L2","line":7}

@@ -1,9 +1,9 @@
-//! Which bytes are a line, and which lines are a JSON text?
+//! Which bytes are a line, and which lines are a valid JSON text?
 
 use crate::tables::{Asked, line_tells, tells, tells_at};
 use std::test::Fail;
 
-/// A batch without operations, ten bytes, and spaces up to the limit and past it: each is the second line.
+/// A batch without operations, ten bytes, and spaces up to the limit and past it; each is the second line.
 const LENGTHS: &str = r#"
 {"ops":[]}«1048566* » => {"code":"B1","line":2}
 {"ops":[]}«1048567* » => {"code":"L1","line":2}
@@ -44,7 +44,7 @@ fn each_beginning_of_a_line_is_truncated(rt: HostRuntime) -> Result<(), Fail> {
     tells(&rt, rt.alloc(), Asked::Reply, WHOLE)
 }
 
-/// Lines that are no text, or none of JSON, and lists in lists up to the limit and past it.
+/// Lines that aren't valid UTF-8 or JSON, and nested lists up to the limit and past it.
 const TEXTS: &str = r#"
 «ff» => {"code":"L2","line":1}
 {"«c3»":1} => {"code":"L2","line":1}
@@ -64,7 +64,7 @@ fn lines_are_utf8_and_not_too_deep(rt: HostRuntime) -> Result<(), Fail> {
     tells(&rt, rt.alloc(), Asked::Reply, TEXTS)
 }
 
-/// A last part without LF is truncated, whatever it holds; a line of the same bytes is no JSON text.
+/// A last part without LF is truncated, whatever it contains; a line of the same bytes isn't a JSON text.
 const PARTS: &str = r#"
 «ff»«» => {"code":"L3","line":1}
 «ff» => {"code":"L2","line":1}

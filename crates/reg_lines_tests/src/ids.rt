@@ -4,7 +4,7 @@ use crate::tables::{Asked, tells_in_a_row, tells_with};
 use reg_lines::{Ids, ids_law};
 use std::test::Fail;
 
-/// Lines read one after another with the ids of the seed of zeros, and what each spells.
+/// Lines that are read one after another with the ids of the all-zero seed, and the request of each.
 const IN_A_ROW: &str = r#"
 # the first ids of the seed of zeros
 {"ops":[{"op":"create","parent":"spiffe://ex.org/a","identity":"spiffe://ex.org/b","selectors":["u:1"]}]} => 1; create "76b8e0ad-a0f1-4d90-805d-6ae55386bd28" "spiffe://ex.org/a" "spiffe://ex.org/b" ["u:1"] "" [] 0
@@ -53,7 +53,7 @@ fn another_seed_gives_other_ids(rt: HostRuntime) -> Result<(), Fail> {
     )
 }
 
-/// The first bytes of the key of zeros in the stream 1 are those that OpenSSL's `chacha20` gives.
+/// The first bytes of the all-zero key in stream 1 are those that OpenSSL's `chacha20` gives.
 #[test]
 fn another_stream_gives_other_ids(rt: HostRuntime) -> Result<(), Fail> {
     ids_law();

@@ -1,19 +1,19 @@
-//! What do lines spell, what is printed, and how do bytes come in and go out?
+//! What do lines represent, what is printed, and how do bytes come in and go out?
 //!
-//! The crate has tests alone, over the public calls of `reg_lines`: what their clauses leave open, and each call once where
-//! it succeeds. Runs over devices that are slow or fail are tests of `reg_programs`.
+//! The crate has tests alone, over the public calls of `reg_lines`: what their contracts leave open, and each call once where
+//! it succeeds. The tests with slow or failing devices are in `reg_programs`.
 //!
-//! - `tables`: what comes of each line of a table: a text that `lines` unfolds, told in the words of `spelled`, answered on a
-//!   plain book, or printed by `printed`, where it tells one of the `values`. On it stand all but the last of these:
-//! - `frames`, `requests`, `operations`, `pages`, `tokens` and `ids`: what lines spell.
-//! - `events`: what the lines of events spell.
+//! - `tables`: runs tables. A line of a table is a text that `lines` expands; it is described by `spelled`, answered on a plain
+//!   book, or printed by `printed`, if it names one of the `values`. All of the following but the last use it:
+//! - `frames`, `requests`, `operations`, `pages`, `tokens` and `ids`: the requests of lines.
+//! - `events`: the events of lines.
 //! - `schedules`: the lines of a schedule: what is printed for each answer to an event.
-//! - `seats`: what is printed where a seat has no answer.
-//! - `records`: the record of a call, printed and read again, and lines that are no records.
+//! - `seats`: what is printed if a seat has no answer.
+//! - `records`: the record of a call, printed and parsed again, and lines that aren't records.
 //! - `texts` and `replies`: what is printed.
-//! - `bytes`: lines of memory, of devices that are interrupted, and of one that is full, by the engine of `engine`. What it
-//!   answers stands in `specs/Numbered.antt`.
-//! - `wanted`: what a test wants to see.
+//! - `bytes`: lines over memory, over devices that are interrupted, and over one that is full, with the engine of `engine`. Its
+//!   definition is in `specs/Numbered.antt`.
+//! - `wanted`: assertions.
 #![tactic(auto)]
 
 #[cfg(test)]

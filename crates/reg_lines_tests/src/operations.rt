@@ -1,9 +1,9 @@
-//! Which keys has each operation, and what do they spell?
+//! Which keys does each operation have, and what do they mean?
 
 use crate::tables::{Asked, tells};
 use std::test::Fail;
 
-/// Lines of operations on entries, and what each spells.
+/// Lines of operations on entries, and the request of each.
 const ENTRIES: &str = r#"
 # create: the optional keys, and their defaults; null is as if the key were absent
 {"ops":[{"op":"create","id":"00000000-0000-0000-0000-000000000001","parent":"spiffe://ex.org/a","identity":"spiffe://ex.org/b","selectors":["u:1"]}]} => 1; create "00000000-0000-0000-0000-000000000001" "spiffe://ex.org/a" "spiffe://ex.org/b" ["u:1"] "" [] 0

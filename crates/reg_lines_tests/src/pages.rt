@@ -1,9 +1,9 @@
-//! Which keys has a page, what do they spell, and what is printed of its reply?
+//! Which keys does a page have, what do they mean, and what is printed for its reply?
 
 use crate::tables::{Asked, tells};
 use std::test::Fail;
 
-/// Lines of pages, and what each spells.
+/// Lines of pages, and the request of each.
 const PAGES: &str = r#"
 # the optional keys, and their defaults; null is as if the key were absent
 {"ops":[{"op":"page","size":1}]} => 1; page 1 - - - - -
@@ -76,7 +76,7 @@ fn pages_are_read_key_by_key(rt: HostRuntime) -> Result<(), Fail> {
     tells(&rt, rt.alloc(), Asked::Request, PAGES)
 }
 
-/// Pages of no entries, and of one entry each, on a book with nothing in it.
+/// Pages of no entries, and of one entry each, on an empty book.
 const PRINTED: &str = r#"
 {"ops":[{"op":"page","size":1}]} => {"call":1,"place":0,"replies":[{"entries":[],"next":null}],"result":"answered"}
 {"ops":[{"op":"create","id":"00000000-0000-0000-0000-000000000001","parent":"spiffe://ex.org/a","identity":"spiffe://ex.org/b","selectors":["u:1"]},{"op":"create","id":"00000000-0000-0000-0000-000000000002","parent":"spiffe://ex.org/a","identity":"spiffe://ex.org/c","selectors":["u:1"]},{"op":"page","size":1},{"op":"page","size":1,"from":"00000000-0000-0000-0000-000000000001"}]} => {"call":1,"place":1,"replies":[{"entry":{"domains":[],"expiry":0,"hint":"","id":"00000000-0000-0000-0000-000000000001","identity":"spiffe://ex.org/b","parent":"spiffe://ex.org/a","revision":0,"selectors":["u:1"]}},{"entry":{"domains":[],"expiry":0,"hint":"","id":"00000000-0000-0000-0000-000000000002","identity":"spiffe://ex.org/c","parent":"spiffe://ex.org/a","revision":0,"selectors":["u:1"]}},{"entries":[{"domains":[],"expiry":0,"hint":"","id":"00000000-0000-0000-0000-000000000001","identity":"spiffe://ex.org/b","parent":"spiffe://ex.org/a","revision":0,"selectors":["u:1"]}],"next":"00000000-0000-0000-0000-000000000001"},{"entries":[{"domains":[],"expiry":0,"hint":"","id":"00000000-0000-0000-0000-000000000002","identity":"spiffe://ex.org/c","parent":"spiffe://ex.org/a","revision":0,"selectors":["u:1"]}],"next":null}],"result":"committed"}

@@ -17,13 +17,13 @@ fn print<T: PrintJson>(value: &T, bytes: &mut Vec<u8>) -> Result<(), Fail> {
     Ok(())
 }
 
-/// What `serde_json` writes of the value that it reads there.
+/// What `serde_json` writes for the value that it parses from the text.
 fn written_again(alloc: Global, text: &str) -> Result<String, Fail> {
     let value = Value::from_str(alloc, text)?;
     Ok(value.to_string(alloc)?)
 }
 
-/// Adds a printed line without its LF. It is the text that `serde_json` writes of it.
+/// Appends a printed line without its LF, after checking that `serde_json` writes the same text for its value.
 fn add_line(alloc: Global, text: &mut String, line: &[u8]) -> Result<(), Fail> {
     let Some((b'\n', printed)) = line.split_last() else {
         return Err(Fail::from("no LF at the end"));
@@ -36,7 +36,7 @@ fn add_line(alloc: Global, text: &mut String, line: &[u8]) -> Result<(), Fail> {
     Ok(())
 }
 
-/// Adds what is printed for a value, behind this text.
+/// Appends what is printed for a value, after this text.
 pub(crate) fn add<T: PrintJson>(
     alloc: Global,
     text: &mut String,
@@ -49,7 +49,7 @@ pub(crate) fn add<T: PrintJson>(
     add_line(alloc, text, line.as_slice())
 }
 
-/// Adds why a line isn't read. Want of memory is an error, so that no table has to know of it.
+/// Appends why a line is refused. Out of memory is an error, so that no table has to handle it.
 pub(crate) fn add_refusal(
     alloc: Global,
     text: &mut String,

@@ -1,4 +1,4 @@
-//! What is printed for the record of a call, and is it read as what it tells?
+//! What is printed for the record of a call, and does it parse to the same record?
 
 use crate::lines::line_of;
 use crate::printed::add;
@@ -13,7 +13,7 @@ use std::alloc::Global;
 use std::process::Abort;
 use std::test::Fail;
 
-/// The lines of one run, and the record of each call: each was handed in by the fifth event, and replied by the ninth.
+/// The lines of one run, and the record of each call: each was invoked by the fifth event, and replied by the ninth.
 const RECORDS: &str = r#"
 # committed, answered, refused
 {"ops":[{"op":"prune","before":7}]} => {"batch":{"after":0,"ops":[{"before":7,"op":"prune"}]},"call":1,"invoked":5,"replied":9,"reply":{"call":1,"place":1,"replies":[{"pruned":[]}],"result":"committed"}}
@@ -32,7 +32,7 @@ const RECORDS: &str = r#"
 {"ops":[{"op":"page","size":1,"at":0,"parent":"spiffe://ex.org/a"}]} => {"batch":{"after":0,"ops":[{"at":0,"op":"page","parent":"spiffe://ex.org/a","size":1}]},"call":10,"invoked":5,"replied":9,"reply":{"call":10,"place":4,"replies":[{"entries":[],"next":null}],"result":"answered"}}
 "#;
 
-/// The record reads as itself.
+/// Asserts that the record parses and prints as itself.
 fn tells_itself(rt: &impl Abort, alloc: Global, record: &str) -> Result<(), Fail> {
     let line = line_of(alloc, record)?;
     line_tells(rt, alloc, Asked::Record, 1, &line, (record, record))
@@ -49,7 +49,7 @@ fn a_record_is_printed_and_reads_as_itself(rt: HostRuntime) -> Result<(), Fail> 
     Ok(())
 }
 
-/// Adds the record of the third call, which was handed in by the sixth event and hasn't replied, where it has one.
+/// Appends the record of the third call, which was invoked by the sixth event and hasn't replied, if it has one.
 fn add_record(
     alloc: Global,
     text: &mut String,
@@ -69,7 +69,7 @@ fn add_record(
     }
 }
 
-/// Adds the records of a call with a reply, of one with no answer, and of one that was a conflict.
+/// Appends the records of a call with a reply, of one with no answer, and of one that was a conflict.
 fn add_records(
     alloc: Global,
     text: &mut String,
@@ -82,7 +82,7 @@ fn add_records(
     add_record(alloc, text, batch, Some(&CallAnswer::Conflict(0)))
 }
 
-/// The same on a book with nothing in it.
+/// The same on an empty book.
 fn add_first_records(alloc: Global, text: &mut String, batch: &Batch) -> Result<(), Fail> {
     let mut book = new_book(alloc)?;
     add_records(alloc, text, &mut book, batch)
@@ -100,7 +100,7 @@ fn a_call_has_a_record_once_it_has_a_reply(rt: HostRuntime) -> Result<(), Fail> 
     tells_itself(&rt, rt.alloc(), NOT_REPLIED)
 }
 
-/// Lines that are no records, and the refusal of each.
+/// Lines that aren't records, and the refusal of each.
 const REFUSED: &str = r#"
 [] => {"code":"L4","line":1}
 
@@ -140,7 +140,7 @@ fn a_line_that_is_no_record_is_refused(rt: HostRuntime) -> Result<(), Fail> {
     tells_at(&rt, rt.alloc(), Asked::Record, 12, CUT)
 }
 
-/// A record whose keys stand in another order, with what can be left out of its batch.
+/// A record with its keys in another order, and without the optional keys of its batch.
 const SHUFFLED: &str = r#"
  {"reply":{"b":[1,null],"a":{}}, "replied":18446744073709551615,"call":0, "batch":{"ops":[{"op":"show_bundle","domain":"b.org"}],"token":null},"invoked":0}  => {"batch":{"after":0,"ops":[{"domain":"b.org","op":"show_bundle"}]},"call":0,"invoked":0,"replied":18446744073709551615,"reply":{"a":{},"b":[1,null]}}
 "#;

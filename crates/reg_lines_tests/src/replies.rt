@@ -7,7 +7,7 @@ use entry_book::Batch;
 use std::alloc::Global;
 use std::test::Fail;
 
-/// The lines of one run, which meets every operation, each with the line that answers it.
+/// The lines of one run, which has every operation, each with the reply line.
 const RUN: &str = r#"
 {"ops":[{"op":"set_agent","agent":"spiffe://ex.org/spire/agent/n1","selectors":["x:1"]}]} => {"call":1,"place":1,"replies":[{"agent":{"id":"spiffe://ex.org/spire/agent/n1","selectors":["x:1"]}}],"result":"committed"}
 {"ops":[{"op":"create","id":"00000000-0000-0000-0000-000000000001","parent":"spiffe://ex.org/spire/agent/n1","identity":"spiffe://ex.org/web","selectors":["unix:uid:1000"]}]} => {"call":2,"place":2,"replies":[{"entry":{"domains":[],"expiry":0,"hint":"","id":"00000000-0000-0000-0000-000000000001","identity":"spiffe://ex.org/web","parent":"spiffe://ex.org/spire/agent/n1","revision":0,"selectors":["unix:uid:1000"]}}],"result":"committed"}
@@ -28,7 +28,7 @@ const RUN: &str = r#"
 {"ops":[{"op":"drop_agent","agent":"spiffe://ex.org/spire/agent/n1"}]} => {"call":17,"place":9,"replies":[{"agent":{"id":"spiffe://ex.org/spire/agent/n1","selectors":["x:1"]}}],"result":"committed"}
 "#;
 
-/// Lines, each answered on a book with nothing in it: escapes, sets in their order, refusals of the book, lifetimes, and the greatest numbers.
+/// Lines, each answered on an empty book: escapes, sets in their order, refusals of the book, lifetimes, and the largest numbers.
 const ANSWERS: &str = r#"
 {"ops":[{"op":"set_agent","agent":"spiffe:\/\/ex.org/spire/agent/\u006e1","selectors":["x:\u0041\"\\\/\b\f\n\r\t\u0001\u001F\u00e9\ud83d\ude00"]}]} => {"call":1,"place":1,"replies":[{"agent":{"id":"spiffe://ex.org/spire/agent/n1","selectors":["x:A\"\\/\b\f\n\r\t\u0001\u001fé😀"]}}],"result":"committed"}
 {"ops":[{"op":"set_agent","agent":"spiffe://ex.org/spire/agent/n1","selectors":["u:2","a!:y","u:1","a:x","u:2"]}]} => {"call":1,"place":1,"replies":[{"agent":{"id":"spiffe://ex.org/spire/agent/n1","selectors":["a:x","a!:y","u:1","u:2"]}}],"result":"committed"}
@@ -43,7 +43,7 @@ const ANSWERS: &str = r#"
 {"ops":[{"op":"create","id":"00000000-0000-0000-0000-000000000001","parent":"spiffe://ex.org/a","identity":"spiffe://ex.org/b","selectors":["u:1"],"hint":"a \"hint\"\n","expiry":18446744073709551615,"x509_svid_ttl":18446744073709551615,"jwt_svid_ttl":1}]} => {"call":1,"place":1,"replies":[{"entry":{"domains":[],"expiry":18446744073709551615,"hint":"a \"hint\"\n","id":"00000000-0000-0000-0000-000000000001","identity":"spiffe://ex.org/b","jwt_svid_ttl":1,"parent":"spiffe://ex.org/a","revision":0,"selectors":["u:1"],"x509_svid_ttl":18446744073709551615}}],"result":"committed"}
 "#;
 
-/// The lines of one run with tokens, places and earlier books, each with the line that answers it.
+/// The lines of one run with tokens, places and earlier books, each with the reply line.
 const PLACES: &str = r#"
 {"ops":[{"op":"page","size":1,"at":0}],"after":0} => {"call":1,"place":0,"replies":[{"entries":[],"next":null}],"result":"answered"}
 {"ops":[{"op":"page","size":1,"at":1}]} => {"call":2,"code":"O8","op":0,"place":0,"result":"refused"}
@@ -62,7 +62,7 @@ fn batches_are_answered_by_the_book(rt: HostRuntime) -> Result<(), Fail> {
     tells(&rt, rt.alloc(), Asked::Reply, ANSWERS)
 }
 
-/// Creates whose ids are forms of one id, and ids that are none.
+/// Creates whose ids are forms of one id, and invalid ids.
 const FORMS: &str = r#"
 {"ops":[{"op":"create","id":"0a0b0c0d-0000-4000-8000-0000000000ff","parent":"spiffe://ex.org/a","identity":"spiffe://ex.org/b","selectors":["u:1"]}]} => {"call":1,"place":1,"replies":[{"entry":{"domains":[],"expiry":0,"hint":"","id":"0a0b0c0d-0000-4000-8000-0000000000ff","identity":"spiffe://ex.org/b","parent":"spiffe://ex.org/a","revision":0,"selectors":["u:1"]}}],"result":"committed"}
 {"ops":[{"op":"create","id":"0A0B0C0D-0000-4000-8000-0000000000FF","parent":"spiffe://ex.org/a","identity":"spiffe://ex.org/b","selectors":["u:1"]}]} => {"call":1,"place":1,"replies":[{"entry":{"domains":[],"expiry":0,"hint":"","id":"0a0b0c0d-0000-4000-8000-0000000000ff","identity":"spiffe://ex.org/b","parent":"spiffe://ex.org/a","revision":0,"selectors":["u:1"]}}],"result":"committed"}
@@ -104,13 +104,13 @@ fn the_length_of_a_text_is_that_of_its_bytes_after_escapes(rt: HostRuntime) -> R
     tells(&rt, rt.alloc(), Asked::Reply, ESCAPES)
 }
 
-/// Adds the reply to a batch, on a book with nothing in it, as that to the last call there can be.
+/// Appends the reply to a batch, on an empty book, as that to the call with the largest number.
 fn add_last_reply(alloc: Global, text: &mut String, batch: &Batch) -> Result<(), Fail> {
     let mut book = new_book(alloc)?;
     add_reply(alloc, text, &mut book, batch, u64::MAX)
 }
 
-/// The latest expiry; the lifetimes are 60 times and 5 times as much, of which 64 bits are left.
+/// The latest expiry; the lifetimes are 60 and 5 times as large, reduced to 64 bits.
 const CREATE: &str = "create 1 /a /b u:1 18446744073709551615";
 
 const CREATED: &str =

@@ -1,10 +1,10 @@
-//! Which fault of a line is told, and which operations do lines spell?
+//! Which fault of a line is reported, and which operations do lines represent?
 
 use crate::tables::{Asked, tells};
 use reg_lines::unknown_keys_law;
 use std::test::Fail;
 
-/// Lines, and what each spells.
+/// Lines, and the request of each.
 const TABLE: &str = r#"
 # no JSON text
  => {"code":"L2","line":1}
@@ -176,7 +176,7 @@ fn lines_are_read_in_the_order_of_the_format(rt: HostRuntime) -> Result<(), Fail
     tells(&rt, rt.alloc(), Asked::Request, TABLE)
 }
 
-/// Lines with 64 operations, and with more: 65 are too many, which is looked at after all of them were read.
+/// Lines with 64 operations, and with more: 65 are too many, which is checked after all of them were read.
 const MANY: &str = r#"
 {"ops":[{"op":"show","id":"00000000-0000-0000-0000-000000000001"}«63*,{"op":"show","id":"00000000-0000-0000-0000-000000000001"}»]} => 1; show "00000000-0000-0000-0000-000000000001"«63*; show "00000000-0000-0000-0000-000000000001"»
 {"ops":[{"op":"show","id":"00000000-0000-0000-0000-000000000001"}«63*,{"op":"show","id":"00000000-0000-0000-0000-000000000001"}»,{"op":"show","id":"00000000-0000-0000-0000-000000000001"}]} => {"code":"B2","line":1}

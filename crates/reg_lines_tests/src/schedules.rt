@@ -95,7 +95,7 @@ fn an_order_lists_its_calls(rt: HostRuntime) -> Result<(), Fail> {
     tells(&rt, rt.alloc(), Asked::Value, ORDERS)
 }
 
-/// What the book replies to the batch that was handed in.
+/// The book's reply to the batch that was invoked.
 fn answer(
     alloc: Global,
     book: &mut PlainBook,
@@ -107,7 +107,7 @@ fn answer(
     Ok(CallAnswer::Replied(reply_of(book, batch)?))
 }
 
-/// Adds what an event is answered in the small schedule, where a call is one step.
+/// Appends the answer to an event in the small schedule, where a call makes one step.
 pub(crate) fn add_scheduled(
     alloc: Global,
     text: &mut String,
@@ -128,7 +128,7 @@ pub(crate) fn add_scheduled(
     add(alloc, text, "", &done)
 }
 
-/// A small schedule on a book with nothing in it, and its order.
+/// A small schedule on an empty book, and its order.
 const SCHEDULE: &str = r#"
 {"event":"invoke","call":1,"batch":{"ops":[{"op":"show","id":"00000000-0000-0000-0000-000000000001"}]}} => {"call":1,"state":"new"}
 {"event":"begin","call":1} => {"call":1,"place":0,"state":"running"}

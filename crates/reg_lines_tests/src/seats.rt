@@ -1,4 +1,4 @@
-//! What is printed where a seat of a shared registry has no answer?
+//! What is printed if a seat of a shared registry has no answer?
 
 use crate::tables::{Asked, tells};
 use reg_lines::printed_seats_law;

@@ -1,4 +1,4 @@
-//! What lines spell, key by key, in a text that tables tell.
+//! Describes what lines represent, key by key, in the text of the tables.
 
 use crate::printed::add;
 use call_machine::Event;
@@ -7,7 +7,7 @@ use reg_lines::{PrintJson, Record, Request};
 use std::alloc::Global;
 use std::test::Fail;
 
-/// Adds a value that may be left out, and this text where it is.
+/// Appends an optional value, or this text if it is missing.
 fn add_given<T: PrintJson>(
     alloc: Global,
     text: &mut String,
@@ -20,7 +20,7 @@ fn add_given<T: PrintJson>(
     }
 }
 
-/// Adds a lifetime, where it isn't 0.
+/// Appends a lifetime, unless it is 0.
 fn add_lifetime(alloc: Global, text: &mut String, before: &str, seconds: u64) -> Result<(), Fail> {
     if seconds == 0 {
         return Ok(());
@@ -28,7 +28,7 @@ fn add_lifetime(alloc: Global, text: &mut String, before: &str, seconds: u64) ->
     add(alloc, text, before, &seconds)
 }
 
-/// Adds the fields of an entry in the order of the format.
+/// Appends the fields of an entry in the order of the format.
 fn add_entry(alloc: Global, text: &mut String, new: &NewEntry) -> Result<(), Fail> {
     add(alloc, text, " ", &new.id)?;
     add(alloc, text, " ", &new.parent)?;
@@ -51,7 +51,7 @@ fn add_match(alloc: Global, text: &mut String, given: &Option<SelectorMatch>) ->
     }
 }
 
-/// Adds what was read of each key of a page; `-` where it isn't there.
+/// Appends what was read for each key of a page; `-` for a missing key, and nothing for a missing `at`.
 fn add_page(alloc: Global, text: &mut String, query: &PageQuery) -> Result<(), Fail> {
     add(alloc, text, "page ", &query.size)?;
     if let Some(at) = &query.at {
@@ -64,7 +64,7 @@ fn add_page(alloc: Global, text: &mut String, query: &PageQuery) -> Result<(), F
     add_match(alloc, text, &query.filter.selectors)
 }
 
-/// Adds the operation's name, and what was read of each of its keys.
+/// Appends the operation's name, and what was read for each of its keys.
 fn add_op(alloc: Global, text: &mut String, op: &Op) -> Result<(), Fail> {
     match op {
         Op::Create(new) => {
@@ -104,7 +104,7 @@ fn add_op(alloc: Global, text: &mut String, op: &Op) -> Result<(), Fail> {
     }
 }
 
-/// Adds after which place a batch may run, where it may not at every one, its token, and its operations.
+/// Appends a batch's minimum place, if it isn't 0, its token, and its operations.
 fn add_batch(alloc: Global, text: &mut String, batch: &Batch) -> Result<(), Fail> {
     if batch.after() != 0 {
         add(alloc, text, " after ", &batch.after())?;
@@ -119,13 +119,13 @@ fn add_batch(alloc: Global, text: &mut String, batch: &Batch) -> Result<(), Fail
     Ok(())
 }
 
-/// Adds how often a request may be tried, and its batch.
+/// Appends the number of tries of a request, and its batch.
 pub(crate) fn add_request(alloc: Global, text: &mut String, request: &Request) -> Result<(), Fail> {
     add(alloc, text, "", &request.tries.count())?;
     add_batch(alloc, text, &request.batch)
 }
 
-/// Adds the event's name, its call, and the batch that it hands in.
+/// Appends the event's name, its call, and the batch of an invoke.
 pub(crate) fn add_event(alloc: Global, text: &mut String, event: &Event) -> Result<(), Fail> {
     match event {
         Event::Invoke(call, batch) => {
@@ -139,7 +139,7 @@ pub(crate) fn add_event(alloc: Global, text: &mut String, event: &Event) -> Resu
     }
 }
 
-/// Adds the line that tells what was read of a record.
+/// Appends the line that describes what was read of a record.
 pub(crate) fn add_record(alloc: Global, text: &mut String, record: &Record) -> Result<(), Fail> {
     add(alloc, text, "{\"batch\":", &record.batch)?;
     add(alloc, text, ",\"call\":", &record.call)?;

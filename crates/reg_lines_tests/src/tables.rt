@@ -1,7 +1,7 @@
-//! What comes of each line of a table?
+//! What does each line of a table result in?
 //!
-//! In a line of a table ` => ` stands between what is read and what comes of it, both folded as in `lines`. What has no such
-//! mark says what the lines behind it show.
+//! A line of a table has an input, ` => `, and the result, both in the notation of `lines`. A line without ` => ` says what the
+//! lines after it show.
 
 use crate::lines::{line_of, unfolded};
 use crate::printed::{add, add_refusal};
@@ -17,49 +17,49 @@ use std::alloc::Global;
 use std::process::Abort;
 use std::test::Fail;
 
-/// What is asked of a line.
+/// What to check for a line.
 #[derive(Clone, Copy)]
 pub(crate) enum Asked {
-    /// What a request spells.
+    /// The request of the line.
     Request,
-    /// What a request is answered on a plain book.
+    /// The reply of a plain book to the request.
     Reply,
-    /// The record of the call that a request makes: it was handed in by the fifth event, and replied by the ninth.
+    /// The record of the call of the request: it was invoked by the fifth event, and replied by the ninth.
     Call,
-    /// What a record tells.
+    /// The contents of the record.
     Record,
-    /// What an event spells.
+    /// The event of the line.
     Event,
-    /// What an event of a small schedule is answered.
+    /// The answer to the event in a small schedule.
     Scheduled,
     /// What is printed for a value.
     Value,
 }
 
-/// What a line is read with, in the trust domain `ex.org`.
+/// The state with which lines are read, in the trust domain `ex.org`.
 #[derive(Drop)]
 struct Reading {
     book: PlainBook,
     ids: Ids,
-    /// The line's number, and its call's.
+    /// The number of the line, and that of the call.
     line: u64,
     call: u64,
-    /// The batch that an event of a schedule has handed in.
+    /// The batch that an event of a schedule has invoked.
     handed_in: Option<Batch>,
 }
 
-/// A book of `ex.org` with nothing in it.
+/// An empty book of `ex.org`.
 pub(crate) fn new_book(alloc: Global) -> Result<PlainBook, Fail> {
     Ok(PlainBook::new(alloc, trust_domain(alloc, "ex.org")?)?)
 }
 
-/// The ids of the seed of zeros.
+/// The ids of the all-zero seed.
 fn first_ids() -> Ids {
     Ids::of_seed([0; 32])
 }
 
 impl Reading {
-    /// The first call of a line of this number, on a book with nothing in it.
+    /// The state for the first call, in a line of this number, on an empty book.
     fn new(alloc: Global, ids: Ids, line: u64) -> Result<Reading, Fail> {
         let book = new_book(alloc)?;
         Ok(Reading {
@@ -80,7 +80,7 @@ pub(crate) fn reply_of(book: &mut PlainBook, batch: &Batch) -> Result<Reply, Fai
     Ok(book.run(batch)?)
 }
 
-/// Adds the line of the reply to a call.
+/// Appends the line of the reply to a call.
 pub(crate) fn add_reply(
     alloc: Global,
     text: &mut String,
@@ -100,7 +100,7 @@ pub(crate) fn add_reply(
     )
 }
 
-/// Adds the record of a call.
+/// Appends the record of a call.
 fn add_call(
     alloc: Global,
     text: &mut String,
@@ -119,7 +119,7 @@ fn add_call(
     add(alloc, text, "", &record)
 }
 
-/// Adds what is asked of a request line.
+/// Appends what is to be checked for a request line.
 fn add_of_request(
     alloc: Global,
     text: &mut String,
@@ -144,7 +144,7 @@ fn add_of_request(
     }
 }
 
-/// Adds what is asked of an event's line.
+/// Appends what is to be checked for an event's line.
 fn add_of_event(
     alloc: Global,
     text: &mut String,
@@ -180,7 +180,7 @@ fn add_of_record(
     }
 }
 
-/// Adds what is asked of a line.
+/// Appends what is to be checked for a line.
 fn add_answer(
     alloc: Global,
     text: &mut String,
@@ -198,7 +198,7 @@ fn add_answer(
     }
 }
 
-/// The text is what this one stands for.
+/// Asserts that the text is what this one means.
 fn is_unfolded(
     rt: &impl Abort,
     alloc: Global,
@@ -211,7 +211,7 @@ fn is_unfolded(
     Ok(())
 }
 
-/// Of this line, which a text stands for, this comes.
+/// Asserts the result of this line.
 fn comes(
     rt: &impl Abort,
     alloc: Global,
@@ -238,7 +238,7 @@ fn comes_first(
     comes(rt, alloc, asked, &mut reading, line, case)
 }
 
-/// Of this line, which a text stands for, this comes, as the line of this number.
+/// Asserts the result of this line, as the line of this number and the first call.
 pub(crate) fn line_tells(
     rt: &impl Abort,
     alloc: Global,
@@ -250,7 +250,7 @@ pub(crate) fn line_tells(
     comes_first(rt, alloc, asked, (first_ids(), number), line, case)
 }
 
-/// Of a text's line this comes with these ids, as the first line.
+/// Asserts the result of the line of a text with these ids, as the first line.
 pub(crate) fn tells_with(
     rt: &impl Abort,
     alloc: Global,
@@ -262,7 +262,7 @@ pub(crate) fn tells_with(
     comes_first(rt, alloc, asked, (ids, 1), &line, case)
 }
 
-/// Each line of the table is as it says, as the line of this number and the first call, with the ids of the seed of zeros.
+/// Asserts the result of each line of the table, as the line of this number and the first call, with the ids of the all-zero seed.
 pub(crate) fn tells_at(
     rt: &impl Abort,
     alloc: Global,
@@ -279,12 +279,12 @@ pub(crate) fn tells_at(
     Ok(())
 }
 
-/// Each line of the table is as it says, as the first line.
+/// Asserts the result of each line of the table, as the first line.
 pub(crate) fn tells(rt: &impl Abort, alloc: Global, asked: Asked, table: &str) -> Result<(), Fail> {
     tells_at(rt, alloc, asked, 1, table)
 }
 
-/// A line of the table, and then the next one.
+/// Asserts the result of a line of the table, and advances to the next one.
 fn tells_next(
     rt: &impl Abort,
     alloc: Global,
@@ -314,7 +314,7 @@ fn tells_all(
     Ok(())
 }
 
-/// The lines of the table are as they say, one after another: lines and calls are counted from 1.
+/// Asserts the results of the lines of the table, one after another: lines and calls are counted from 1.
 pub(crate) fn tells_in_a_row(
     rt: &impl Abort,
     alloc: Global,

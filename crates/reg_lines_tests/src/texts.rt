@@ -3,7 +3,7 @@
 use crate::tables::{Asked, tells};
 use std::test::Fail;
 
-/// Texts, among them characters that are no letters: of one byte, of two, three and four.
+/// Texts, with characters that aren't letters: of one byte, of two, three and four.
 const TEXTS: &str = r#"
 text  => ""
 text plain => "plain"

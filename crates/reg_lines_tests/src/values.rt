@@ -1,4 +1,4 @@
-//! Values, told by words, as they are printed.
+//! Values from words, as they are printed.
 
 use crate::printed::add;
 use batch_texts::{number, trust_domain, word, words};
@@ -34,7 +34,7 @@ fn group(alloc: Global, parent: &str, identity: &str) -> Result<Mark, Fail> {
     Ok(Mark::group(&parent, &identity)?)
 }
 
-/// The mark that the words from this index on tell.
+/// The mark of the words from this index on.
 fn mark(alloc: Global, words: &[&str], index: usize) -> Result<Mark, Fail> {
     let next = index.saturating_add(1);
     let name = word(words, next);
@@ -73,7 +73,7 @@ fn limit(word: &str) -> Result<Limit, Fail> {
     }
 }
 
-/// What a commit comes to: a limit, where it isn't let in.
+/// The result of a commit: a limit, if it isn't accepted.
 fn decision(word: &str) -> Result<Decision, Fail> {
     match word {
         "committed" => Ok(Decision::Committed),
@@ -82,7 +82,7 @@ fn decision(word: &str) -> Result<Decision, Fail> {
     }
 }
 
-/// The answer to the event of a call that is accepted.
+/// The answer to an accepted event of a call.
 fn done(alloc: Global, words: &[&str]) -> Result<Done, Fail> {
     let call = number(words, 1)?;
     match word(words, 0) {
@@ -139,7 +139,7 @@ fn refusal(alloc: Global, words: &[&str]) -> Result<Refusal, Fail> {
     }
 }
 
-/// Adds the reply of a call, refused at a place.
+/// Appends the reply to a call that is refused at a place.
 fn add_refused(alloc: Global, text: &mut String, words: &[&str]) -> Result<(), Fail> {
     let call = number(words, 1)?;
     let reply = Reply {
@@ -167,7 +167,7 @@ fn add_conflict(alloc: Global, text: &mut String, words: &[&str]) -> Result<(), 
     add(alloc, text, "", &answered)
 }
 
-/// Adds a refusal for want of memory.
+/// Appends a refusal because memory ran out.
 fn add_no_memory(alloc: Global, text: &mut String, words: &[&str]) -> Result<(), Fail> {
     let refusal = LineRefusal {
         line: number(words, 1)?,
@@ -201,7 +201,7 @@ fn add_domains(alloc: Global, text: &mut String, words: &[&str]) -> Result<(), F
     add(alloc, text, "", &DomainSet::of(alloc, domains)?)
 }
 
-/// Adds what is printed for the value that words tell: the answer to an event, where they tell none else.
+/// Appends what is printed for the value of these words, by default the answer to an event.
 fn add_of_words(alloc: Global, text: &mut String, words: &[&str]) -> Result<(), Fail> {
     match word(words, 0) {
         "number" => add(alloc, text, "", &number(words, 1)?),
@@ -218,7 +218,7 @@ fn add_of_words(alloc: Global, text: &mut String, words: &[&str]) -> Result<(), 
     }
 }
 
-/// Adds the lists of numbers of these lines.
+/// Appends the lists of numbers of these lines.
 fn add_lists(alloc: Global, text: &mut String, lines: &str) -> Result<(), Fail> {
     let mut lists = Vec::new(alloc);
     for line in lines.lines() {
@@ -227,7 +227,7 @@ fn add_lists(alloc: Global, text: &mut String, lines: &str) -> Result<(), Fail> 
     add(alloc, text, "", &lists)
 }
 
-/// Adds the list of the marks of these lines.
+/// Appends the list of the marks of these lines.
 fn add_marks(alloc: Global, text: &mut String, lines: &str) -> Result<(), Fail> {
     let mut marks = Vec::new(alloc);
     for line in lines.lines() {
@@ -236,7 +236,7 @@ fn add_marks(alloc: Global, text: &mut String, lines: &str) -> Result<(), Fail> 
     add(alloc, text, "", &marks)
 }
 
-/// Adds what is printed for the value that a line tells. Lists in lists, and marks, have a semicolon between them.
+/// Appends what is printed for the value of a line. Semicolons separate nested lists, and marks.
 pub(crate) fn add_value(alloc: Global, text: &mut String, line: &str) -> Result<(), Fail> {
     let line = line.strip_suffix("\n").unwrap_or(line);
     let (kind, told) = line.split_once(" ").unwrap_or((line, ""));

@@ -1,13 +1,13 @@
-//! What a test wants to see: one call each, since an assertion that is written out takes the prover seconds.
+//! Assertions, each in a function of its own, since an assertion that is written out takes the prover seconds.
 
 use std::process::Abort;
 
-/// The two texts are the same.
+/// Asserts that the two texts are equal.
 pub(crate) fn is_text(rt: &impl Abort, got: &str, want: &str, at: &str) {
     assert_eq!(rt; got, want, "{at}");
 }
 
-/// It holds at this number.
+/// Asserts that it holds at this number.
 pub(crate) fn holds(rt: &impl Abort, it: bool, at: &str, number: u64) {
     assert!(rt; it, "{at} {number}");
 }
