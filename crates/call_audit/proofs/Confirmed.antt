@@ -1,4 +1,4 @@
--- The records of calls that the plain book confirms are audited yes.
+-- The verdict on the records of calls that the plain book confirms is yes.
 use Rattle.std.proofs.Common.{◌≡◌, ◌<◌, ◌≤◌, ℕ, zero, suc, true, List, [], ◌∷◌, ◌++◌, map, take, length, Option, None, Some, Ok, inl, refl, sym, ap, ◌∙◌, subst}
 use Rattle.std.specs.List.{concat, flat_map}
 use Rattle.std.specs.Prelude.{slice_get, codes}
@@ -27,7 +27,7 @@ record_of c = record { batch = c.batch; call = c.call; invoked = c.invoked; repl
 abbrev records_of : List RecordedCall → List AuditRecord
 records_of calls = map record_of calls
 
--- ---- each line spells its call's record
+-- ---- each line parses to its call's record
 
 spells : (law : RecordsAreSpelled) (domain : List ℕ) (c : RecordedCall) → IsReadable domain c → spelled_record domain (line_of_call c) ≡ Ok (record_of c)
 spells law domain c h = subst (λ d. spelled_record d (line_of_call c) ≡ Ok (record_of c)) h.domain_is (law c.batch c.call c.invoked c.replied c.reply h.batch h.call h.fits)

@@ -1,4 +1,4 @@
--- The records of a history have no fault, and lines that spell them are audited yes.
+-- The records of a history have no fault, and the verdict on lines that parse to them is yes.
 use Rattle.std.proofs.Common.{◌≡◌, ◌<◌, ◌≤◌, ℕ, suc, Bool, true, false, List, [], ◌∷◌, ◌++◌, take, length, Option, None, Some, Ok, refl, sym, ap, ap₂, ◌∙◌, subst, arith, append_assoc, lt-ltb, le-ltb}
 use Rattle.std.proofs.lemmas.Bool.Decides.{Decides-eqb}
 use Rattle.std.proofs.lemmas.Slice.Eq.{bytes_eq-Decides}
@@ -18,7 +18,7 @@ use Rattle.call_audit.specs.Verdicts.{HistoryIsYes, Spell, verdict_by, verdict_o
 use Rattle.call_audit.proofs.Judging.{cause_none}
 use Rattle.call_audit.proofs.Yes.{append_none}
 
--- ---- a record behind others
+-- ---- a record after others
 
 here_at : {X : Type 0} (before : List X) (x : X) (rest : List X) → slice_get (before ++ x ∷ rest) (length before) ≡ Some x
 here_at [] x rest = refl
@@ -28,7 +28,7 @@ before_at : {X : Type 0} (before rest : List X) → take (length before) (before
 before_at [] rest = refl
 before_at (y ∷ ys) rest = ap (λ l. y ∷ l) (before_at ys rest)
 
--- a test that fails at each place of a list holds nowhere in it
+-- a test that fails at each index of a list holds for no item
 none_in : {X : Type 0} (p : X → Bool) (before rest : List X) → ((i : ℕ) (x : X) → i < length before → slice_get (before ++ rest) i ≡ Some x → p x ≡ false) → list_any p before ≡ false
 none_in p [] rest h = refl
 none_in p (y ∷ ys) rest h = rw (h 0 y (omega arith) refl) (none_in p ys rest (λ i x l e. h (suc i) x (omega arith) e))
@@ -37,7 +37,7 @@ unless_true : (b : Bool) → (b ≡ true → ⊥) → b ≡ false
 unless_true true n = absurd (n refl)
 unless_true false n = refl
 
--- ---- what each test says
+-- ---- the meaning of each test
 
 not_past : (o : Option ℕ) (invoked : ℕ) → ((n : ℕ) → o ≡ Some n → invoked ≤ n) → is_past o invoked ≡ false
 not_past None invoked h = refl

@@ -1,4 +1,4 @@
--- Numbers with a fraction or an exponent, item by item.
+-- Floating-point numbers, item by item.
 use Rattle.std.proofs.Common.{◌≡◌, Bool, List, ◌∷◌, ap}
 use Rattle.std.specs.Prelude.{◌||◌}
 use Rattle.serde_json.specs.View.{items_view, members_view, view}

@@ -18,7 +18,7 @@ use Rattle.call_audit.specs.Follows.{FaultlessAreHistory, HasEnded, IsReplyTo}
 
 -- ---- one record
 
--- none of the causes holds of it
+-- none of the causes applies
 pub record Passes (before : List AuditRecord) (r : AuditRecord) : Type 0 where
   pub new : has_call r.call before ≡ false
   pub stamped : is_stamped r ≡ true
@@ -72,7 +72,7 @@ none_at p (y ∷ ys) i zero x e h n = absurd (omega arith)
 none_at p (y ∷ ys) zero (suc j) x e h n = ap p (sym (at_of y x e)) ∙ or_left (p y) (list_any p (take j ys)) n
 none_at p (y ∷ ys) (suc i) (suc j) x e h n = none_at p ys i j x e (omega arith) (or_right (p y) (list_any p (take j ys)) n)
 
--- ---- what each test says
+-- ---- the meaning of each test
 
 is_itself : (n : ℕ) → (n == n) ≡ true
 is_itself n = (Decides-eqb n n).1 refl
@@ -102,7 +102,7 @@ text_of d text e =
     let b = both (has_float d) (bytes_eq (compact_text d) text) e in
     (b.0, (bytes_eq-Decides (compact_text d) text).0 b.1)
 
--- ---- the four promises
+-- ---- the four properties of a history
 
 module _ (records : List AuditRecord) (all : AreFaultless [] records) where
   passing : (i : ℕ) (r : AuditRecord) → slice_get records i ≡ Some r → Passes (take i records) r

@@ -1,4 +1,4 @@
--- Which cause is the first, by what holds of a record.
+-- Which cause is the first that applies to a record.
 use Rattle.std.proofs.Common.{◌≡◌, ℕ, Bool, true, false, List, Option, None, Some, Result, Ok, Err, IfOk, refl, sym, ap, ◌∙◌}
 use Rattle.std.specs.Prelude.{not, if◌then◌else◌}
 use Rattle.std.specs.declared.alloc.AllocError.{AllocError}
@@ -52,14 +52,14 @@ cause_none before r a b c d =
 
 -- ---- a line
 
--- a line that spells a record is judged as that record is
+-- the result for a line that parses to a record is that for the record
 pub judges_of : (domain : List ℕ) (before : List AuditRecord) (line : List ℕ) (r : AuditRecord) (K : List AuditRecord → Type 0) (result : Result (Option Cause) AllocError) → spelled_record domain line ≡ Ok r → IfOk result (JudgesRecord before r K) → IfOk result (Judges domain before line K)
 unfolding judged
 judges_of domain before line r K (Err e) is h = tt
 judges_of domain before line r K (Ok None) is h = (r, ap (judged_spelled before) is ∙ ap (judged_when before r) h.0, h.1)
 judges_of domain before line r K (Ok (Some cause)) is h = ap (judged_spelled before) is ∙ ap (judged_when before r) h
 
--- a line that spells none has its fault's code as the cause
+-- the cause of a line that isn't a record is its fault's code
 pub judges_failure : (domain : List ℕ) (before : List AuditRecord) (line : List ℕ) (failure : Failure Fault) (cause : Cause) → Fails failure (spelled_record domain line) → IsSpellingCause failure cause → judged domain before line ≡ Err cause
 unfolding judged
 judges_failure domain before line NoMemory cause is c = absurd c

@@ -1,4 +1,4 @@
--- What an auditor keeps goes on with the next record.
+-- What an auditor stores after the next record.
 use Rattle.std.proofs.Common.{◌≡◌, ℕ, suc, Bool, true, false, List, [], ◌∷◌, ◌++◌, map, length, Option, None, Some, refl, sym, ap, ◌∙◌, subst, arith}
 use Rattle.std.proofs.lemmas.List.Folds.{list_any-append}
 use Rattle.std.specs.List.{list_any}
@@ -51,7 +51,7 @@ late-next latest before x r e =
     ∙ (ap (λ b. is_late r before || b) (sym (or-false (is_past r.replied x.invoked)))
     ∙ sym (list_any-append (λ e. is_past r.replied e.invoked) before (x ∷ []))))
 
--- the state after a record stands for one record more
+-- the state after a record represents one more record
 pub keeps-next : (old new : AuditState) (before : List AuditRecord) (r : AuditRecord) → Keeps old before → Stands new.book (books_after r.batch (books_of (batches_of before))) → new.calls ≡ old.calls ++ r.call ∷ [] → new.latest ≡ max old.latest r.invoked → Keeps new (before ++ r ∷ [])
 keeps-next old new before r k stands calls latest = record {
   books = subst (λ books. Stands new.book books) (sym (books-next before r)) stands;

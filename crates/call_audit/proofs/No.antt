@@ -8,7 +8,7 @@ use Rattle.call_audit.specs.Verdicts.{NoIsFirst, Spell, verdict_by, verdict_on}
 use Rattle.call_audit.proofs.Histories.{faultless_are_history}
 use Rattle.call_audit.proofs.Yes.{append_none, clean}
 
--- the first line with a fault, behind the records before and those of the lines in front of it
+-- the first line with a fault, after the records before and those of the lines before it
 record Stopped (domain : List ℕ) (before : List AuditRecord) (lines : List (List ℕ)) (n : ℕ) (cause : Cause) : Type 0 where
   front : List (List ℕ)
   line : List ℕ
@@ -58,7 +58,7 @@ stopped : (domain : List ℕ) (before : List AuditRecord) (lines : List (List �
 stopped domain before [] n cause e = absurd (cc)
 stopped domain before (line ∷ lines) n cause e = stopped_by domain before line lines n cause (judged domain before line) refl (λ r h. stopped domain (before ++ r ∷ []) lines n cause h) e
 
--- each line spells one record
+-- each line parses to one record
 spell_count : (domain : List ℕ) (lines : List (List ℕ)) (records : List AuditRecord) → Spell domain lines records → length records ≡ length lines
 spell_count domain [] [] s = refl
 spell_count domain [] (r ∷ rs) s = absurd s

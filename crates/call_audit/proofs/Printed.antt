@@ -1,4 +1,4 @@
--- The pieces of a verdict put one after another.
+-- The parts of a verdict are printed one after another.
 use Rattle.std.proofs.Common.{ℕ}
 use Rattle.std.specs.Prelude.{codes, decimal}
 use Rattle.reg_lines.specs.Json.{text_json}

@@ -8,7 +8,7 @@ use Rattle.call_audit.specs.Audits.{AreFaultless, cause_of, judged, judged_spell
 use Rattle.call_audit.specs.Verdicts.{Spell, YesIsHistory, verdict_by, verdict_on}
 use Rattle.call_audit.proofs.Histories.{faultless_are_history}
 
--- a line that has no fault spells its record
+-- a line without a fault parses to its record
 pub record Clean (domain : List ℕ) (before : List AuditRecord) (line : List ℕ) (r : AuditRecord) : Type 0 where
   pub spells : spelled_record domain line ≡ Ok r
   pub faultless : cause_of before r ≡ None
@@ -27,7 +27,7 @@ pub clean : (domain : List ℕ) (before : List AuditRecord) (line : List ℕ) (r
 unfolding judged
 clean domain before line r e = clean_by domain before line r (spelled_record domain line) refl e
 
--- the records of the lines, behind those before
+-- the records of the lines, after those before
 record Taken (domain : List ℕ) (before : List AuditRecord) (lines : List (List ℕ)) (calls : ℕ) : Type 0 where
   records : List AuditRecord
   spelled : Spell domain lines records

@@ -1,4 +1,4 @@
--- Which record may stand behind others, and why a line is none: the first cause that holds, in their order.
+-- Which record is valid after others, and why a line is not valid: the first cause that applies, in their order.
 use Rattle.std.specs.Prelude.{◌≡◌, ℕ, Bool, false, not, ◌&&◌, ◌==◌, ⊤, List, [], ◌∷◌, ◌++◌, map, codes, nat_lt, Option, None, Some, Result, Ok, Err, if◌then◌else◌, option_and_then}
 use Rattle.std.specs.List.{list_any}
 use Rattle.std.specs.Str.{bytes_eq}
@@ -15,12 +15,12 @@ use Rattle.line_reading.specs.declared.fault.Fault.{Fault}
 use Rattle.call_audit.specs.declared.cause.Cause.{Cause}
 use Rattle.call_audit.specs.declared.cause.Cause.TheVariants.{Call, Order, Reply, Spelling, Stamps}
 
--- ---- what is asked of a record, beside those before it
+-- ---- the conditions on a record, after those before it
 
 abbrev pub has_call : ℕ → List AuditRecord → Bool
 has_call call before = list_any (λ r. call == r.call) before
 
--- the reply tells a committed batch
+-- the reply is that of a committed batch
 abbrev pub is_word_of_commit : Option (List ℕ) → Bool
 is_word_of_commit None = false
 is_word_of_commit (Some word) = bytes_eq word (codes "committed")
@@ -28,7 +28,7 @@ is_word_of_commit (Some word) = bytes_eq word (codes "committed")
 abbrev pub is_commit : Data → Bool
 is_commit reply = is_word_of_commit (option_and_then as_str (get (codes "result") reply))
 
--- it replied after its invoke, or it hasn't replied and tells a commit
+-- it replied after its invoke, or it hasn't replied and its reply is that of a commit
 abbrev pub is_ended : Option ℕ → ℕ → Data → Bool
 is_ended (Some n) invoked reply = nat_lt invoked n
 is_ended None invoked reply = is_commit reply
@@ -44,14 +44,14 @@ is_past (Some n) invoked = nat_lt n invoked
 abbrev pub is_late : AuditRecord → List AuditRecord → Bool
 is_late r before = list_any (λ e. is_past r.replied e.invoked) before
 
--- the value has this compact text; a value with a float has none
+-- the value has this compact text, and has no float
 abbrev pub is_text_of : Data → List ℕ → Bool
 is_text_of d text = not (has_float d) && bytes_eq (compact_text d) text
 
 abbrev pub batches_of : List AuditRecord → List Batch
 batches_of before = map (λ r. r.batch) before
 
--- the plain book gives this reply, behind the batches of the records before
+-- the plain book, after the batches of the records before, gives this reply
 abbrev pub is_given : AuditRecord → List AuditRecord → Bool
 is_given r before = is_text_of r.reply (reply_json r.call (reply_to r.batch (books_of (batches_of before))))
 
@@ -67,7 +67,7 @@ cause_of before r =
 
 -- ---- a line
 
--- The line is the record without a fault that is told, or it has this cause.
+-- The result for a line: its record, if that has no cause, and otherwise the first cause.
 abbrev pub judged_when : List AuditRecord → AuditRecord → Option Cause → Result AuditRecord Cause
 judged_when before r None = Ok r
 judged_when before r (Some cause) = Err cause
@@ -76,18 +76,18 @@ abbrev pub judged_spelled : List AuditRecord → Result AuditRecord Fault → Re
 judged_spelled before (Err fault) = Err (Spelling fault.code)
 judged_spelled before (Ok r) = judged_when before r (cause_of before r)
 
--- this is the cause of a line that has this fault
+-- the cause of a line with this fault
 abbrev pub IsSpellingCause : Failure Fault → Cause → Type 0
 IsSpellingCause NoMemory cause = ⊥
 IsSpellingCause (Refused fault) cause = cause ≡ Spelling fault.code
 
--- what a line comes to in a trust domain, behind these records: a record, or the first cause
+-- the result for a line in a trust domain, after these records: its record, or the first cause
 unfoldable pub judged : List ℕ → List AuditRecord → List ℕ → Result AuditRecord Cause
 judged domain before line = judged_spelled before (spelled_record domain line)
 
--- ---- what an auditor answers
+-- ---- what an auditor returns
 
--- Where it takes the record, what it keeps then is behind this record, too.
+-- If the auditor accepts the record, its new state is that after this record too.
 abbrev pub JudgesRecord : List AuditRecord → AuditRecord → (List AuditRecord → Type 0) → Option Cause → Type 0
 JudgesRecord before r Keeps None = (cause_of before r ≡ None) × Keeps (before ++ r ∷ [])
 JudgesRecord before r Keeps (Some cause) = cause_of before r ≡ Some cause
@@ -98,7 +98,7 @@ Judges domain before line Keeps (Some cause) = judged domain before line ≡ Err
 
 -- ---- many records
 
--- none has a fault behind those before it
+-- none has a cause, each after those before it
 abbrev pub AreFaultless : List AuditRecord → List AuditRecord → Type 0
 AreFaultless before [] = ⊤
 AreFaultless before (r ∷ rs) = (cause_of before r ≡ None) × AreFaultless (before ++ r ∷ []) rs

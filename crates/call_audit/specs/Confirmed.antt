@@ -1,4 +1,4 @@
--- Calls with replies that the plain book confirms: the lines of their records are audited yes.
+-- Calls with replies that the plain book confirms: an audit of the lines of their records says yes.
 use Rattle.std.specs.Prelude.{◌≡◌, ◌<◌, ◌≤◌, ◌++◌, ℕ, true, List, map, take, length, slice_get, codes, Option, None, Some}
 use Rattle.std.specs.List.{flat_map}
 use Rattle.entry_book.specs.Batches.{Batch}
@@ -12,7 +12,7 @@ use Rattle.call_audit.specs.Verdicts.{verdict_of}
 
 -- ---- a call
 
--- Its batch and its number, when it was handed in and when its reply was given out, and its reply.
+-- Its batch and its number, the numbers of its invoke and of its reply, and its reply.
 pub record RecordedCall : Type 0 where
   pub batch : Batch
   pub call : ℕ
@@ -27,7 +27,7 @@ text_of_call c = record_json c.batch c.call c.invoked c.replied c.reply
 abbrev pub line_of_call : RecordedCall → List ℕ
 line_of_call c = text_of_call c ++ codes "\n"
 
--- its batch was made for the trust domain, and its record fits into a line
+-- its batch is of the trust domain, batch and call satisfy the invariants of their types, and its record fits into a line
 pub record IsReadable (domain : List ℕ) (c : RecordedCall) : Type 0 where
   pub domain_is : c.batch.domain ≡ domain
   pub batch : IsWrittenBatch c.batch
@@ -43,7 +43,7 @@ CallAt calls i c = slice_get calls i ≡ Some c
 abbrev pub CallsStandOnce : List RecordedCall → Type 0
 CallsStandOnce calls = (i j : ℕ) (a b : RecordedCall) → CallAt calls i a → CallAt calls j b → a.call ≡ b.call → i ≡ j
 
--- it replied after its invoke, or it hasn't and is committed
+-- it replied after its invoke, or it hasn't replied and is committed
 abbrev pub CallHasEnded : RecordedCall → Option ℕ → Type 0
 CallHasEnded c (Some n) = c.invoked < n
 CallHasEnded c None = is_committed c.reply.outcome ≡ true
@@ -51,11 +51,11 @@ CallHasEnded c None = is_committed c.reply.outcome ≡ true
 abbrev pub CallsHaveEnded : List RecordedCall → Type 0
 CallsHaveEnded calls = (i : ℕ) (c : RecordedCall) → CallAt calls i c → CallHasEnded c c.replied
 
--- what ended before another began stands in front of it
+-- no call replied before the invoke of a call that is earlier in the list
 abbrev pub CallsAreStrict : List RecordedCall → Type 0
 CallsAreStrict calls = (i j : ℕ) (a b : RecordedCall) (n : ℕ) → i < j → CallAt calls i a → CallAt calls j b → b.replied ≡ Some n → a.invoked ≤ n
 
--- the plain book, run through the batches in this order, gives each its reply
+-- the plain book, run through the batches in this order, gives each call its reply
 abbrev pub CallsAreLegal : List RecordedCall → Type 0
 CallsAreLegal calls = (i : ℕ) (c : RecordedCall) → CallAt calls i c → c.reply ≡ reply_to c.batch (books_of (map (λ e. e.batch) (take i calls)))
 
@@ -65,7 +65,7 @@ pub record AreConfirmed (calls : List RecordedCall) : Type 0 where
   pub strict : CallsAreStrict calls
   pub legal : CallsAreLegal calls
 
--- ---- the law: the lines of the bytes that are printed of them
+-- ---- the theorem, about the lines of the bytes that are printed for the calls
 
 abbrev pub ConfirmedAreAudited : Type 0
 ConfirmedAreAudited = (domain : List ℕ) (calls : List RecordedCall) → AreConfirmed calls → ((i : ℕ) (c : RecordedCall) → CallAt calls i c → IsReadable domain c)

@@ -1,4 +1,4 @@
--- What records promise that have no fault, in the words of whoever reads them: nothing here knows an auditor.
+-- What records without a fault guarantee, in the words of their readers: nothing here mentions an auditor.
 use Rattle.std.specs.Prelude.{◌≡◌, ◌<◌, ◌≤◌, ℕ, false, List, [], take, slice_get, codes, Option, None, Some}
 use Rattle.serde_json.specs.Data.{string}
 use Rattle.serde_json.specs.Find.{get}
@@ -12,7 +12,7 @@ use Rattle.call_audit.specs.Audits.{AreFaultless, batches_of}
 abbrev pub At : List AuditRecord → ℕ → AuditRecord → Type 0
 At records i r = slice_get records i ≡ Some r
 
--- a number is the call of one record
+-- each number is the call of at most one record
 abbrev pub StandOnce : List AuditRecord → Type 0
 StandOnce records = (i j : ℕ) (a b : AuditRecord) → At records i a → At records j b → a.call ≡ b.call → i ≡ j
 
@@ -24,11 +24,11 @@ HasEnded r None = get (codes "result") r.reply ≡ Some (string (codes "committe
 abbrev pub HaveEnded : List AuditRecord → Type 0
 HaveEnded records = (i : ℕ) (r : AuditRecord) → At records i r → HasEnded r r.replied
 
--- no call replied before that of an earlier record was invoked: what ended before another began stands in front of it
+-- no call replied before the invoke of a record that is earlier in the list: what ended before another began comes before it
 abbrev pub AreStrict : List AuditRecord → Type 0
 AreStrict records = (i j : ℕ) (a b : AuditRecord) (n : ℕ) → i < j → At records i a → At records j b → b.replied ≡ Some n → a.invoked ≤ n
 
--- each reply is printed as the one that the plain book gives under the call's number, behind the batches of the records before
+-- each reply is printed as the one that the plain book gives under the call's number, after the batches of the records before
 pub record IsReplyTo (r : AuditRecord) (before : List AuditRecord) : Type 0 where
   pub whole : has_float r.reply ≡ false
   pub text : compact_text r.reply ≡ reply_json r.call (reply_to r.batch (books_of (batches_of before)))
@@ -43,11 +43,11 @@ pub record AreHistory (records : List AuditRecord) : Type 0 where
   pub strict : AreStrict records
   pub legal : AreLegal records
 
--- ---- the laws
+-- ---- the theorems
 
 abbrev pub FaultlessAreHistory : Type 0
 FaultlessAreHistory = (records : List AuditRecord) → AreFaultless [] records → AreHistory records
 
--- and a history is without a fault
+-- and a history has no fault
 abbrev pub HistoryIsFaultless : Type 0
 HistoryIsFaultless = (records : List AuditRecord) → AreHistory records → AreFaultless [] records

@@ -1,16 +1,16 @@
--- What an auditor keeps of the records so far.
+-- What an auditor stores about the records so far.
 use Rattle.std.specs.Prelude.{◌≡◌, ℕ, List, map}
 use Rattle.entry_book.specs.History.{PlainState, Stands, books_of}
 use Rattle.reg_lines.specs.Records.{AuditRecord}
 use Rattle.call_audit.specs.Audits.{batches_of, is_late, is_past}
 
--- The book, the numbers of the calls in the order of their records, and when the last of them was invoked, 0 where there is none.
+-- The book, the numbers of the calls in the order of their records, and the largest number of an invoke, 0 if there is none.
 pub record AuditState : Type 0 where
   pub book : PlainState
   pub calls : List ℕ
   pub latest : ℕ
 
--- it keeps what there is to know of these records
+-- it represents these records
 pub record Keeps (state : AuditState) (records : List AuditRecord) : Type 0 where
   pub books : Stands state.book (books_of (batches_of records))
   pub calls : state.calls ≡ map (λ r. r.call) records

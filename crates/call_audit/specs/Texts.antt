@@ -1,4 +1,4 @@
--- Which lines tell how an audit ended. Compact JSON text, the keys in ascending order of their bytes.
+-- The lines that report how an audit ended: compact JSON text, with keys in ascending order of their bytes.
 use Rattle.std.specs.Prelude.{◌≡◌, ℕ, false, List, ◌++◌, codes, decimal}
 use Rattle.reg_lines.specs.Codes.{code_text}
 use Rattle.reg_lines.specs.Json.{text_json}
@@ -25,7 +25,7 @@ abbrev pub verdict_json : Verdict → List ℕ
 verdict_json (Yes calls) = yes_json calls
 verdict_json (No line cause) = no_json line cause
 
--- ---- the law: the line has no line feed inside
+-- ---- the theorem: the line contains no line feed
 
 abbrev pub VerdictsHaveNoLf : Type 0
 VerdictsHaveNoLf = (verdict : Verdict) → has_lf (verdict_json verdict) ≡ false

@@ -1,4 +1,4 @@
-//! What does an auditor keep of the records so far?
+//! What does an auditor store about the records so far?
 
 ghost use Rattle.std.specs.Prelude.{◌≡◌};
 
@@ -12,8 +12,8 @@ use spiffe_name::{Failure, TrustDomain};
 use std::alloc::{AllocError, Global};
 use std::marker::Model;
 
-/// Takes the records of a run, line after line, and runs their batches on a plain book. A contract sees it as the record of
-/// the book, the numbers of the calls, and when the last of them was invoked.
+/// Checks the records of a run, line after line, and runs their batches on a plain book. The model in contracts is the
+/// record of the book, the numbers of the calls, and the largest number of an invoke.
 #[derive(Drop)]
 pub struct Auditor {
     alloc: Global,
@@ -40,7 +40,7 @@ impl Auditor {
     ghost use Rattle.call_audit.specs.Audits.{Judges};
     ghost use Rattle.call_audit.specs.Keeps.{Keeps};
 
-    /// The auditor of a trust domain's records, before the first one. The error is want of memory.
+    /// Makes the auditor of a trust domain's records, before the first one. The error is out of memory.
     pub fn new(alloc: Global, domain: TrustDomain) -> Result<Auditor, AllocError>
         ensures domain { IfOk result (λ auditor. auditor.book.domain ≡ domain) }
         ensures keeps { IfOk result (λ auditor. Keeps auditor []) }
@@ -53,22 +53,22 @@ impl Auditor {
         })
     }
 
-    /// The next line, with its LF where it has one: none where it is a record without a fault behind those before it, or
-    /// else the first cause that holds. Then, and where memory is wanting, which is the error, the audit is over: nothing is
-    /// promised of a further line.
+    /// Checks the next line, given with its LF if it has one. Returns `None` if it is a valid record after those before it, and
+    /// otherwise the first cause that applies. The error is out of memory. After a cause or an error the audit is over: nothing is
+    /// guaranteed about further lines.
     pub fn audit(&mut self, line: &[u8]) -> Result<Option<Cause>, AllocError>
         ensures domain { self.new.book.domain ≡ self.old.book.domain }
         ensures judged { (records : List AuditRecord) → Keeps self.old records
             → IfOk result (Judges self.old.book.domain records line.now (Keeps self.new)) }
     {
-        // of a refusal its number isn't used
+        // in a refusal its number isn't used
         match read_record(self.alloc, self.book.domain(), line, 1) {
             Ok(told) => self.audit_record(&told),
             Err(refusal) => Ok(Some(spelling_cause(&refusal.failure)?)),
         }
     }
 
-    /// How many records were taken, none of them with a fault.
+    /// Returns the number of records that were accepted, none of them with a fault.
     pub fn count(&self) -> usize
         ensures count { (records : List AuditRecord) → Keeps self.now records → result ≡ length records }
         ensures small { result < 2 ^ 63 }
@@ -85,7 +85,7 @@ impl Auditor {
     ghost use Rattle.call_audit.specs.Audits.{JudgesRecord, is_past};
     ghost use Rattle.call_audit.specs.Keeps.{Keeps};
 
-    /// The same, of a record.
+    /// The same for a record.
     fn audit_record(&mut self, told: &Record) -> Result<Option<Cause>, AllocError>
         requires domain { told.now.batch.domain ≡ self.old.book.domain }
         ensures domain { self.new.book.domain ≡ self.old.book.domain }
@@ -110,7 +110,7 @@ impl Auditor {
         Ok(None)
     }
 
-    /// Was an earlier record's call invoked after this reply?
+    /// Returns true if the call of an earlier record was invoked after this reply.
     fn is_late(&self, replied: Option<u64>) -> bool
         ensures { result ≡ is_past replied self.now.latest }
     {
@@ -126,7 +126,7 @@ ghost use Rattle.reg_lines.specs.RecordViews.{recorded};
 ghost use Rattle.serde_json.specs.View.{view};
 ghost use Rattle.call_audit.specs.Audits.{IsSpellingCause, is_commit, is_stamped};
 
-/// The cause of a line that spells no record. The error is want of memory.
+/// Returns the cause of a line that isn't a record. The error is out of memory.
 fn spelling_cause(failure: &Failure<Fault>) -> Result<Cause, AllocError>
     ensures { IfOk result (IsSpellingCause failure.now) }
 {
@@ -136,7 +136,7 @@ fn spelling_cause(failure: &Failure<Fault>) -> Result<Cause, AllocError>
     }
 }
 
-/// Did the call reply after it was invoked, or is it committed, where it hasn't replied?
+/// Returns true if the call replied after it was invoked, or hasn't replied and is committed.
 fn is_stamped(told: &Record) -> bool
     ensures { result ≡ is_stamped (recorded told.now) }
 {
@@ -146,7 +146,7 @@ fn is_stamped(told: &Record) -> bool
     }
 }
 
-/// Is the reply that of a committed batch?
+/// Returns true if the reply is that of a committed batch.
 fn is_commit(reply: &Value) -> bool
     ensures { result ≡ is_commit (view reply.now) }
 {

@@ -1,7 +1,7 @@
-//! What do records without a fault promise, which records have none, and is a verdict one line?
+//! What do records without a fault guarantee, which records have none, and is a verdict one line?
 //!
-//! The functions do nothing. What each ensures is a law, stated in `specs/Follows.antt`, `specs/Verdicts.antt`,
-//! `specs/Confirmed.antt` and `specs/Texts.antt`; a caller that calls it may rest on it.
+//! The bodies do nothing. Each contract is a theorem, stated in `specs/Follows.antt`, `specs/Verdicts.antt`,
+//! `specs/Confirmed.antt` and `specs/Texts.antt`; a caller may rely on it after the call.
 
 ghost use Rattle.call_audit.specs.Confirmed.{ConfirmedAreAudited};
 ghost use Rattle.call_audit.specs.Follows.{FaultlessAreHistory, HistoryIsFaultless};
@@ -10,17 +10,17 @@ ghost use Rattle.call_audit.specs.Verdicts.{HistoryIsYes, NoIsFirst, YesIsHistor
 
 use reg_lines::{lines_law, one_line_law, printed_law, read_back_law};
 
-/// Records none of which has a fault behind those before it are a history, and so are those of lines that are audited yes. A no
-/// tells the first line that has a fault behind such a history, and the first fault that it has.
+/// Records without a fault, each after those before it, are a history, and so are those of lines whose verdict is yes. A no
+/// gives the first line with a fault after such a history, and the first cause that applies.
 pub fn audited_law()
     ensures history { FaultlessAreHistory }
     ensures yes { YesIsHistory }
     ensures no { NoIsFirst }
 {}
 
-/// No history is audited no: its records have no fault, and lines that spell them are audited yes. So are the lines of the
-/// records of calls whose replies the plain book gives in an order that keeps what ended before, where each line is short
-/// enough to be read.
+/// The verdict of a history is never no: its records have no fault, and the verdict of lines that parse to them is yes. The same
+/// holds for the lines of the records of calls whose replies the plain book gives in an order that respects real time, if each line
+/// is short enough to be read.
 pub fn confirmed_law()
     ensures faultless { HistoryIsFaultless }
     ensures yes { HistoryIsYes }
@@ -32,7 +32,7 @@ pub fn confirmed_law()
     printed_law();
 }
 
-/// The line that is printed of a verdict has no line feed inside.
+/// The line that is printed for a verdict contains no line feed.
 pub fn verdict_line_law()
     ensures { VerdictsHaveNoLf }
 {

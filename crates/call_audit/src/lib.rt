@@ -1,16 +1,17 @@
-//! Are these records those of a run that kept its promises?
+//! Are these records those of a run that kept its guarantees?
 //!
-//! A schedule's records tell of each call its batch, when it was invoked, when it replied, and its reply, in the order in
-//! which the calls are said to have happened. An auditor believes the plain book alone: it runs the batches in that order on
-//! one, and finds the first line with a fault.
+//! The records of a schedule give for each call its batch, the numbers of its invoke and its reply, and its reply, in the claimed
+//! order of the calls. An auditor relies on the plain book alone: it runs the batches in that order on one, and finds the first line
+//! with a fault.
 //!
-//! - [`Auditor`]: takes line after line, and keeps what it has to know of the records so far: the book, the numbers of the
-//!   calls, and when the last of them was invoked.
-//! - [`Cause`]: what is wrong with a line, the first that holds.
-//! - [`Verdict`]: how an audit ended, which is printed as a line: yes with the count of calls, or no with the first line that has
-//!   a fault, and its cause.
-//! - [`laws`]: records without a fault are a history, in words that know no auditor; a no tells the first line with a fault behind
-//!   a history; no history is audited no, and calls whose replies the plain book confirms are audited yes; a verdict is one line.
+//! - [`Auditor`]: checks line after line, and stores what it needs of the records so far: the book, the numbers of the calls, and
+//!   the largest number of an invoke.
+//! - [`Cause`]: what is wrong with a line, the first cause that applies.
+//! - [`Verdict`]: the result of an audit, which is printed as a line: yes with the number of calls, or no with the first line that
+//!   has a fault, and its cause.
+//! - [`laws`]: theorems that don't mention an auditor. Records without a fault are a history; a no gives the first line with a fault
+//!   after a history. The verdict of a history is never no, and that of calls whose replies the plain book confirms is yes. A verdict
+//!   is one line.
 //! - `reply`: whether a record's reply is the one that the book gives.
 #![tactic(auto)]
 

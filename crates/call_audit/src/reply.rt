@@ -11,8 +11,8 @@ use reg_lines::{CallReply, CountedDevice, Output, PrintJson};
 use serde_json::{Map, Value};
 use std::alloc::{AllocError, Global};
 
-/// Is this the value of the line of a call's reply? A number with a fraction or an exponent stands in none. The error is want
-/// of memory.
+/// Returns true if this is the value of the line of a call's reply. It is never true if the value has a
+/// floating-point number. The error is out of memory.
 pub(crate) fn is_reply(
     alloc: Global,
     given: &Value,
@@ -29,7 +29,7 @@ pub(crate) fn is_reply(
     Ok(given.as_bytes() == expected.as_slice())
 }
 
-/// The text of a call's reply.
+/// Returns the text of a call's reply. The error is out of memory.
 fn reply_text(alloc: Global, call: u64, reply: &Reply) -> Result<Vec<u8>, AllocError>
     ensures { IfOk result (λ text. text.items ≡ reply_json call reply.now) }
 {

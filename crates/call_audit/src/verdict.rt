@@ -7,12 +7,12 @@ ghost use Rattle.reg_lines.specs.Stream.{Puts};
 use crate::cause::Cause;
 use reg_lines::{Output, PrintJson, Sink, print_number, print_text};
 
-/// How an audit ended. Printed it is an object with the key `audit`. To print it takes no memory.
+/// The result of an audit. It is printed as an object with the key `audit`; printing needs no memory.
 #[derive(Clone, Copy, Debug, PartialEq, Eq, Drop)]
 pub enum Verdict {
-    /// No line has a fault; so many calls have a record.
+    /// No line has a fault; this many calls have a record.
     Yes(u64),
-    /// The line of this number, counted from 1, is the first with a fault, for this cause.
+    /// The line with this number, counted from 1, is the first with a fault, for this cause.
     No(u64, Cause),
 }
 
