@@ -1,4 +1,4 @@
--- The command lines that are written out, computed.
+-- Written-out command lines, computed.
 use Rattle.std.proofs.Common.{codes, false, refl, ◌≡◌, ◌==◌, ℕ, [], ◌∷◌, Some}
 use Rattle.std.proofs.lemmas.Bool.{ne_eqb}
 use Rattle.clap.specs.Words.{Text}

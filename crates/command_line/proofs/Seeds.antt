@@ -1,4 +1,4 @@
--- Texts that tell no seed.
+-- Texts that represent no seed.
 use Rattle.std.proofs.Common.{◌≡◌, ℕ, true, false, List, length, None, Some, Result, Ok, Err, sym, ap, ◌∙◌, subst}
 use Rattle.std.specs.Result.{result_ok}
 use Rattle.std.specs.Str.{bytes_eq}

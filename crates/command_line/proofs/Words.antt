@@ -1,4 +1,4 @@
--- What a parse of the words gives, in the terms of the command line's definitions.
+-- The result of parsing the words, in the terms of the command line's definitions.
 use Rattle.std.proofs.Common.{Bool, ap, ap₂, refl, subst, sym, ◌≡◌, ◌∙◌, inl, inr, List, Option, Some, None, option_map, [], true}
 use Rattle.std.specs.Str.{bytes_eq}
 use Rattle.std.proofs.lemmas.Slice.Eq.{bytes_eq-Decides}
@@ -29,7 +29,7 @@ use Rattle.command_line.specs.declared.fault.LineFault.{LineFault}
 use Rattle.command_line.specs.declared.fault.LineFault.TheVariants.{Address, Domain, NoMemory, NotText, Number, Refused, Seed}
 use Rattle.command_line.specs.Conversions.{fault_of_domain, fault_of_kind, fault_of_refusal}
 
--- the parser's account holds of the program
+-- the conditions of the parser's contract hold for the program
 pub is_simple_and_free-regd : is_simple_and_free regd_command ≡ true
 unfolding clap_on_literals
 is_simple_and_free-regd = refl
@@ -38,7 +38,7 @@ is_simple-regd : is_simple regd_command ≡ true
 unfolding clap_on_literals
 is_simple-regd = refl
 
--- a refusal of the parser is a fault of the words, or want of memory
+-- a refusal of the parser is a fault of the words, or out of memory
 pub IsFaultOf-refusal : (words : List Text) (error : Error) → HasKind (line_faults words) error → IsFaultOf words (fault_of_refusal error)
 IsFaultOf-refusal words error has = go (kind_of error) refl
   where
@@ -51,7 +51,7 @@ IsFaultOf-refusal words error has = go (kind_of error) refl
       | inr among ↦ among
     ]
 
--- what a parse by the program's command says of the words
+-- what parsing with the program's command says about the words
 
 pub IsFaultOf-parse : (app : App) (words : List Text) (error : Error) → app ≡ regd_command
     → (is_simple_and_free app ≡ true → HasKind (fault_of app words) error) → IsFaultOf words (fault_of_refusal error)
@@ -78,19 +78,19 @@ option_in-parse id name app words m program is has e n =
     let same : name ≡ program_name (program_asked words) = n ∙ ap program_name (e ∙ ap program_in met) in
     ap₂ (λ (x : Text) (r : Option (Text × List Row)). option_in x id r) same met
 
--- a text that is no domain, of words that were taken
+-- a text that isn't a trust domain, in words that the parser accepts
 pub IsFaultOf-domain : (words : List Text) (text : Text) (failure : Failure IdRefusal) → line_faults words ≡ [] → text ≡ unwrap_or (domain_word words) []
     → FailsBy (domain_refusal text) failure → IsFaultOf words (fault_of_domain failure)
 IsFaultOf-domain words text name.NoMemory taken is fails = tt
 IsFaultOf-domain words text (name.Refused refusal) taken is fails = (taken, subst (λ (t : Text). domain_refusal t ≡ Some refusal) is fails)
 
--- a text that tells no seed, of words that were taken, whose domain is one
+-- a text that represents no seed, in words that the parser accepts and whose domain is valid
 pub IsFaultOf-seed : (words : List Text) (domain seed : Text) → line_faults words ≡ [] → domain ≡ unwrap_or (domain_word words) [] → domain_refusal domain ≡ None
     → seed ≡ seed_text words → TellsNoSeed seed → IsFaultOf words Seed
 IsFaultOf-seed words domain seed taken is fine told none =
     (taken, subst (λ (t : Text). domain_refusal t ≡ None) is fine, subst (λ (t : Text). TellsNoSeed t) told none)
 
--- a text that is a domain was given: the empty text is none
+-- a text that is a domain was given: the empty text isn't one
 pub domain_word-given : (word : Option Text) (domain : Text) → domain ≡ unwrap_or word [] → domain_refusal domain ≡ None → word ≡ Some domain
 unfolding domain_refusal
 domain_word-given None domain is fine =
@@ -98,7 +98,7 @@ domain_word-given None domain is fine =
     cc
 domain_word-given (Some text) domain is fine = ap (λ (t : Text). Some t) (sym is)
 
--- the matches of the program that was met give its options
+-- the matches of the parsed program give its options
 option_in-rows : (name id : Text) (met : Option (Text × List Row)) (rows : List Row) → option_map (λ p. p.0) met ≡ Some name
     → option_map (λ p. p.1) met ≡ Some rows → option_in name id met ≡ first_of id rows
 option_in-rows name id None rows named is = absurd (none-some _ named)
@@ -148,7 +148,7 @@ asks_server met program NoMemory is = absurd is
 asks_server met program (Refused error) is = absurd is
 asks_server met program (Domain refusal) is = absurd is
 
--- what a server is asked for is refused, of words that were taken, whose domain is one, and whose seed
+-- the options of a server are refused, in words that the parser accepts and whose domain and seed are valid
 pub IsFaultOf-server : (app : App) (words : List Text) (m : ArgMatches) (program : Program) (fault : LineFault) (domain seed : Text) → app ≡ regd_command → HasMatchesOf app words m
     → line_faults words ≡ [] → program ≡ program_in (subcommand_rows_of m) → domain ≡ unwrap_or (domain_word words) [] → domain_refusal domain ≡ None → seed ≡ seed_text words → (TellsNoSeed seed → ⊥)
     → IsServerFault (subcommand_rows_of m) program fault → IsFaultOf words fault

@@ -1,4 +1,4 @@
--- What a command line asks for.
+-- What a command line requests.
 use Rattle.std.specs.Prelude.{◌<◌, List, ℕ, Option, None, Some, ⊤}
 use Rattle.command_line.specs.declared.program.Program.{Program}
 use Rattle.command_line.specs.declared.program.Program.TheVariants.{Serve}
@@ -8,12 +8,12 @@ pub record Asked : Type 0 where
   pub program : Program
   -- the text of the server's own trust domain
   pub domain : List ℕ
-  -- the seed of the ids that the server gives, 32 bytes
+  -- the seed of the ids that the server generates, 32 bytes
   pub seed : List ℕ
-  -- of a server, where it listens, its workers and its connections
+  -- for a server, its address, its number of workers and its number of connections
   pub server : Option ServerPlan
 
--- where a server is asked for, it is said for what, and it has a worker
+-- there is a plan exactly if a server is requested, and the plan has a worker
 abbrev pub HasServer : Program → Option ServerPlan → Type 0
 HasServer Serve (Some plan) = 0 < plan.workers
 HasServer Serve None = ⊥

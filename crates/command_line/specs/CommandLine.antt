@@ -1,4 +1,4 @@
--- Which words are a command line of `regd`, by the command-line parser's own account of its words.
+-- Which words are a command line of `regd`, by the command-line parser's own definition of a command line.
 use Rattle.std.specs.Prelude.{Bool, codes, false, if◌then◌else◌, is_some, length, option_and_then, pos, true, unwrap_or, ◌≡◌, ◌≢◌, ◌≤◌, ◌⊎◌, ℕ, List, None, Option, Some, [], ⊤}
 use Rattle.std.specs.Net.Grammar.{IsSocketV4Text}
 use Rattle.std.specs.Str.Parse.{IsNumeral, digits_value, without_leading_plus}
@@ -17,9 +17,9 @@ use Rattle.command_line.specs.declared.settings.ServerPlan.{ServerPlan}
 use Rattle.command_line.specs.declared.fault.LineFault.{LineFault}
 use Rattle.command_line.specs.declared.fault.LineFault.TheVariants.{Refused, Domain, Seed, Address, Number, NotText, NoMemory}
 
--- ---- the program, as it is told to the parser
+-- ---- the program, as it is described to the parser
 
--- `--domain D`, which is required
+-- `--domain D`, required
 abbrev pub domain_option : Rule
 domain_option = record (new_rule (codes "domain")) {
   long = Some (codes "domain");
@@ -34,14 +34,14 @@ seed_option = record (new_rule (codes "seed")) {
   value_names = 1;
 }
 
--- `--record`, which is given or not
+-- `--record`, a flag
 abbrev pub record_option : Rule
 record_option = record (new_rule (codes "record")) {
   long = Some (codes "record");
   action = Some SetTrue;
 }
 
--- `--listen A`, which is required
+-- `--listen A`, required
 abbrev pub listen_option : Rule
 listen_option = record (new_rule (codes "listen")) {
   long = Some (codes "listen");
@@ -49,7 +49,7 @@ listen_option = record (new_rule (codes "listen")) {
   required = true;
 }
 
--- an option of this name with a number, 1 to `most`, which is required
+-- a required option of this name, with a number from 1 to `most`
 abbrev pub number_option : Text → ℕ → Rule
 number_option name most = record (new_rule name) {
   long = Some name;
@@ -70,14 +70,14 @@ schedule_command = with_rule (with_rule (with_rule (new_app (codes "schedule")) 
 abbrev pub audit_command : App
 audit_command = with_rule (new_app (codes "audit")) domain_option
 
--- how many workers and how many connections a server has at most
+-- the maximum numbers of workers and of connections of a server
 abbrev pub most_workers : ℕ
 most_workers = 32
 
 abbrev pub most_connections : ℕ
 most_connections = 65535
 
--- `serve` with where it listens
+-- `serve` with the option for its address
 abbrev pub listen_command : App
 listen_command = with_rule (with_rule (new_app (codes "serve")) domain_option) listen_option
 
@@ -85,25 +85,25 @@ listen_command = with_rule (with_rule (new_app (codes "serve")) domain_option) l
 abbrev pub serve_command : App
 serve_command = with_rule (with_rule (with_rule listen_command (number_option (codes "workers") most_workers)) (number_option (codes "connections") most_connections)) seed_option
 
--- `regd`, which wants the word of one of its programs
+-- `regd`, which requires the word of one of its programs
 abbrev pub regd_alone : App
 regd_alone = on_top (λ s. record s { subcommand_required = true; disable_help_subcommand = true })
     (new_app (codes "regd"))
 
--- with those of its programs that keep a book
+-- `regd` with the programs that have a book
 abbrev pub book_commands : App
 book_commands = with_subcommand (with_subcommand regd_alone plain_command.top) schedule_command.top
 
 abbrev pub regd_command : App
 regd_command = with_subcommand (with_subcommand book_commands audit_command.top) serve_command.top
 
--- ---- what the words say; the program's own name is the first of them
+-- ---- the meaning of the words; the first of them is the program's own name
 
--- what the parser holds against the words: nothing where it takes them, and else the kinds that its refusal may have
+-- why the parser refuses the words: empty if it accepts them, and otherwise the kinds that its refusal may have
 abbrev pub line_faults : List Text → Kinds
 line_faults words = fault_of regd_command words
 
--- the text under `id` among the options of the program `name`, where that is the program that was met
+-- the text of the option `id` of the program `name`, if that is the parsed program and has it
 abbrev pub option_in : Text → Text → Option (Text × List Row) → Option Text
 option_in name id = option_and_then (λ program. if bytes_eq program.0 name then first_of id program.1 else None)
 
@@ -114,19 +114,19 @@ program_name Record = codes "schedule"
 program_name Audit = codes "audit"
 program_name Serve = codes "serve"
 
--- `--record` was given to `schedule`: the parser gives such an option the text `true` then, and `false` where it isn't given
+-- whether `schedule` got `--record`: the parser gives such an option the text `true` if it is given, and `false` otherwise
 abbrev pub is_recorded : Option (Text × List Row) → Bool
 is_recorded met = option_map_or (λ word. bytes_eq word (codes "true")) (option_in (codes "schedule") (codes "record") met) false
 
--- the program that was met: each needs its domain, so it is the one to which a domain was given
+-- the parsed program: the one of `schedule`, `audit` and `serve` that got a domain, which each requires; otherwise `plain`
 abbrev pub program_in : Option (Text × List Row) → Program
 program_in met = if is_some (option_in (codes "schedule") (codes "domain") met) then (if is_recorded met then Record else Schedule) else (if is_some (option_in (codes "audit") (codes "domain") met) then Audit else (if is_some (option_in (codes "serve") (codes "domain") met) then Serve else Plain))
 
--- the program that the words ask for
+-- the program that the words request
 abbrev pub program_asked : List Text → Program
 program_asked words = program_in (subcommand_of regd_command words)
 
--- the text that the words give to an option of the program that they ask for
+-- the text that the words give to an option of the program that they request
 abbrev pub option_asked : Text → List Text → Option Text
 option_asked id words = option_in (program_name (program_asked words)) id (subcommand_of regd_command words)
 
@@ -138,13 +138,13 @@ domain_word words = option_asked (codes "domain") words
 abbrev pub seed_word : List Text → Option Text
 seed_word words = option_asked (codes "seed") words
 
--- ---- the seed, which is told as 64 lower-case hexadecimal digits, two a byte
+-- ---- the seed, written as 64 lower-case hexadecimal digits, two for each byte
 
--- the text of the seed where none is given
+-- the text of the seed by default
 abbrev pub first_seed : Text
 first_seed = codes "0000000000000000000000000000000000000000000000000000000000000000"
 
--- the text that tells the seed
+-- the text of the seed
 abbrev pub seed_text : List Text → Text
 seed_text words = unwrap_or (seed_word words) first_seed
 
@@ -154,60 +154,61 @@ TellsNoSeed text = (seed : List ℕ) → length seed ≡ 32 → IsBytes seed →
 
 -- ---- a server
 
--- the text tells this number, which is 1 to `most`
+-- the text is a decimal numeral, possibly after a plus, of this number, which is 1 to `most`
 pub record TellsNumber (most : ℕ) (text : Text) (n : ℕ) : Type 0 where
   pub digits : IsNumeral 10 (without_leading_plus text)
   pub value : n ≡ digits_value 10 (without_leading_plus text)
   pub least : 1 ≤ n
   pub up_to : n ≤ most
 
--- the text that the words give to an option of `serve`, or the empty one
+-- the text that the words give to an option of `serve`, or the empty text
 abbrev pub server_word : Text → Option (Text × List Row) → Text
 server_word id met = unwrap_or (option_in (codes "serve") id met) []
 
--- The words give this address and these numbers.
+-- The words give a server this address and these numbers, each in its range.
 pub record TellsServer (met : Option (Text × List Row)) (plan : ServerPlan) : Type 0 where
   pub listen : IsSocketV4Text (server_word (codes "listen") met) plan.listen
   pub workers : TellsNumber most_workers (server_word (codes "workers") met) plan.workers
   pub connections : TellsNumber most_connections (server_word (codes "connections") met) plan.connections
 
--- what is asked of a server, where one is asked for
+-- there is a plan exactly if a server is requested, and the words give it the plan's values
 abbrev pub AsksServer : Option (Text × List Row) → Program → Option ServerPlan → Type 0
 AsksServer met Serve (Some plan) = TellsServer met plan
 AsksServer met Serve None = ⊥
 AsksServer met program (Some plan) = ⊥
 AsksServer met program None = ⊤
 
--- the text tells an address
+-- the text is an address
 abbrev pub TellsAddress : Text → Type 0
 TellsAddress text = (a : SocketAddrV4) × IsSocketV4Text text a
 
--- the text tells no address
+-- the text isn't an address
 abbrev pub TellsNoAddress : Text → Type 0
 TellsNoAddress text = (a : SocketAddrV4) → IsSocketV4Text text a → ⊥
 
--- the words give other numbers than a server may have
+-- the words don't give a number of workers in its range, or not one of connections
 abbrev pub TellsNoNumbers : Option (Text × List Row) → Type 0
 TellsNoNumbers met = ((n : ℕ) → TellsNumber most_workers (server_word (codes "workers") met) n → ⊥) ⊎ ((n : ℕ) → TellsNumber most_connections (server_word (codes "connections") met) n → ⊥)
 
 -- ---- the faults of a command line
 
--- what a server is asked for is refused so
+-- the options of a requested server have this fault
 abbrev pub IsServerFault : Option (Text × List Row) → Program → LineFault → Type 0
 IsServerFault met program Address = (program ≡ Serve) × TellsNoAddress (server_word (codes "listen") met)
 IsServerFault met program Number = (program ≡ Serve) × TellsAddress (server_word (codes "listen") met) × TellsNoNumbers met
 IsServerFault met program fault = ⊥
 
--- The parser takes the words, and they ask for a server, with a trust domain and a seed.
+-- The parser accepts the words, and they request a server, with a valid trust domain and a valid seed.
 pub record AsksWell (words : List Text) : Type 0 where
   pub taken : line_faults words ≡ []
   pub asked : program_asked words ≡ Serve
   pub domain : domain_refusal (unwrap_or (domain_word words) []) ≡ None
   pub seed : TellsNoSeed (seed_text words) → ⊥
 
--- the words have this fault: the parser refuses them; or it takes them, and the domain that they give (the empty text,
--- where they give none) is no trust domain; or it is one, and the text that tells the seed tells none; or it tells one, and the words
--- ask for a server with no address, or with one and another number than it may have
+-- The words have this fault: the parser refuses them; or it accepts them, and their domain (the empty text if there is none) isn't a
+-- trust domain; or it is one, and the text of the seed isn't a seed; or it is one, and the words request a server without a valid
+-- address, or with one but with a number out of its range. Any words may fail for lack of memory. These faults don't include words
+-- that aren't text.
 abbrev pub IsFaultOf : List Text → LineFault → Type 0
 IsFaultOf words (Refused error) = IsAmong (kind_of error) (line_faults words)
 IsFaultOf words (Domain refusal) =

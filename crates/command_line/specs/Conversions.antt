@@ -1,4 +1,4 @@
--- What the refusals of the layers below are to a command line.
+-- The errors of the layers below, as faults of a command line.
 use Rattle.clap.specs.Words.{kind_of}
 use Rattle.clap.specs.declared.error.Error.{Error}
 use Rattle.clap.specs.declared.error.kind.ErrorKind.{ErrorKind}
@@ -13,7 +13,7 @@ abbrev pub fault_of_kind : ErrorKind → Error → LineFault
 fault_of_kind kind.OutOfMemory error = NoMemory
 fault_of_kind _ error = Refused error
 
--- the parser's refusal of the words: want of memory is no fault of theirs
+-- the parser's refusal of the words; out of memory is not a fault of the words
 abbrev pub fault_of_refusal : Error → LineFault
 fault_of_refusal error = fault_of_kind (kind_of error) error
 

@@ -1,10 +1,11 @@
-//! What do the definitions say of command lines that are written out?
+//! What do the definitions say about written-out command lines?
 
 ghost use Rattle.command_line.specs.Laws.{DomainApart, HelpIsRefused, JoinedDomain, JoinedRecord, JoinedSeed, NoSeed, NothingIsRefused};
 
-/// Laws of the definitions, for every name of the program and every text D: `plain --domain=D` is taken and gives the
-/// domain D; so is and does `plain --domain D`, where D begins with no hyphen; with `--seed=S` the text S tells the seed,
-/// and without it 64 zeros do; `schedule --domain=D --record` asks for the records; a request for help is refused, and so is a line of no words.
+/// Theorems about the definitions, for every name of the program and every text D. `plain --domain=D` is accepted and gives the
+/// domain D, and so is and does `plain --domain D` if D begins with a byte other than a hyphen. With `--seed=S` the text of the seed
+/// is S, and without it 64 zeros. `schedule --domain=D --record` requests the records. A request for help is refused, and so are no
+/// words.
 pub fn a_line_gives_its_domain()
     ensures joined { JoinedDomain }
     ensures apart { DomainApart }

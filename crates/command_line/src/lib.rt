@@ -1,10 +1,10 @@
-//! What does a command line of `regd` ask for?
+//! What does a command line of `regd` request?
 //!
-//! - [`Settings`]: what a command line asks for, with a [`ServerPlan`] where that is a server; [`Program`]: which one it asks for.
+//! - [`Settings`]: what a command line requests, with a [`ServerPlan`] for a server; [`Program`]: the requested program.
 //! - [`LineFault`]: why a command line is invalid.
 //! - [`a_line_gives_its_domain`]: which words give which domain.
 //!
-//! The definitions stand in `specs/`: what words ask for, and which faults they have, in `CommandLine` and `Asked`.
+//! The definitions are in `specs/`: `CommandLine` and `Asked` define what words request, and which faults they have.
 #![tactic(auto)]
 
 mod fault;

@@ -1,17 +1,17 @@
-//! Which programs are there?
+//! Which programs does `regd` have?
 
-/// What a command line asks `regd` to do.
+/// What a command line requests of `regd`.
 #[derive(Clone, Copy, Debug, PartialEq, Eq, Drop)]
 pub enum Program {
-    /// Request lines are answered on a plain book.
+    /// Answers request lines on a plain book.
     Plain,
-    /// Event lines are answered by a machine of calls.
+    /// Answers event lines with a machine of calls.
     Schedule,
-    /// Event lines are taken by a machine of calls, and the calls are recorded.
+    /// Applies event lines to a machine of calls, and records the calls.
     Record,
-    /// Records of calls are audited.
+    /// Audits records of calls.
     Audit,
-    /// Connections are served through a shared registry.
+    /// Serves connections with a shared registry.
     Serve,
 }
 
@@ -19,7 +19,7 @@ impl Program {
     ghost use Rattle.std.specs.Prelude.{◌≡◌};
     ghost use Rattle.command_line.specs.CommandLine.{program_name};
 
-    /// The word by which a command line names it.
+    /// Returns the word for it on a command line.
     pub fn name(self) -> &'static str
         ensures { result.now ≡ program_name self }
     {

@@ -1,4 +1,4 @@
-//! Which seed does a text tell?
+//! Which seed does a text represent?
 
 ghost use Rattle.std.specs.Prelude.{◌≡◌, IfNone, IfSome};
 ghost use Rattle.hex.specs.Hex.{encode_lower};
@@ -6,11 +6,11 @@ ghost use Rattle.command_line.specs.CommandLine.{TellsNoSeed};
 
 use hex::FromHex;
 
-/// The text of the seed where none is given.
+/// The default text of the seed.
 pub const FIRST_SEED: &str = "0000000000000000000000000000000000000000000000000000000000000000";
 
-/// The seed whose lower-case hexadecimal digits, two a byte, are the text; none where they are no 64, or another digit
-/// stands among them.
+/// Returns the seed whose lower-case hexadecimal digits, two for each byte, are the text; none if the text isn't 64
+/// such digits.
 pub fn seed_of(text: &str) -> Option<[u8; 32]>
     ensures seed { IfSome result (λ seed. encode_lower seed ≡ text.now) }
     ensures told { IfSome result (λ _. TellsNoSeed text.now → ⊥) }
@@ -24,7 +24,7 @@ pub fn seed_of(text: &str) -> Option<[u8; 32]>
     }
 }
 
-/// The seed's lower-case hexadecimal digits.
+/// Returns the seed's lower-case hexadecimal digits.
 fn digits_of(seed: [u8; 32]) -> [u8; 64]
     ensures { result ≡ encode_lower seed }
 {

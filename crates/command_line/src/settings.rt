@@ -1,4 +1,4 @@
-//! What does a command line ask for?
+//! What does a command line request?
 
 use crate::fault::LineFault;
 use crate::program::Program;
@@ -9,18 +9,18 @@ use std::alloc::{AllocError, Global};
 use std::marker::Model;
 use std::net::SocketAddrV4;
 
-/// What a server is asked for.
+/// The options of a server.
 #[derive(Clone, Copy, Debug, Drop)]
 pub struct ServerPlan {
-    /// Where it listens; at port 0 the system chooses one.
+    /// The address to listen on; for port 0 the system chooses a port.
     pub listen: SocketAddrV4,
-    /// How many workers it has, 1 to 32.
+    /// The number of workers, 1 to 32.
     pub workers: u16,
-    /// How many connections it serves before it ends.
+    /// The number of connections that it serves before it exits, 1 to 65,535.
     pub connections: u16,
 }
 
-/// What `regd` was asked to do: `regd plain --domain D [--seed S]`, `regd schedule --domain D [--seed S] [--record]`,
+/// What `regd` is to do: `regd plain --domain D [--seed S]`, `regd schedule --domain D [--seed S] [--record]`,
 /// `regd audit --domain D`, or `regd serve --domain D --listen A --workers N --connections C [--seed S]`.
 #[derive(Debug, Drop)]
 pub struct Settings {
@@ -47,9 +47,9 @@ impl Settings {
     ghost use Rattle.clap.specs.Words.{subcommand_of};
     ghost use Rattle.command_line.specs.CommandLine.{AsksServer, IsFaultOf, domain_word, line_faults, program_asked, regd_command, seed_text};
 
-    /// Reads a command line, the program's own name first: all words by the command-line parser, then the domain, then the
-    /// seed, which is 64 zeros where none is given, and then where a server listens. The error is the first fault, or want of
-    /// memory; a request for help is a refusal, too, with the help as its text.
+    /// Parses a command line, with the program's own name first: all words by the command-line parser, then the domain,
+    /// then the seed, by default 64 zeros, and then a server's address and numbers. The error is the first fault, or out of
+    /// memory. A request for help is a refusal too, with the help as its text.
     pub fn from_words(alloc: Global, words: &[&str]) -> Result<Settings, LineFault>
         ensures taken { IfOk result (λ _. line_faults (texts words.now) ≡ []) }
         ensures program { IfOk result (λ settings. settings.program ≡ program_asked (texts words.now)) }
@@ -75,28 +75,28 @@ impl Settings {
         })
     }
 
-    /// The program that was asked for.
+    /// Returns the requested program.
     pub fn program(&self) -> Program
         ensures { result ≡ self.now.program }
     {
         self.program
     }
 
-    /// The server's own trust domain.
+    /// Returns the server's own trust domain.
     pub fn domain(&self) -> &TrustDomain
         ensures { result.now ≡ self.now.domain }
     {
         &self.domain
     }
 
-    /// The seed of the ids that the server gives.
+    /// Returns the seed of the ids that the server generates.
     pub fn seed(&self) -> [u8; 32]
         ensures { result ≡ self.now.seed }
     {
         self.seed
     }
 
-    /// What a server is asked for, where one is.
+    /// Returns the options of a server, if one is requested.
     pub fn server(&self) -> Option<ServerPlan>
         ensures server { result ≡ self.now.server }
         ensures workers { IfSome result (λ plan. 0 < plan.workers) }
@@ -104,7 +104,7 @@ impl Settings {
         self.server
     }
 
-    /// The server's own trust domain, taken out.
+    /// Returns the server's own trust domain, and drops the rest.
     pub fn into_domain(self) -> TrustDomain
         ensures { result ≡ self.domain }
     {
@@ -217,7 +217,7 @@ fn connections_option<'a>(alloc: Global) -> Arg<'a>
         .help("How many connections are served before it ends, 1 to 65535")
 }
 
-/// The program `serve` with where it listens.
+/// The program `serve` with the option for its address.
 fn listen_command<'a>(alloc: Global) -> Result<Command<'a>, AllocError>
     ensures app { IfOk result (λ command. app_of command ≡ listen_command) }
     ensures local { IfOk result (λ command. (out-Command command).has_globals ≡ false) }
@@ -240,7 +240,7 @@ fn serve_command<'a>(alloc: Global) -> Result<Command<'a>, AllocError>
         .arg(seed_option(alloc))
 }
 
-/// The program with those of its programs that keep a book.
+/// The program with those of its programs that have a book.
 fn book_commands<'a>(alloc: Global) -> Result<Command<'a>, AllocError>
     ensures { IfOk result (λ command. app_of command ≡ book_commands) }
 {
@@ -252,7 +252,7 @@ fn book_commands<'a>(alloc: Global) -> Result<Command<'a>, AllocError>
         .subcommand(schedule_command(alloc)?)
 }
 
-/// The program as the command-line parser is told of it.
+/// The program as it is described to the command-line parser.
 fn regd_command<'a>(alloc: Global) -> Result<Command<'a>, AllocError>
     ensures { IfOk result (λ command. app_of command ≡ regd_command) }
 {
@@ -261,7 +261,7 @@ fn regd_command<'a>(alloc: Global) -> Result<Command<'a>, AllocError>
         .subcommand(serve_command(alloc)?)
 }
 
-/// The program that the words ask for.
+/// Returns the program that the words request.
 fn program_of(matches: &ArgMatches<'_>) -> Program
     ensures { result ≡ program_in (subcommand_rows_of matches.now) }
 {
@@ -281,7 +281,7 @@ fn program_of(matches: &ArgMatches<'_>) -> Program
     Program::Plain
 }
 
-/// What the words ask of a server, where they ask for one.
+/// Returns the options of a server, if the words request one.
 fn server_of(matches: &ArgMatches<'_>, program: Program) -> Result<Option<ServerPlan>, LineFault>
     ensures server { IfOk result (AsksServer (subcommand_rows_of matches.now) program) }
     ensures has { IfOk result (HasServer program) }
@@ -293,7 +293,7 @@ fn server_of(matches: &ArgMatches<'_>, program: Program) -> Result<Option<Server
     }
 }
 
-/// The address and the numbers that the words give to a server.
+/// Returns the address and the numbers that the words give to a server.
 fn plan_of(matches: &ArgMatches<'_>) -> Result<ServerPlan, LineFault>
     ensures server { IfOk result (TellsServer (subcommand_rows_of matches.now)) }
     ensures fault { IfErr result (IsServerFault (subcommand_rows_of matches.now) Program.Serve) }
@@ -314,14 +314,14 @@ fn plan_of(matches: &ArgMatches<'_>) -> Result<ServerPlan, LineFault>
     })
 }
 
-/// The text that the words give to the option `id` of a server, or the empty one.
+/// Returns the text that the words give to the option `id` of a server, or the empty text.
 fn server_word<'a>(matches: &ArgMatches<'a>, id: &str) -> &'a str
     ensures { result.now ≡ server_word id.now (subcommand_rows_of matches.now) }
 {
     option_word(matches, "serve", id).unwrap_or("")
 }
 
-/// The number that the text tells, where it is 1 to `most`.
+/// Returns the number of the text, if it is 1 to `most`.
 fn number_of(text: &str, most: u16) -> Option<u16>
     ensures some { IfSome result (TellsNumber most text.now) }
     ensures none { IfNone result ((n : ℕ) → TellsNumber most text.now n → ⊥) }
@@ -334,7 +334,7 @@ fn number_of(text: &str, most: u16) -> Option<u16>
     }
 }
 
-/// Whether the words ask for records.
+/// Returns true if the words request records.
 fn is_recorded(matches: &ArgMatches<'_>) -> bool
     ensures { result ≡ is_recorded (subcommand_rows_of matches.now) }
 {
@@ -344,7 +344,7 @@ fn is_recorded(matches: &ArgMatches<'_>) -> bool
     }
 }
 
-/// The text that the words give to the option `id` of `program`, where that is the program that they name.
+/// Returns the text that the words give to the option `id` of `program`, if that is the program that they name.
 fn option_word<'a>(matches: &ArgMatches<'a>, program: &str, id: &str) -> Option<&'a str>
     ensures { option_map (λ word. word.now) result ≡ option_in program.now id.now (subcommand_rows_of matches.now) }
 {
