@@ -1,4 +1,4 @@
--- What the engine `audit` comes to, line by line.
+-- The result of the engine `audit`, line by line.
 use Rattle.std.proofs.Common.{◌≡◌, ◌+◌, ℕ, Bool, true, false, List, [], ◌∷◌, ◌++◌, length, Option, None, Some, refl, sym, ap, subst, ◌∙◌, length-append, arith}
 use Rattle.std.specs.Prelude.{⊤, IfSome, MatchBool, Result, Ok, Err, is_none, is_some, not}
 use Rattle.std.specs.Io.KnownBytes.{Appends}
@@ -64,7 +64,7 @@ audited_by domain after now bytes out (Some NoMemory) e is a =
 pub audited : (domain : List ℕ) (before after : AuditKept) (now : Audited) (bytes : List ℕ) (out : OutputState) → StandsFor before now → before.over ≡ None → AuditsLine domain now.records bytes after.auditor after.over → AnswersKept (AnswersRecord domain) is_over (StandsFor after) now bytes out out (is_none after.over)
 audited domain before after now bytes out s e a = audited_by domain after now bytes out after.over (s.over ∙ e) refl a
 
--- a line behind the end
+-- a line after the end
 left_out_by : (domain : List ℕ) (before after : AuditKept) (now : Audited) (bytes : List ℕ) (out : OutputState) (over : Option Over) → before.over ≡ over → is_some over ≡ true → StandsFor before now → after.over ≡ before.over → AnswersKept (AnswersRecord domain) is_over (StandsFor after) now bytes out out false
 left_out_by domain before after now bytes out None e b s f = absurd (true_false (sym b))
 left_out_by domain before after now bytes out (Some over) e b s f =
@@ -101,7 +101,7 @@ past_run domain over (line ∷ lines) first last text e run =
     let rest = past_run domain over lines run.0 last run.2 (ap (λ (s : Audited). s.over) step.0 ∙ e) run.5 in
     (rest.0 ∙ step.0, run.4 ∙ (ap (λ r. r ++ run.2) step.1 ∙ rest.1))
 
--- what is told behind the lines is the verdict on them
+-- the text after the lines is the verdict on them
 record Comes (domain : List ℕ) (before : List AuditRecord) (lines : List (List ℕ)) (text : List ℕ) (verdict : Verdict) : Type 0 where
   none : text ≡ []
   is : verdict ≡ verdict_on domain before lines
@@ -149,7 +149,7 @@ outcome_is None n v e = ap outcome_by (of_some (Yes n) v e)
 outcome_is (Some (Denied line cause)) n v e = ap outcome_by (of_some (No line cause) v e)
 outcome_is (Some NoMemory) n v e = absurd (none_some e)
 
--- the end of an audit: the verdict on the lines is told, and the outcome is the verdict's
+-- the end of an audit: the verdict on the lines is written, and the outcome is that of the verdict
 tells : (domain : List ℕ) (kept : AuditKept) (lines : List (List ℕ)) (a b : Option (List ℕ)) (told : Outcome) → told ≡ outcome_of kept.over → AppendsClosed (Steps is_over (AnswersRecord domain)) (ClosesAs ClosesWithVerdict (StandsFor kept)) start lines a b → TellsVerdict (verdict_of domain lines) told a b
 tells domain kept lines a b told o w =
     let last = w.1.0 in
@@ -164,9 +164,9 @@ pub tells_all : (domain : List ℕ) (kept : AuditKept) (left a b : Option (List 
 tells_all domain kept None a b told o w = tt
 tells_all domain kept (Some bytes) a b told o w = tells domain kept (first_lines most_lines bytes) a b told o w
 
--- ---- no line behind the first fault is taken
+-- ---- no line after the first fault is read
 
--- a run that has ended takes no more lines
+-- a run that has ended reads no more lines
 stops : (domain : List ℕ) (over : Over) (lines : List (List ℕ)) (first last : Audited) (text : List ℕ) → first.over ≡ Some over → IsRun (Goes is_over (AnswersRecord domain)) first lines last text → (lines ≡ []) × (last ≡ first)
 stops domain over [] first last text e run = (refl, run.0)
 stops domain over (line ∷ lines) first last text e run = absurd (true_false (ap is_some (sym e) ∙ run.3.0))
@@ -177,7 +177,7 @@ same_over a b e = cc
 number_of : (m n : ℕ) (a b : Cause) → Denied n b ≡ Denied m a → m ≡ n
 number_of m n a b e = cc
 
--- what is told of a run, from its first state on: a fault at its last line, or none
+-- the result of a run, from its first state on: a fault at its last line, or none
 record Ran (domain : List ℕ) (before : List AuditRecord) (lines : List (List ℕ)) (last : Audited) : Type 0 where
   number : (line : ℕ) (cause : Cause) → last.over ≡ Some (Denied line cause) → line ≡ length before + length lines
   yes : last.over ≡ None → verdict_on domain before lines ≡ Yes (length before + length lines)
@@ -214,7 +214,7 @@ ran domain [] first last text e run =
 ran domain (line ∷ lines) first last text e run =
     ran_by domain line lines first run.0 last run.1 run.2 run.3.1 e (λ o. ran domain lines run.0 last run.2 o run.5) run.5
 
--- the verdict that was told is that of what is kept
+-- the verdict that was written is that of the stored state
 told_by : (domain : List ℕ) (kept : AuditKept) (lines : List (List ℕ)) (a b : Option (List ℕ)) → AppendsClosed (Steps is_over (AnswersRecord domain)) (ClosesAs ClosesWithVerdict (StandsFor kept)) start lines a b → (last : Audited) × (kept.over ≡ last.over) × (verdict_over kept.over (length last.records) ≡ Some (verdict_of domain lines))
 told_by domain kept lines a b w =
     let last = w.1.0 in

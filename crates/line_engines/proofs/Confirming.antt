@@ -1,4 +1,4 @@
--- The records of a schedule are calls that the plain book confirms, so they are audited yes.
+-- The records of a schedule are calls that the plain book confirms, so the verdict on them is yes.
 use Rattle.std.proofs.Common.{◌≡◌, ◌≤◌, ℕ, zero, suc, inl, inr, List, [], ◌∷◌, ◌++◌, map, take, length, Option, None, Some, refl, sym, ap, ◌∙◌, subst, arith}
 use Rattle.std.specs.List.{AllByRecursion, flat_map}
 use Rattle.entry_book.specs.Book.{Book}
@@ -21,7 +21,7 @@ calls_of rs = map call_of rs
 same_call : (c d : RecordedCall) → Some c ≡ Some d → d ≡ c
 same_call c d e = cc
 
--- ---- what holds of every record holds of every call
+-- ---- properties of every record are properties of every call
 
 at_call : (P : RecordedCall → Type 0) (rs : List Recorded) → AllByRecursion (λ r. P (call_of r)) rs → (i : ℕ) (c : RecordedCall) → CallAt (calls_of rs) i c → P c
 at_call P [] h i c e = absurd (cc)
@@ -39,7 +39,7 @@ all_ended (r ∷ rs) h = (ended_at r r.replied h.0, all_ended rs h.1)
 have_ended : (rs : List Recorded) → AllByRecursion IsEnded rs → CallsHaveEnded (calls_of rs)
 have_ended rs h = at_call (λ c. CallHasEnded c c.replied) rs (all_ended rs h)
 
--- ---- each stands once
+-- ---- each number occurs once
 
 within_numbers : (calls : List Call) (numbers : List ℕ) (rs : List Recorded) (i : ℕ) (c : RecordedCall) → AreRecords calls numbers rs → CallAt (calls_of rs) i c → Within numbers c.call
 within_numbers calls [] [] i c h e = absurd (cc)
@@ -63,7 +63,7 @@ stand_once calls (n ∷ ns) (r ∷ rs) d h (suc i) zero a b e f same =
     absurd (not_again calls n ns rs i a d.0 h.1 e (sym h.0.number_is ∙ ap (λ x. x.call) (sym (same_call (call_of r) b f)) ∙ sym same))
 stand_once calls (n ∷ ns) (r ∷ rs) d h (suc i) (suc j) a b e f same = ap suc (stand_once calls ns rs d.1 h.1 i j a b e f same)
 
--- ---- what ended before another began stands in front of it
+-- ---- what ended before another began comes before it
 
 in_order : (rs : List Recorded) → StampsInOrder rs → CallsAreStrict (calls_of rs)
 in_order [] h i j a b n l e f replied = absurd (cc)

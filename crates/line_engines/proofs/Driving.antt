@@ -1,4 +1,4 @@
--- A run of lines on its way, whatever it is that answers them.
+-- A run of lines in progress, for any line handler.
 use Rattle.std.proofs.Common.{◌≡◌, ◌+◌, ◌≤◌, ◌<◌, ℕ, Bool, true, false, ◌⊎◌, inl, inr, ⊎_elim, List, [], ◌∷◌, ◌++◌, drop, take, length, Option, None, Some, Result, Ok, Err, refl, sym, ap, ◌∙◌, append-nil, arith, subst}
 use Rattle.std.specs.Prelude.{MatchBool, OnErr, OnOk, IfErr, IfSome}
 use Rattle.std.specs.Io.KnownBytes.{Consumes, IsAtEnd}
@@ -36,7 +36,7 @@ IsRun-past : {State : Type 0} (ends : State → Bool) (answers : State → List 
 IsRun-past ends answers last [] e = (refl, refl)
 IsRun-past ends answers last (l ∷ lines) e = (last, [], [], step_past ends answers last last l [] e refl refl, refl, IsRun-past ends answers last lines e)
 
--- ---- a run whose lines are answered in states that haven't ended
+-- ---- a run whose lines are answered in states in which it hasn't ended
 
 IsRun-going : {State : Type 0} (ends : State → Bool) (answers : State → List ℕ → State → List ℕ → Type 0) (first last : State) (lines : List (List ℕ)) (text : List ℕ) → IsRun (Goes ends answers) first lines last text → IsRun (Steps ends answers) first lines last text
 IsRun-going ends answers first last [] text r = r
@@ -49,7 +49,7 @@ RunsFrom-going ends answers first (Some xs) None start now count last w = absurd
 RunsFrom-going ends answers first (Some xs) (Some ys) start now count last w =
     record { done = w.done; text = w.text; lines = w.lines; counted = w.counted; run = IsRun-going ends answers first last w.done w.text w.run; put = w.put }
 
--- the run has come to a state that goes on, for which what is kept stands
+-- the run is in a state in which it goes on, and which the stored value represents
 pub record IsDriven {State : Type 0} (ends : State → Bool) (answers : State → List ℕ → State → List ℕ → Type 0) (stands : State → Type 0) (first : State) (all left : Option (List ℕ)) (start now : OutputState) (count : ℕ) : Type 0 where
   pub state : State
   pub stood : stands state
@@ -205,7 +205,7 @@ pub TakesNoMore-input : {State V : Type 0} (ends : State → Bool) (answers : St
 TakesNoMore-input ends answers stood stands first input rest left start now count w lost =
     record { done = tt; failed = λ _. takes_so_far ends answers first input.left left rest.left start now count w.state w.goes_on w.way lost }
 
--- a run of which the last text was put, or memory was wanting for it, or its output failed
+-- a run whose last text was put, or failed for lack of memory, or whose output failed
 finished : {State V : Type 0} (ends : State → Bool) (answers : State → List ℕ → State → List ℕ → Type 0) (stands : State → Type 0) (wants : Type 0) (mid out : OutputState) (first : State) (input rest : InputState) (result : Result V RunFault) → IfErr result (λ e. ((e ≡ fault.Output) × (0 < out.failures)) ⊎ ((e ≡ fault.NoMemory) × FailsToClose wants mid out)) → IfSome input.left (λ bytes. TakesUntilEnd ends answers stands first bytes rest.left) → TakesNoMore ends answers stands first input rest result
 finished ends answers stands wants mid out first input rest (Ok x) err t = record { done = t; failed = tt }
 finished ends answers stands wants mid out first input rest (Err e) err t = no_input ends answers stands first input rest e (λ i. ⊎_elim (λ o. input_output (sym i ∙ o.0)) (λ m. input_memory (sym i ∙ m.0)) err)
@@ -222,7 +222,7 @@ TakesNoMore-all ends answers stood stands wants first input rest left start now 
 pub Closes-flushed : {State : Type 0} (closes : State → List ℕ → Type 0) (now : State) (a b c : OutputState) → Closes closes now a b → Puts b c [] → Closes closes now a c
 Closes-flushed closes now a b c k p = (k.0, k.1, Puts-same _ _ _ _ (append-nil k.0) (Puts-then _ _ _ _ _ k.2 p))
 
--- however far the run has come, what was written is a beginning
+-- at any point of the run, what was written is a prefix
 pub AppendsClosedFront-of : {State : Type 0} (step : State → List ℕ → State → List ℕ → Type 0) (closes : State → List ℕ → Type 0) → ((s : State) (l : List ℕ) → (next : State) × (reply : List ℕ) × step s l next reply) → (first : State) (all left : Option (List ℕ)) (start now : OutputState) (count most : ℕ) (last : State) → start.failures ≡ 0 → start.held ≡ [] → count ≤ most → RunsFrom step first all left start now count last → IfSome all (λ bytes. AppendsClosedFront step (MayClose closes) first (first_lines most bytes) start.written now.written)
 AppendsClosedFront-of step closes some first None left start now count most last f h l w = tt
 AppendsClosedFront-of step closes some first (Some xs) None start now count most last f h l w = absurd w
@@ -242,7 +242,7 @@ closed_front step closes first last (Some xs) start mid now most f h p k =
     (λ n. (p.0 ++ [], (last, p.0, [], p.1, inr refl, refl), front_put _ _ _ f h (Puts-then _ _ _ _ _ p.2 n)))
     k
 
--- all replies are out, and nothing behind them
+-- all replies are out, and nothing after them
 replies_out : {State : Type 0} (step : State → List ℕ → State → List ℕ → Type 0) (first last : State) (all : Option (List ℕ)) (start mid now : OutputState) (most : ℕ) → start.failures ≡ 0 → start.held ≡ [] → now.failures ≡ 0 → now.held ≡ [] → IfSome all (λ bytes. (text : List ℕ) × IsRun step first (first_lines most bytes) last text × Puts start mid text) → Puts mid now [] → IfSome all (λ bytes. AppendsRun step first (first_lines most bytes) start.written now.written)
 replies_out step first last None start mid now most f h g i p n = tt
 replies_out step first last (Some xs) start mid now most f h g i p n =
@@ -318,7 +318,7 @@ RunsOver-finished step closes wants stands (Err e) first input rest output mid o
       front = closed_front step closes first w.state input.left output mid out most_lines f h w.put (k w.state w.stood);
     }
 
--- the same of an equal setting, of equal bytes, and of the verdict that was given
+-- the same for an equal setting, for equal bytes, and for the verdict that was given
 
 pub of_setting : {State Setting : Type 0} (ends : State → Bool) (answers : Setting → State → List ℕ → State → List ℕ → Type 0) (stands : State → Type 0) (a b : Setting) → a ≡ b → (now : State) (bytes : List ℕ) (old new : OutputState) (goes_on : Bool) → AnswersKept (answers a) ends stands now bytes old new goes_on → AnswersKept (answers b) ends stands now bytes old new goes_on
 of_setting {Setting = Setting} ends answers stands a b e now bytes old new goes_on h =
@@ -350,7 +350,7 @@ pub closed_or_none : {State A E : Type 0} (closes : State → List ℕ → Type 
 closed_or_none closes now (Ok x) a b c k s p = inl (Closes-flushed closes now a b c k p)
 closed_or_none closes now (Err e) a b c k s p = inr (subst (λ o. Puts o c []) s p)
 
--- what stood before the last text stands after it
+-- what represented the state before the last text represents it afterwards
 pub closes_as : {State : Type 0} (closes : State → List ℕ → Type 0) (stood stands : State → Type 0) (mid out : OutputState) → ((now : State) → stood now → stands now) → ((now : State) → stood now → Closes closes now mid out ⊎ Puts mid out []) → (now : State) → stood now → Closes (ClosesAs closes stands) now mid out ⊎ Puts mid out []
 closes_as closes stood stands mid out on k now s = ⊎_elim (λ c. inl (c.0, (c.1, on now s), c.2)) (λ p. inr p) (k now s)
 
@@ -361,7 +361,7 @@ closed_as_by closes stands mid out now (Err e) s c = tt
 pub closed_as : {State V : Type 0} (closes : State → List ℕ → Type 0) (stood stands : State → Type 0) (mid out : OutputState) (result : Result V RunFault) → ((now : State) → stood now → stands now) → ((now : State) → stood now → OnOk result (Closes closes now mid out)) → (now : State) → stood now → OnOk result (Closes (ClosesAs closes stands) now mid out)
 closed_as closes stood stands mid out result on k now s = closed_as_by closes stands mid out now result (on now s) (k now s)
 
--- ---- a run that is told with less
+-- ---- a run with weaker conditions
 
 closed_weaker : {State : Type 0} (step : State → List ℕ → State → List ℕ → Type 0) (more less : State → List ℕ → Type 0) → ((now : State) (end : List ℕ) → more now end → less now end) → (first : State) (lines : List (List ℕ)) (text : List ℕ) → IsClosedRun step more first lines text → IsClosedRun step less first lines text
 closed_weaker step more less w first lines text c = (c.0, c.1, c.2, c.3, w c.0 c.2 c.4, c.5)
@@ -389,7 +389,7 @@ RunsOver-closes step more less wants first input rest output out result w r = re
   front = front_weaker step more less w first input.left output.written out.written r.front;
 }
 
--- ---- the same of another result
+-- ---- the same for another result
 
 pub RunsOver-ok : {State V W : Type 0} (step : State → List ℕ → State → List ℕ → Type 0) (closes : State → List ℕ → Type 0) (wants : Type 0) (first : State) (input rest : InputState) (output out : OutputState) (ran : Result V RunFault) (x : V) (y : W) → ran ≡ Ok x → RunsOver step closes wants first input rest output out ran → RunsOver {T = W} step closes wants first input rest output out (Ok y)
 RunsOver-ok step closes wants first input rest output out (Ok z) x y e r = record {

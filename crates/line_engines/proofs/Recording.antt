@@ -73,7 +73,7 @@ pub written_next : (records : List Recorded) (i : ℕ) (r : Recorded) → r ≡ 
 written_next records i r e l all w =
     subst (AllByRecursion IsWritten) (sym (take_more records i r l)) (All-more IsWritten (take i records) (get_or records i r) all (subst IsWritten e w))
 
--- ---- what the machine tells of a call
+-- ---- what the machine reports about a call
 
 abbrev made : Batch → ℕ → ℕ → Option ℕ → Reply → Recorded
 made batch call invoked replied reply = record { batch = batch; call = call; invoked = invoked; replied = replied; reply = reply }
@@ -89,7 +89,7 @@ same_record r batch call invoked replied reply a b c d e =
     ∙ (ap (λ x. made batch call invoked x r.reply) d
     ∙ ap (λ x. made batch call invoked replied x) e)))
 
--- what is known of a call is its record
+-- what the machine reports about a call is its record
 known_answer : (calls : List Call) (n : ℕ) (r : Recorded) (known : KnownCall) → IsRecordOf calls n r → Tells (call_at n calls) (Some known) → (c : Option CallRecord) → HasRecord n known c → HasRecordWith n known (Some (Replied r.reply)) c
 known_answer calls n r known of t c has =
     let told : TellsCall of.call known = subst (λ o. Tells o (Some known)) of.found t in
@@ -206,7 +206,7 @@ in_order log calls (n ∷ ns) (r ∷ rs) a s d strict =
 
 -- ---- their ends
 
--- with the plain book's reply it has begun
+-- a call with the plain book's reply has begun
 begun_told : (stage : Stage) (reply : Reply) → answer_of stage ≡ Some (Replied reply) → is_begun stage ≡ true
 begun_told waiting reply e = absurd (cc)
 begun_told (running base made) reply e = absurd (cc)
@@ -215,7 +215,7 @@ begun_told (conflict n) reply e = absurd (cc)
 begun_told (answered r) reply e = refl
 begun_told (committed r) reply e = refl
 
--- a call that gave out a reply has replied
+-- a call whose reply was returned has replied
 gave_out : (log : List Happened) (s : State) → Stands log s → (n : ℕ) (call : Call) → call_at n s.calls ≡ Some call → (reply : Reply) → GaveOut log n reply → (k : ℕ) × (call.replied ≡ Some k)
 gave_out log s h n call found reply out =
     let kept = h.tied.kept out.1.0 _ out.1.2 in
@@ -282,7 +282,7 @@ made_for own log all (r ∷ rs) s =
     let invoked = s.0.invoked.1 in
     (at_event (λ h. IsFor own h.event) log invoked.0 _ all invoked.2, made_for own log all rs s.1)
 
--- ---- what the end of a run tells
+-- ---- what the end of a run writes
 
 pub tells_records : (own : List ℕ) (last : Scheduled) (order : List ℕ) → Runs (first_state own) last.events last.answers last.machine → AreFor own last.events → IsOrder last.machine order → Headline (accepted last.events last.answers) order → HoldReplies last.machine.calls first_books order → ((records : List Recorded) → AreRecords last.machine.calls order records → AllByRecursion IsWritten records) → (records : List Recorded) × TellsRecords own last order records (flat_map record_line records)
 tells_records own last order runs made is headline held written =
@@ -333,7 +333,7 @@ lost_so_far domain first last (l ∷ lines) text r =
     let later = lost_so_far domain r.0 last lines r.2 r.5 in
     omega arith
 
--- where no line is lost, the machine is run through all events that the lines spell
+-- if no line is lost, the machine is run through all events that the lines represent
 record Went (domain : List ℕ) (lines : List (List ℕ)) (first last : Scheduled) : Type 0 where
   events : last.events ≡ first.events ++ events_of domain first.ids lines
   memory : AllByRecursion (λ answer. lacks_memory answer ≡ false) first.answers → AllByRecursion (λ answer. lacks_memory answer ≡ false) last.answers
@@ -434,7 +434,7 @@ recorded_line domain before after schedule now bytes text false out keeps t e =
     let kept : KeepsRecording (recorded_as_lost schedule before.lost false) next = (t.2, keeps.1) in
     (next, [], (λ line is k. was_taken (t.1 line is k).1 refl refl), Puts-nil out, subst (λ r. KeepsRecording r next) (sym e) kept, refl)
 
--- the records were put behind what was put before
+-- the records were put after what was put before
 pub closed_with_records : (own : List ℕ) (now : Scheduled) (m : State) (order : List ℕ) → now.machine ≡ m → Runs (first_state own) now.events now.answers now.machine → AreFor own now.events → IsOrder m order → ((own : List ℕ) (events : List Event) (answers : List Answer) → Runs (first_state own) events answers m → Headline (accepted events answers) order) → ((own : List ℕ) (events : List Event) (answers : List Answer) → Runs (first_state own) events answers m → HoldReplies m.calls first_books order) → (a b : OutputState) → ((records : List Recorded) → AreRecords m.calls order records → Puts a b (flat_map record_line records)) → ((records : List Recorded) → AreRecords m.calls order records → AllByRecursion IsWritten records) → Closes (ClosesWithRecords own) now a b
 closed_with_records own now m order e runs made is headline held a b put written =
     let ran = subst (λ s. Runs (first_state own) now.events now.answers s) e runs in

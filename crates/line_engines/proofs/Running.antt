@@ -1,4 +1,4 @@
--- What the engine `plain` answers to one line.
+-- What the engine `plain` replies to one line.
 use Rattle.std.proofs.Common.{◌≡◌, ◌+◌, ℕ, List, true, false, refl, ap, subst, sym, ◌∙◌}
 use Rattle.rand_chacha.specs.ChaCha.{ChaCha}
 use Rattle.entry_book.specs.Book.{Book}
@@ -16,7 +16,7 @@ same_state a b e i f g =
     let r : ℕ → Running = λ x. record { books = b.books; ids = b.ids; calls = b.calls; lines = x } in
     ap p e ∙ (ap d i ∙ (ap q f ∙ ap r g))
 
--- an answer to what is kept of a line is one to the line
+-- a reply to what is kept of a line is one to the line
 of_kept : (domain : List ℕ) (now : Running) (line : List ℕ) (next : Running) (reply : List ℕ) → IsLine line → Answers domain now (kept line) next reply → Answers domain now line next reply
 of_kept domain now line next reply is (refused fault e n r) = refused fault (sym (kept_spells domain now.ids line is) ∙ e) n r
 of_kept domain now line next reply is (replied request ids e n r) = replied request ids (sym (kept_spells domain now.ids line is) ∙ e) n r

@@ -1,4 +1,4 @@
--- What the engine `schedule` answers to one line.
+-- What the engine `schedule` replies to one line.
 use Rattle.std.proofs.Common.{◌≡◌, ◌+◌, ℕ, Bool, true, false, List, refl, ap, subst, sym, ◌∙◌}
 use Rattle.std.specs.Prelude.{Ok}
 use Rattle.rand_chacha.specs.ChaCha.{ChaCha}
@@ -51,7 +51,7 @@ event_refused domain now line text machine ids (Refused fault) m i e t = record 
 pub line_refused : (domain : List ℕ) (now : Scheduled) (line : List ℕ) (machine : State) (ids : ChaCha) (refusal : LineRefusal) → now.machine ≡ machine → now.ids ≡ ids → Fails refusal.failure (spelled_event domain now.ids line) → refusal.line ≡ now.lines + 1 → TakesEventLine domain now line (refusal_json refusal) (is_unread refusal.failure) machine ids
 line_refused domain now line machine ids refusal m i e n = event_refused domain now line (refusal_json refusal) machine ids refusal.failure m i e (ap (λ k. failure_json k refusal.failure) n)
 
--- an event that was applied was taken or lost, as its answer tells
+-- the line of an event that was applied was taken or lost, according to the answer
 loses_or_takes : (domain : List ℕ) (now : Scheduled) (line : List ℕ) (event : Event) (ids : ChaCha) (answer : Answer) (machine : State) (lost : Bool) → spelled_event domain now.ids line ≡ Ok (event, ids) → Applies now.machine event answer machine → lacks_memory answer ≡ lost → LosesOrTakes lost domain now line (stepped now event answer machine ids)
 loses_or_takes domain now line event ids answer machine true e a l = unapplied event ids answer machine e a l refl
 loses_or_takes domain now line event ids answer machine false e a l = took event ids answer machine e a l refl

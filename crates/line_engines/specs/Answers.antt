@@ -1,4 +1,4 @@
--- What the engine `plain` answers, line by line.
+-- What the engine `plain` replies, line by line.
 use Rattle.std.specs.Prelude.{◌≡◌, ◌⊎◌, ℕ, ◌+◌, List, [], ◌++◌, codes, Result, Ok, Err, refl}
 use Rattle.rand_chacha.specs.ChaCha.{ChaCha}
 use Rattle.entry_book.specs.Book.{Book}
@@ -14,23 +14,23 @@ use Rattle.line_engines.specs.Driver.{RunsOver}
 use Rattle.line_engines.specs.declared.fault.RunFault.{RunFault}
 use Rattle.line_reading.specs.declared.fault.Fault.{Fault}
 
--- What a run has come to: the list of all books, the ids that are still to be given, and how many calls were run and
--- lines read.
+-- The state of a run: the list of all books, the ids that are left to draw, and the numbers of calls that were run and of lines that
+-- were read.
 pub record Running : Type 0 where
   pub books : List Book
   pub ids : ChaCha
   pub calls : ℕ
   pub lines : ℕ
 
--- before the first line: no book but the empty one, and of the seed's ids none is given
+-- before the first line: no book but the empty one, and no id of the seed is drawn
 abbrev pub start : List ℕ → Running
 start seed = record { books = first_books; ids = first_ids seed; calls = 0; lines = 0 }
 
--- a line that took no call
+-- after a line without a call
 abbrev pub passed : Running → Running
 passed now = record { books = now.books; ids = now.ids; calls = now.calls; lines = now.lines + 1 }
 
--- a line whose batch was run and left these books, and these ids
+-- after a line whose batch was run and left these books and these ids
 abbrev pub called : Running → List Book → ChaCha → Running
 called now books ids = record { books = books; ids = ids; calls = now.calls + 1; lines = now.lines + 1 }
 
@@ -38,37 +38,37 @@ called now books ids = record { books = books; ids = ids; calls = now.calls + 1;
 abbrev pub as_line : List ℕ → List ℕ
 as_line text = text ++ codes "\n"
 
--- The reply that a line may get in a run, and what the run has come to then. A line that spells a batch has drawn the ids
--- of its creates, whatever the book answers; a refused line draws none. Where memory is wanting, the line is answered so,
--- and changes nothing but that its batch, if it spells one, may have drawn its ids and taken a call number.
+-- The reply that a line may get in a run, and the state after it. A line that represents a batch draws the ids of its creates,
+-- whatever the book replies; a refused line draws none. If memory runs out, the reply says so. The line then changes nothing, except
+-- that a batch may have drawn its ids and taken a call number.
 pub data Answers (domain : List ℕ) (now : Running) (line : List ℕ) (next : Running) (reply : List ℕ) : Type 0 where
   refused : (fault : Fault) → spelled domain now.ids line ≡ Err fault → next ≡ passed now → reply ≡ as_line (fault_json (now.lines + 1) fault) → Answers domain now line next reply
   replied : (request : Request) (ids : ChaCha) → spelled domain now.ids line ≡ Ok (request, ids) → next ≡ called now (books_after request.batch now.books) ids → reply ≡ as_line (reply_json (now.calls + 1) (reply_to request.batch now.books)) → Answers domain now line next reply
   not_read : next ≡ passed now → reply ≡ as_line (no_memory_json (now.lines + 1)) → Answers domain now line next reply
   not_run : (request : Request) (ids : ChaCha) → spelled domain now.ids line ≡ Ok (request, ids) → next ≡ called now now.books ids → reply ≡ as_line (no_memory_json (now.lines + 1)) → Answers domain now line next reply
 
--- One batch was answered: run, or refused for memory. What is kept of the book stands for the books that it left.
+-- One batch was answered: it was run, or refused for lack of memory. The book's state represents the resulting books.
 abbrev pub AnswersBatch : List Book → Batch → ℕ → ℕ → OutputState → OutputState → PlainState → Type 0
 AnswersBatch books batch call line old new book = (Stands book (books_after batch books) × Puts old new (as_line (reply_json call (reply_to batch books)))) ⊎ (Stands book books × Puts old new (as_line (no_memory_json line)))
 
--- One line was answered: its reply was put, what is kept of the book stands for the books that it left, and these are
--- the ids and the count of calls that it left.
+-- One line was answered: its reply was put, the book's state represents the resulting books, and these are the resulting ids and
+-- number of calls.
 abbrev pub AnswersLine : List ℕ → Running → List ℕ → OutputState → OutputState → PlainState → ChaCha → ℕ → Type 0
 AnswersLine domain now line old new book ids calls = (next : Running) × (reply : List ℕ) × Answers domain now line next reply × Puts old new reply × Stands book next.books × (next.ids ≡ ids) × (next.calls ≡ calls) × (next.lines ≡ now.lines + 1)
 
--- no text comes behind the last reply
+-- no text follows the last reply
 abbrev pub ClosesWithNothing : Running → List ℕ → Type 0
 ClosesWithNothing last end = end ≡ []
 
--- Each line has an answer in every state, at least that memory is wanting.
+-- Each line has a reply in every state: at least the one for out of memory.
 pub an_answer : (domain : List ℕ) (now : Running) (line : List ℕ) → (next : Running) × (reply : List ℕ) × Answers domain now line next reply
 an_answer domain now line = (passed now, as_line (no_memory_json (now.lines + 1)), not_read refl refl)
 
--- what a run of the engine over an input and an output has done
+-- the result of a run of the engine over an input and an output
 abbrev pub RunsPlain : {T : Type 0} → List ℕ → List ℕ → InputState → InputState → OutputState → OutputState → Result T RunFault → Type 0
 RunsPlain domain seed input rest output out result = RunsOver (Answers domain) ClosesWithNothing ⊥ (start seed) input rest output out result
 
--- what the engine keeps of a run
+-- the state that the engine stores
 pub record Keeping : Type 0 where
   pub book : PlainState
   pub ids : ChaCha

@@ -1,4 +1,4 @@
--- What the engine `audit` keeps from line to line, and what it tells in the end.
+-- What the engine `audit` stores from line to line, and what it reports at the end.
 use Rattle.std.specs.Prelude.{◌≡◌, ℕ, ◌+◌, Bool, ⊤, List, [], ◌∷◌, ◌++◌, length, Option, None, Some, is_some, Result, Ok, Err, IfErr, IfOk, IfSome, refl}
 use Rattle.std.specs.Io.KnownBytes.{Appends}
 use Rattle.reg_lines.specs.Lines.{most_lines}
@@ -21,7 +21,7 @@ use Rattle.line_engines.specs.declared.fault.RunFault.TheVariants as fault
 use Rattle.line_engines.specs.declared.outcome.Outcome.{Outcome}
 use Rattle.line_engines.specs.declared.outcome.Outcome.TheVariants as outcome
 
--- What a run has come to: the records that were taken, and why it takes no more, where it doesn't.
+-- The state of a run: the records that were accepted, and why it accepts no more, if so.
 pub record Audited : Type 0 where
   pub records : List AuditRecord
   pub over : Option Over
@@ -32,14 +32,15 @@ start = record { records = []; over = None }
 abbrev pub is_over : Audited → Bool
 is_over now = is_some now.over
 
--- A line is taken, or it has a fault, or memory is wanting for it; none gets a reply of its own. Behind the end nothing changes.
+-- A record is accepted, or it has a fault, or memory runs out for it; no line gets a reply of its own. After the audit is over, nothing
+-- changes.
 pub data AnswersRecord (domain : List ℕ) (now : Audited) (line : List ℕ) (next : Audited) (reply : List ℕ) : Type 0 where
   taken : now.over ≡ None → (r : AuditRecord) → judged domain now.records line ≡ Ok r → next ≡ record { records = now.records ++ r ∷ []; over = None } → reply ≡ [] → AnswersRecord domain now line next reply
   denied : now.over ≡ None → (cause : Cause) → judged domain now.records line ≡ Err cause → next ≡ record { records = now.records; over = Some (Denied (length now.records + 1) cause) } → reply ≡ [] → AnswersRecord domain now line next reply
   wanting : now.over ≡ None → next ≡ record { records = now.records; over = Some NoMemory } → reply ≡ [] → AnswersRecord domain now line next reply
   past : (over : Over) → now.over ≡ Some over → next ≡ now → reply ≡ [] → AnswersRecord domain now line next reply
 
--- Each line has an answer in every state, at least that memory is wanting.
+-- Each line has a result in every state: at least that for out of memory.
 an_audit_by : (domain : List ℕ) (now : Audited) (line : List ℕ) (over : Option Over) → now.over ≡ over → (next : Audited) × (reply : List ℕ) × AnswersRecord domain now line next reply
 an_audit_by domain now line None e = (record { records = now.records; over = Some NoMemory }, [], wanting e refl refl)
 an_audit_by domain now line (Some over) e = (now, [], past over e refl refl)
@@ -57,7 +58,7 @@ verdict_over (Some NoMemory) calls = None
 abbrev pub verdict_in : Audited → Option Verdict
 verdict_in last = verdict_over last.over (length last.records)
 
--- the verdict is the last line, and the only one
+-- the last text is the line of the verdict; there is none if memory ran out
 abbrev pub ClosesWithVerdict : Audited → List ℕ → Type 0
 ClosesWithVerdict last end = (verdict : Verdict) × (verdict_in last ≡ Some verdict) × (end ≡ as_line (verdict_json verdict))
 
@@ -74,35 +75,36 @@ outcome_by (No line cause) = outcome.Denied
 abbrev pub TellsVerdict : Verdict → Outcome → Option (List ℕ) → Option (List ℕ) → Type 0
 TellsVerdict verdict told old new = Appends old new (as_line (verdict_json verdict)) × (told ≡ outcome_by verdict)
 
--- behind a no, the lines that follow the reported one are left
+-- after a no, the lines that follow the reported one are left in the input
 abbrev pub LeavesBehind : Verdict → List ℕ → Option (List ℕ) → Type 0
 LeavesBehind (Yes calls) bytes left = ⊤
 LeavesBehind (No line cause) bytes left = LeavesLines line bytes left
 
--- so many lines were taken, and none of them has a fault
+-- some number of lines were read, and none of them has a fault
 abbrev pub HasNoFault : List ℕ → List ℕ → Option (List ℕ) → Type 0
 HasNoFault domain bytes left = (count : ℕ) × TakesLines count bytes left × (verdict_of domain (first_lines count bytes) ≡ Yes count)
 
--- What a run of the engine over an input and an output has done: it is a run of lines, and where it got to its end, the verdict on the lines was told. No line behind the first fault was taken, also where a read failed.
+-- The result of a run of the engine over an input and an output: it is a run of lines, and if it succeeded, the verdict on the lines was
+-- written. No line after the first fault was read, even if a read failed.
 pub record RunsAudit (domain : List ℕ) (input rest : InputState) (output out : OutputState) (result : Result Outcome RunFault) : Type 0 where
   pub run : RunsOver (Steps is_over (AnswersRecord domain)) ClosesWithVerdict ⊤ start input rest output out result
   pub told : IfOk result (λ outcome. IfSome input.left (λ bytes. TellsVerdict (verdict_of domain (first_lines most_lines bytes)) outcome output.written out.written))
   pub left : IfOk result (λ outcome. IfSome input.left (λ bytes. LeavesBehind (verdict_of domain (first_lines most_lines bytes)) bytes rest.left))
   pub failed : IfErr result (λ e. e ≡ fault.Input → IfSome input.left (λ bytes. HasNoFault domain bytes rest.left))
 
--- ---- what the engine keeps of a run
+-- ---- the state that the engine stores
 
 pub record AuditKept : Type 0 where
   pub auditor : AuditState
   pub lines : ℕ
   pub over : Option Over
 
--- the auditor keeps the records, unless the run is over
+-- the auditor represents the records, unless the run is over
 pub record StandsFor (kept : AuditKept) (now : Audited) : Type 0 where
   pub over : now.over ≡ kept.over
   pub keeps : kept.over ≡ None → Keeps kept.auditor now.records
 
--- one line was audited behind these records
+-- the result of auditing one line after these records; if memory runs out, nothing is said
 abbrev pub AuditsLine : List ℕ → List AuditRecord → List ℕ → AuditState → Option Over → Type 0
 AuditsLine domain records line auditor None = (r : AuditRecord) × (judged domain records line ≡ Ok r) × Keeps auditor (records ++ r ∷ [])
 AuditsLine domain records line auditor (Some (Denied number cause)) = (number ≡ length records + 1) × (judged domain records line ≡ Err cause)

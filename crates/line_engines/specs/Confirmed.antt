@@ -1,4 +1,4 @@
--- The records that a schedule leaves are audited yes.
+-- The verdict on the records of a schedule is yes.
 use Rattle.std.specs.Prelude.{◌≡◌, ℕ, List, length}
 use Rattle.std.specs.List.{AllByRecursion}
 use Rattle.reg_lines.specs.Lines.{lines_of}
@@ -9,11 +9,12 @@ use Rattle.call_audit.specs.declared.verdict.Verdict.TheVariants.{Yes}
 use Rattle.line_engines.specs.Recorded.{Recorded, TellsRecords}
 use Rattle.line_engines.specs.Schedules.{Scheduled}
 
--- a record, as the auditor's law has it
+-- a record, in the form of the auditor's theorem
 abbrev pub call_of : Recorded → RecordedCall
 call_of r = record { batch = r.batch; call = r.call; invoked = r.invoked; replied = r.replied; reply = r.reply }
 
--- The text that a schedule leaves in the end is audited yes in its trust domain, with as many calls as there are records, where each of these fits into a line.
+-- The verdict on the last text of a schedule, in its trust domain, is yes, with as many calls as there are records, if each of these
+-- fits into a line.
 abbrev pub RecordsAreAudited : Type 0
 RecordsAreAudited = (domain : List ℕ) (last : Scheduled) (order : List ℕ) (recorded : List Recorded) (end : List ℕ) → TellsRecords domain last order recorded end → AllByRecursion (λ r. Fits (text_of_call (call_of r))) recorded
     → verdict_of domain (lines_of end) ≡ Yes (length recorded)

@@ -1,4 +1,4 @@
--- The lines of an input answered to their end.
+-- Runs over the lines of an input.
 use Rattle.std.specs.Prelude.{◌≡◌, ◌<◌, ◌⊎◌, ℕ, Bool, true, false, not, List, [], ◌++◌, length, take, Option, None, Some, Result, MatchBool, OnOk, IfErr, IfSome}
 use Rattle.std.specs.Io.KnownBytes.{Appends}
 use Rattle.reg_lines.specs.Lines.{lines_of, most_lines}
@@ -7,35 +7,35 @@ use Rattle.reg_lines.specs.Stream.{AppendsFront, InputState, IsOut, OutputState,
 use Rattle.line_engines.specs.declared.fault.RunFault.{RunFault}
 use Rattle.line_engines.specs.declared.fault.RunFault.TheVariants as fault
 
--- One line of a run that may end before its lines do: a run that has ended leaves the lines that follow without a reply.
+-- One line of a run that may end before its lines do: after its end, lines get no reply and change nothing.
 abbrev pub Steps : {State : Type 0} → (State → Bool) → (State → List ℕ → State → List ℕ → Type 0) → State → List ℕ → State → List ℕ → Type 0
 Steps ends answers now line next reply = MatchBool (ends now) ((next ≡ now) × (reply ≡ [])) (answers now line next reply)
 
--- A line of which these bytes are kept got a reply, which was put. What the run has come to then stands, and it goes on
--- unless it has ended.
+-- Every line of which these bytes are kept may get a reply, which was put. The new value represents the state after it, and the run
+-- goes on unless it has ended.
 abbrev pub AnswersKept : {State : Type 0} → (State → List ℕ → State → List ℕ → Type 0) → (State → Bool) → (State → Type 0) → State → List ℕ → OutputState → OutputState → Bool → Type 0
 AnswersKept {State} answers ends stands now bytes old new goes_on = (next : State) × (reply : List ℕ) × StepsKept answers now bytes next reply × Puts old new reply × stands next × (ends next ≡ not goes_on)
 
--- a last text was put
+-- a possible last text was put
 abbrev pub Closes : {State : Type 0} → (State → List ℕ → Type 0) → State → OutputState → OutputState → Type 0
 Closes closes now old new = (end : List ℕ) × closes now end × Puts old new end
 
--- a text that may come last behind what the run has come to, which stands in the end
+-- a possible last text in this state, which the final value represents
 abbrev pub ClosesAs : {State : Type 0} → (State → List ℕ → Type 0) → (State → Type 0) → State → List ℕ → Type 0
 ClosesAs closes stands now end = closes now end × stands now
 
--- memory was wanting for the last text: nothing was put, and all that was put before is out
+-- memory ran out for the last text, as the engine allows: none of it was put, and everything that was put before is out
 pub record FailsToClose (wants : Type 0) (old new : OutputState) : Type 0 where
   pub may : wants
   pub none_put : Puts old new []
   pub not_failed : new.failures ≡ 0
   pub out : IsOut new
 
--- the last text, or none yet
+-- the last text, or nothing
 abbrev pub MayClose : {State : Type 0} → (State → List ℕ → Type 0) → State → List ℕ → Type 0
 MayClose closes now end = closes now end ⊎ (end ≡ [])
 
--- the replies to the lines, and the last text behind them
+-- the replies to the lines, followed by the last text
 abbrev pub IsClosedRun : {State : Type 0} → (State → List ℕ → State → List ℕ → Type 0) → (State → List ℕ → Type 0) → State → List (List ℕ) → List ℕ → Type 0
 IsClosedRun {State} step closes first lines text = (last : State) × (replies : List ℕ) × (end : List ℕ) × IsRun step first lines last replies × closes last end × (text ≡ replies ++ end)
 
@@ -43,39 +43,39 @@ IsClosedRun {State} step closes first lines text = (last : State) × (replies : 
 abbrev pub AppendsClosed : {State : Type 0} → (State → List ℕ → State → List ℕ → Type 0) → (State → List ℕ → Type 0) → State → List (List ℕ) → Option (List ℕ) → Option (List ℕ) → Type 0
 AppendsClosed step closes first lines old new = (text : List ℕ) × IsClosedRun step closes first lines text × Appends old new text
 
--- known bytes grow by a beginning of such a text
+-- known bytes grow by a prefix of such a text
 abbrev pub AppendsClosedFront : {State : Type 0} → (State → List ℕ → State → List ℕ → Type 0) → (State → List ℕ → Type 0) → State → List (List ℕ) → Option (List ℕ) → Option (List ℕ) → Type 0
 AppendsClosedFront step closes first lines old new = (text : List ℕ) × IsClosedRun step closes first lines text × AppendsFront old new text
 
--- What a run over an input and an output has done. The input was as the first of the two input states says and is as the
--- second says, and so for the output.
+-- The result of a run over an input and an output. The states of the input before and after it are `input` and `rest`, those of the
+-- output `output` and `out`.
 pub record RunsOver {State : Type 0} {T : Type 0} (step : State → List ℕ → State → List ℕ → Type 0) (closes : State → List ℕ → Type 0) (wants : Type 0) (first : State) (input rest : InputState) (output out : OutputState) (result : Result T RunFault) : Type 0 where
-  -- each line got its reply, in order, and the last text came behind them
+  -- on success, each line got its reply, in order, followed by the last text
   pub text : OnOk result (IfSome input.left (λ bytes. AppendsClosed step closes first (first_lines most_lines bytes) output.written out.written))
-  -- then no device has failed, and all is out
+  -- and no device has failed, and everything is out
   pub done : OnOk result ((rest.failures ≡ 0) × (out.failures ≡ 0) × IsOut out)
-  -- only a device that failed is blamed
+  -- an error names a device only if that has failed
   pub input_failed : IfErr result (λ e. e ≡ fault.Input → 0 < rest.failures)
   pub output_failed : IfErr result (λ e. e ≡ fault.Output → 0 < out.failures)
-  -- at a failed read each reply so far is out
+  -- after a failed read, each reply so far is out
   pub so_far : IfErr result (λ e. e ≡ fault.Input → (out.failures ≡ 0) × IsOut out × IfSome input.left (λ bytes. (count : ℕ) × TakesLines count bytes rest.left × AppendsRun step first (first_lines count bytes) output.written out.written))
-  -- memory is wanting before the first line, or it may be for the last text: then each reply is out
+  -- memory runs out before the first line, or, if the engine allows it, for the last text: then each reply is out
   pub no_memory : IfErr result (λ e. e ≡ fault.NoMemory → ((rest ≡ input) × (out ≡ output)) ⊎ (wants × (rest.failures ≡ 0) × (out.failures ≡ 0) × IsOut out × IfSome input.left (λ bytes. AppendsRun step first (first_lines most_lines bytes) output.written out.written)))
-  -- whatever happens, what was written is a beginning
+  -- in every case, a prefix of the replies and a possible last text was written
   pub front : IfSome input.left (λ bytes. AppendsClosedFront step (MayClose closes) first (first_lines most_lines bytes) output.written out.written)
 
--- ---- which lines are taken
+-- ---- which lines are read
 
--- A line gets its reply in a state that hasn't ended.
+-- A line gets its reply in a state in which the run hasn't ended.
 abbrev pub Goes : {State : Type 0} → (State → Bool) → (State → List ℕ → State → List ℕ → Type 0) → State → List ℕ → State → List ℕ → Type 0
 Goes ends answers now line next reply = (ends now ≡ false) × answers now line next reply
 
--- the first lines were taken from the bytes, and all others are left
+-- the first `count` lines were read from the bytes, and all others are left
 abbrev pub LeavesLines : ℕ → List ℕ → Option (List ℕ) → Type 0
 LeavesLines count bytes None = ⊥
 LeavesLines count bytes (Some rest) = lines_of bytes ≡ take count (lines_of bytes) ++ lines_of rest
 
--- The lines were answered up to the one at which the run ended, and those behind it are left; or all were answered.
+-- The lines were answered up to the one at which the run ended, and those after it are left; or all were answered.
 pub record TakesUntilEnd {State : Type 0} (ends : State → Bool) (answers : State → List ℕ → State → List ℕ → Type 0) (stands : State → Type 0) (first : State) (bytes : List ℕ) (left : Option (List ℕ)) : Type 0 where
   pub count : ℕ
   pub counted : length (first_lines count bytes) ≡ count
@@ -86,7 +86,7 @@ pub record TakesUntilEnd {State : Type 0} (ends : State → Bool) (answers : Sta
   pub ended : ends last ≡ true → LeavesLines count bytes left
   pub all : ends last ≡ false → first_lines count bytes ≡ first_lines most_lines bytes
 
--- So many lines were answered, the run hasn't ended, and of the lines that are left no whole one was taken.
+-- Some number of lines were answered, the run hasn't ended, and no further line was read whole.
 pub record TakesSoFar {State : Type 0} (ends : State → Bool) (answers : State → List ℕ → State → List ℕ → Type 0) (first : State) (bytes : List ℕ) (left : Option (List ℕ)) : Type 0 where
   pub count : ℕ
   pub counted : length (first_lines count bytes) ≡ count
@@ -96,7 +96,7 @@ pub record TakesSoFar {State : Type 0} (ends : State → Bool) (answers : State 
   pub goes_on : ends last ≡ false
   pub taken : TakesLines count bytes left
 
--- No line is taken behind the one at which a run ends: neither where the run gets to its end nor before a read that fails.
+-- No line is read after the one at which a run ends: neither if the run succeeds, nor before a failed read.
 pub record TakesNoMore {State : Type 0} {T : Type 0} (ends : State → Bool) (answers : State → List ℕ → State → List ℕ → Type 0) (stands : State → Type 0) (first : State) (input rest : InputState) (result : Result T RunFault) : Type 0 where
   pub done : OnOk result (IfSome input.left (λ bytes. TakesUntilEnd ends answers stands first bytes rest.left))
   pub failed : IfErr result (λ e. e ≡ fault.Input → IfSome input.left (λ bytes. TakesSoFar ends answers first bytes rest.left))

@@ -1,4 +1,4 @@
--- What the engine `record` writes: nothing line by line, and in the end the records of the machine's calls.
+-- What the engine `record` writes: nothing line by line, and at the end the records of the machine's calls.
 use Rattle.std.specs.Prelude.{◌≡◌, ◌↔◌, ◌+◌, ◌<◌, ◌≤◌, ℕ, true, false, ⊤, List, [], ◌∷◌, Option, None, Some, Result, Ok, Err, IfOk, IfSome, refl}
 use Rattle.std.specs.Io.KnownBytes.{Appends}
 use Rattle.std.specs.List.{AllByRecursion, flat_map}
@@ -30,9 +30,10 @@ use Rattle.line_engines.specs.Driver.{RunsOver}
 use Rattle.line_engines.specs.Schedules.{LosesLine, ScheduleKept, Scheduled, StandsFor, TakesEvent, lacks_memory, passed, start, unread}
 use Rattle.line_engines.specs.declared.fault.RunFault.{RunFault}
 
--- ---- a record, and what holds of a list of them, whoever reads it
+-- ---- a record, and properties of a list of records that mention no machine
 
--- What is recorded of a call: its batch and its number; the numbers of its invoke and of its reply among the accepted events, where it has replied; and its reply, given out or not.
+-- The record of a call: its batch and its number; the numbers of its invoke and, if it has replied, of its reply among the accepted
+-- events; and its reply, whether the call has replied or not.
 pub record Recorded : Type 0 where
   pub batch : Batch
   pub call : ℕ
@@ -48,16 +49,16 @@ abbrev pub AreLegal : List Book → List Recorded → Type 0
 AreLegal books [] = ⊤
 AreLegal books (r ∷ rs) = (r.reply ≡ reply_to r.batch books) × AreLegal (books_after r.batch books) rs
 
--- the second one wasn't replied before the first one was invoked
+-- the second call did not reply before the first one was invoked
 abbrev pub IsNotPast : Recorded → Recorded → Type 0
 IsNotPast first second = (n : ℕ) → second.replied ≡ Some n → first.invoked ≤ n
 
--- no record was replied before an earlier one was invoked
+-- no call replied before the call of an earlier record was invoked
 abbrev pub StampsInOrder : List Recorded → Type 0
 StampsInOrder [] = ⊤
 StampsInOrder (r ∷ rs) = AllByRecursion (IsNotPast r) rs × StampsInOrder rs
 
--- It was replied after its invoke; or it wasn't, and its reply is that of a batch that was committed.
+-- The call replied after its invoke; or it hasn't replied, and its reply is that of a committed batch.
 abbrev pub IsEndedAt : Option ℕ → ℕ → Reply → Type 0
 IsEndedAt None invoked reply = is_committed reply.outcome ≡ true
 IsEndedAt (Some n) invoked reply = invoked < n
@@ -65,18 +66,19 @@ IsEndedAt (Some n) invoked reply = invoked < n
 abbrev pub IsEnded : Recorded → Type 0
 IsEnded r = IsEndedAt r.replied r.invoked r.reply
 
--- It is of a batch without a fault, and of what the types of its parts see to.
+-- The batch has no fault, and the numbers and the reply satisfy the invariants of their types.
 abbrev pub IsWritten : Recorded → Type 0
 IsWritten r = IsWrittenBatch r.batch × IsWrittenCall r.call r.invoked r.replied r.reply
 
 -- ---- records of a machine's calls
 
--- The stamps are numbers of accepted events: the one that handed in the batch, and, exactly where there is one, the one that gave out the reply.
+-- The stamps are numbers of accepted events: that of the invoke of the batch, and, exactly if there is one, that of the event that
+-- returned this reply.
 pub record HasStamps (log : List Happened) (r : Recorded) : Type 0 where
   pub invoked : (done : Done) × At log r.invoked (Invoke r.call r.batch) done
   pub replied : (n : ℕ) → (r.replied ≡ Some n) ↔ At log n (on.Reply r.call) (Answered r.call (Replied r.reply))
 
--- the call of this number has this record: it holds the reply
+-- the call of this number has this record; the call holds the reply
 pub record IsRecordOf (calls : List Call) (number : ℕ) (r : Recorded) : Type 0 where
   pub call : Call
   pub found : call_at number calls ≡ Some call
@@ -93,9 +95,9 @@ AreRecords calls [] (r ∷ rs) = ⊥
 AreRecords calls (n ∷ ns) [] = ⊥
 AreRecords calls (n ∷ ns) (r ∷ rs) = IsRecordOf calls n r × AreRecords calls ns rs
 
--- ---- what the engine does
+-- ---- the effect of the engine
 
--- What a run has come to: what `schedule` comes to by the same lines, and how many of them were lost for lack of memory.
+-- The state of a run: the state of `schedule` after the same lines, and how many of them were lost for lack of memory.
 pub record Recording : Type 0 where
   pub scheduled : Scheduled
   pub lost : ℕ
@@ -104,12 +106,14 @@ pub record Recording : Type 0 where
 abbrev pub first_recording : List ℕ → List ℕ → Recording
 first_recording domain seed = record { scheduled = start domain seed; lost = 0 }
 
--- A line is taken, or it is lost and counted. What it is answered isn't written.
+-- A line is taken, or it is lost and counted. Its answer isn't written.
 pub data RecordsLine (domain : List ℕ) (now : Recording) (line : List ℕ) (next : Recording) (reply : List ℕ) : Type 0 where
   was_taken : TakesEvent domain now.scheduled line next.scheduled → next.lost ≡ now.lost → reply ≡ [] → RecordsLine domain now line next reply
   was_lost : LosesLine domain now.scheduled line next.scheduled → next.lost ≡ now.lost + 1 → reply ≡ [] → RecordsLine domain now line next reply
 
--- The text in the end is the records of the machine's calls, a line each, in an order of which the headline holds for the events and for what they were answered. Their stamps are those of the events, each was replied after its invoke or was committed, the plain book gives them their replies in this order, and by their stamps alone it is strict. Their batches were made for the trust domain.
+-- The last text is the records of the machine's calls, a line each, in an order for which the headline (main theorem) holds with the
+-- events and their answers. The stamps of the records are those of the events. Each call replied after its invoke, or was committed.
+-- The plain book gives them their replies in this order, which is strict by the stamps alone. The batches are of the trust domain.
 pub record TellsRecords (domain : List ℕ) (last : Scheduled) (order : List ℕ) (recorded : List Recorded) (end : List ℕ) : Type 0 where
   pub is_order : IsOrder last.machine order
   pub headline : Headline (accepted last.events last.answers) order
@@ -128,11 +132,11 @@ ClosesWithRecords domain last end = (order : List ℕ) × (recorded : List Recor
 abbrev pub ClosesRecording : List ℕ → Recording → List ℕ → Type 0
 ClosesRecording domain last end = ClosesWithRecords domain last.scheduled end
 
--- each line may be lost in every state
+-- any line may be lost, in every state
 pub a_line_recorded : (domain : List ℕ) (now : Recording) (line : List ℕ) → (next : Recording) × (reply : List ℕ) × RecordsLine domain now line next reply
 a_line_recorded domain now line = (record { scheduled = passed now.scheduled; lost = now.lost + 1 }, [], was_lost (unread refl) refl refl)
 
--- The lines were taken or lost, in order, as many of them lost as is told, and known bytes grow by the records alone.
+-- The lines were taken or lost, in order, and `lost` of them were lost. Known bytes grow by the records alone.
 abbrev pub AppendsRecords : List ℕ → List ℕ → List (List ℕ) → ℕ → Option (List ℕ) → Option (List ℕ) → Type 0
 AppendsRecords domain seed lines lost old new = (last : Recording) × (end : List ℕ) × IsRun (RecordsLine domain) (first_recording domain seed) lines last [] × (last.lost ≡ lost) × ClosesRecording domain last end × Appends old new end
 
@@ -142,12 +146,13 @@ abbrev pub events_by : Result (Event × ChaCha) Fault → (Event → ChaCha → 
 events_by (Ok p) with_it without = with_it p.0 p.1
 events_by (Err fault) with_it without = without
 
--- the events that the lines spell, in order; an event draws the ids of its creates, whatever it is answered
+-- the events that the lines represent, in order; an event draws the ids of its creates, whatever its answer
 abbrev pub events_of : List ℕ → ChaCha → List (List ℕ) → List Event
 events_of domain ids [] = []
 events_of domain ids (line ∷ lines) = events_by (spelled_event domain ids line) (λ event left. event ∷ events_of domain left lines) (events_of domain ids lines)
 
--- The records are those of all events that the lines spell: the machine was run through these events, refused none of them for lack of memory, and known bytes grow by the records of its calls.
+-- The records are those of all events that the lines represent: the machine was run through these events and refused none of them for
+-- lack of memory, and known bytes grow by the records of its calls.
 pub record AppendsAllRecords (domain seed : List ℕ) (lines : List (List ℕ)) (old new : Option (List ℕ)) : Type 0 where
   pub last : Scheduled
   pub text : List ℕ
@@ -157,13 +162,14 @@ pub record AppendsAllRecords (domain seed : List ℕ) (lines : List (List ℕ)) 
   pub closes : ClosesWithRecords domain last text
   pub appends : Appends old new text
 
--- What a run of the engine over an input and an output has done: it is a run of lines, and where it got to its end, the records and nothing else were written. It tells how many lines were lost: if none was, the records are those of all events.
+-- The result of a run of the engine over an input and an output: it is a run of lines, and if it succeeded, the records and nothing else
+-- were written. It returns how many lines were lost: if none was, the records are those of all events.
 pub record RunsRecord (domain seed : List ℕ) (input rest : InputState) (output out : OutputState) (result : Result ℕ RunFault) : Type 0 where
   pub run : RunsOver (RecordsLine domain) (ClosesRecording domain) ⊤ (first_recording domain seed) input rest output out result
   pub alone : IfOk result (λ lost. IfSome input.left (λ bytes. AppendsRecords domain seed (first_lines most_lines bytes) lost output.written out.written))
   pub all : IfOk result (λ lost. lost ≡ 0 → IfSome input.left (λ bytes. AppendsAllRecords domain seed (first_lines most_lines bytes) output.written out.written))
 
--- ---- what the engine keeps of a run
+-- ---- the state that the engine stores
 
 pub record RecordKept : Type 0 where
   pub schedule : ScheduleKept

@@ -1,4 +1,4 @@
--- What the engine `schedule` answers, line by line, and what it tells in the end.
+-- What the engine `schedule` replies, line by line, and what it writes at the end.
 use Rattle.std.specs.Prelude.{◌≡◌, ℕ, ◌+◌, ⊤, Bool, true, false, MatchBool, List, [], ◌∷◌, ◌++◌, Result, Ok, Err, refl}
 use Rattle.rand_chacha.specs.ChaCha.{ChaCha}
 use Rattle.call_machine.specs.Calls.{State, first_state}
@@ -23,8 +23,8 @@ use Rattle.line_engines.specs.declared.fault.RunFault.{RunFault}
 use Rattle.line_engines.specs.declared.schedule_engine.LineAnswer.{LineAnswer}
 use Rattle.line_engines.specs.declared.schedule_engine.LineAnswer.TheVariants.{Done, Refused, NotRead}
 
--- What a run has come to: the events that lines spelled and what each was answered, where the machine stands after them, the
--- ids that are still to be given, and how many lines were read.
+-- The state of a run: the events of the lines and their answers, the machine's state after them, the ids that are left to draw, and the
+-- number of lines that were read.
 pub record Scheduled : Type 0 where
   pub events : List Event
   pub answers : List Answer
@@ -36,28 +36,28 @@ pub record Scheduled : Type 0 where
 abbrev pub start : List ℕ → List ℕ → Scheduled
 start domain seed = record { events = []; answers = []; machine = first_state domain; ids = first_ids seed; lines = 0 }
 
--- a line that spelled no event
+-- after a line without an event
 abbrev pub passed : Scheduled → Scheduled
 passed now = record now { lines = now.lines + 1 }
 
--- a line whose event was answered so, which left the machine here, and these ids
+-- after a line with an event that got this answer and left this machine and these ids
 abbrev pub stepped : Scheduled → Event → Answer → State → ChaCha → Scheduled
 stepped now event answer machine ids = record { events = now.events ++ event ∷ []; answers = now.answers ++ answer ∷ []; machine = machine; ids = ids; lines = now.lines + 1 }
 
--- what the event of the line of this number is answered, as it is printed
+-- the answer to the event of the line of this number, as it is printed
 abbrev pub answer_json : ℕ → Answer → List ℕ
 answer_json line (Ok done) = event_json done
 answer_json line (Err refused) = event_refusal_json line refused.refusal
 
--- The reply that a line may get in a run, and what the run has come to then. A line that spells an event gets the machine's
--- answer to it, also where that is a refusal: it has drawn the ids of its creates all the same. Where memory is wanting for
--- the reading of a line, it is answered so, and changes nothing.
+-- The reply that a line may get in a run, and the state after it. A line that represents an event gets the machine's answer to it, even
+-- if that is a refusal, and draws the ids of its creates in any case. If memory runs out while a line is read, the reply says so, and
+-- the line changes nothing.
 pub data AnswersEvent (domain : List ℕ) (now : Scheduled) (line : List ℕ) (next : Scheduled) (reply : List ℕ) : Type 0 where
   refused : (fault : Fault) → spelled_event domain now.ids line ≡ Err fault → next ≡ passed now → reply ≡ as_line (fault_json (now.lines + 1) fault) → AnswersEvent domain now line next reply
   applied : (event : Event) (ids : ChaCha) (answer : Answer) (machine : State) → spelled_event domain now.ids line ≡ Ok (event, ids) → Applies now.machine event answer machine → next ≡ stepped now event answer machine ids → reply ≡ as_line (answer_json (now.lines + 1) answer) → AnswersEvent domain now line next reply
   not_read : next ≡ passed now → reply ≡ as_line (no_memory_json (now.lines + 1)) → AnswersEvent domain now line next reply
 
--- ---- whether memory was there for a line
+-- ---- whether there was enough memory for a line
 
 -- the machine refused the event for lack of memory, E5
 abbrev pub is_no_memory : EventRefusal → Bool
@@ -71,7 +71,7 @@ abbrev pub lacks_memory : Answer → Bool
 lacks_memory (Ok done) = false
 lacks_memory (Err r) = is_no_memory r.refusal
 
--- The line was read. If it spells an event, the machine answered it otherwise than by E5.
+-- The line was read. If it represents an event, the machine didn't answer E5.
 pub data TakesEvent (domain : List ℕ) (now : Scheduled) (line : List ℕ) (next : Scheduled) : Type 0 where
   took_none : (fault : Fault) → spelled_event domain now.ids line ≡ Err fault → next ≡ passed now → TakesEvent domain now line next
   took : (event : Event) (ids : ChaCha) (answer : Answer) (machine : State) → spelled_event domain now.ids line ≡ Ok (event, ids) → Applies now.machine event answer machine → lacks_memory answer ≡ false → next ≡ stepped now event answer machine ids → TakesEvent domain now line next
@@ -84,7 +84,8 @@ pub data LosesLine (domain : List ℕ) (now : Scheduled) (line : List ℕ) (next
 abbrev pub LosesOrTakes : Bool → List ℕ → Scheduled → List ℕ → Scheduled → Type 0
 LosesOrTakes lost domain now line next = MatchBool lost (LosesLine domain now line next) (TakesEvent domain now line next)
 
--- The order line is the last: it tells an order of the machine's calls, and the headline holds of the events and of what they were answered, and of this order.
+-- The last line is the order line: it gives an order of the machine's calls, for which the headline (main theorem) holds with the events
+-- and their answers.
 pub record TellsOrder (last : Scheduled) (order : List ℕ) (end : List ℕ) : Type 0 where
   pub is_order : IsOrder last.machine order
   pub headline : Headline (accepted last.events last.answers) order
@@ -93,15 +94,15 @@ pub record TellsOrder (last : Scheduled) (order : List ℕ) (end : List ℕ) : T
 abbrev pub ClosesWithOrder : Scheduled → List ℕ → Type 0
 ClosesWithOrder last end = (order : List ℕ) × TellsOrder last order end
 
--- Each line has an answer in every state, at least that memory is wanting.
+-- Each line has a reply in every state: at least the one for out of memory.
 pub an_event_answer : (domain : List ℕ) (now : Scheduled) (line : List ℕ) → (next : Scheduled) × (reply : List ℕ) × AnswersEvent domain now line next reply
 an_event_answer domain now line = (passed now, as_line (no_memory_json (now.lines + 1)), not_read refl refl)
 
--- what a run of the engine over an input and an output has done
+-- the result of a run of the engine over an input and an output
 abbrev pub RunsSchedule : {T : Type 0} → List ℕ → List ℕ → InputState → InputState → OutputState → OutputState → Result T RunFault → Type 0
 RunsSchedule domain seed input rest output out result = RunsOver (AnswersEvent domain) ClosesWithOrder ⊤ (start domain seed) input rest output out result
 
--- ---- what the engine keeps of a run
+-- ---- the state that the engine stores
 
 pub record ScheduleKept : Type 0 where
   pub machine : State
@@ -110,19 +111,19 @@ pub record ScheduleKept : Type 0 where
 
 pub record StandsFor (kept : ScheduleKept) (now : Scheduled) : Type 0 where
   pub runs : Runs (first_state kept.machine.domain) now.events now.answers now.machine
-  -- each batch was made for the machine's trust domain
+  -- each batch is of the machine's trust domain
   pub made : AreFor kept.machine.domain now.events
   pub machine : now.machine ≡ kept.machine
   pub ids : now.ids ≡ kept.ids
   pub lines : now.lines ≡ kept.lines
 
--- what a line is answered, as it is printed
+-- the answer to a line, as it is printed
 abbrev pub line_answer_json : LineAnswer → List ℕ
 line_answer_json (Done done) = event_json done
 line_answer_json (Refused event) = event_refusal_json event.line event.refusal
 line_answer_json (NotRead refusal) = refusal_json refusal
 
--- whether memory was lacking for the reading of a line
+-- whether memory ran out while a line was read
 abbrev pub is_unread : Failure Fault → Bool
 is_unread failed.NoMemory = true
 is_unread (failed.Refused fault) = false
@@ -133,11 +134,11 @@ is_lost (Done done) = false
 is_lost (Refused event) = is_no_memory event.refusal
 is_lost (NotRead refusal) = is_unread refusal.failure
 
--- One event was applied. Its answer is printed so, and tells whether memory was lacking.
+-- One event was applied. Its answer is printed as this text, and `lost` is whether the machine ran out of memory.
 abbrev pub Applied : State → Event → ℕ → List ℕ → Bool → State → Type 0
 Applied machine event line text lost after = (answer : Answer) × Applies machine event answer after × (text ≡ answer_json line answer) × (lost ≡ lacks_memory answer)
 
--- One line was taken, or lost: its reply has this text, and this is where it left the machine and the ids; a run goes on by it.
+-- One line was taken, or lost: its reply has this text, and it left this machine and these ids. A run of the machine continues with it.
 pub record TakesEventLine (domain : List ℕ) (now : Scheduled) (line : List ℕ) (text : List ℕ) (lost : Bool) (machine : State) (ids : ChaCha) : Type 0 where
   pub next : Scheduled
   pub answers : AnswersEvent domain now line next (as_line text)
@@ -153,6 +154,6 @@ pub record TakesEventLine (domain : List ℕ) (now : Scheduled) (line : List ℕ
 abbrev pub AnswersOrLoses : Bool → List ℕ → Scheduled → List ℕ → Scheduled → List ℕ → Type 0
 AnswersOrLoses lost domain now line next reply = AnswersEvent domain now line next reply × LosesOrTakes lost domain now line next
 
--- the line of which these bytes are kept was taken or lost, whichever line it is, and what is kept of the run stands for what it has come to then
+-- every line of which these bytes are kept may be taken or lost like this, and the new value represents the state after it
 abbrev pub TakesKept : List ℕ → ScheduleKept → Scheduled → List ℕ → List ℕ → Bool → Type 0
 TakesKept domain kept now bytes text lost = (next : Scheduled) × StepsKept (AnswersOrLoses lost domain) now bytes next (as_line text) × StandsFor kept next

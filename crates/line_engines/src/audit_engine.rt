@@ -14,10 +14,10 @@ use spiffe_name::TrustDomain;
 use std::alloc::{AllocError, Global};
 use std::marker::Model;
 
-/// Audits the records of the input, in order, and tells the verdict: yes where no line has a fault, and else the first one that
-/// has. The lines that follow that one aren't taken from the input.
+/// Audits the records of the input, in order, and writes the verdict: yes if no line has a fault, and otherwise no for the first one
+/// that has. The lines after that one aren't read from the input.
 ///
-/// Memory may be wanting at each line, and the run ends there with no verdict.
+/// Memory may run out at any line; the run then ends without a verdict.
 pub fn audit<S: Source, K: Sink>(
     alloc: Global,
     domain: TrustDomain,
@@ -36,16 +36,16 @@ pub fn audit<S: Source, K: Sink>(
     }
 }
 
-/// Why an audit is over before the end of the lines.
+/// Why an audit is over before the last line.
 #[derive(Clone, Copy, Debug, PartialEq, Eq, Drop)]
 enum Over {
     /// The line of this number has a fault, for this cause.
     Denied(u64, Cause),
-    /// Memory was wanting.
+    /// Memory ran out.
     NoMemory,
 }
 
-/// An auditor that takes lines, how many lines were answered, and why it takes no more.
+/// An auditor of lines, the number of lines that were answered, and why it accepts no more, if so.
 #[derive(Drop)]
 struct AuditRun {
     auditor: Auditor,
@@ -65,7 +65,7 @@ impl AuditRun {
     ghost use Rattle.std.specs.Prelude.{◌≡◌, IfOk};
     ghost use Rattle.line_engines.specs.Audited.{Audited, StandsFor, outcome_of, start, verdict_in};
 
-    /// Before the first line. The error is that memory was refused.
+    /// The state before the first line. The error is out of memory.
     fn new(alloc: Global, domain: TrustDomain) -> Result<AuditRun, AllocError>
         ensures stands { IfOk result (λ run. StandsFor run start) }
         ensures domain { IfOk result (λ run. run.auditor.book.domain ≡ domain) }
@@ -78,7 +78,7 @@ impl AuditRun {
         })
     }
 
-    /// The verdict after the lines so far. The error is that memory was wanting for one of them.
+    /// Returns the verdict after the lines so far. The error is that memory ran out for one of them.
     fn verdict(&self) -> Result<Verdict, AllocError>
         ensures { (now : Audited) → StandsFor self.now now → IfOk result (λ verdict. verdict_in now ≡ Some verdict) }
     {
@@ -89,7 +89,7 @@ impl AuditRun {
         }
     }
 
-    /// What the exit status tells of it.
+    /// Returns the outcome, which decides the exit status.
     fn outcome(&self) -> Outcome
         ensures { result ≡ outcome_of self.now.over }
     {
@@ -126,7 +126,7 @@ impl Answerer for AuditRun {
 
     ghost some_answer = { an_audit };
 
-    /// A line gets no reply of its own.
+    /// Audits the line, which gets no reply of its own.
     fn answer<K: Sink>(&mut self, _: Global, line: &[u8], _: &mut Output<K>) -> bool {
         self.lines += 1;
         if self.over.is_some() {
@@ -136,7 +136,7 @@ impl Answerer for AuditRun {
         self.over.is_none()
     }
 
-    /// Tells the verdict.
+    /// Prints the verdict.
     fn close<K: Sink>(&mut self, _: Global, output: &mut Output<K>) -> Result<(), AllocError> {
         let verdict = self.verdict()?;
         print_line(&verdict, output);
@@ -144,7 +144,7 @@ impl Answerer for AuditRun {
     }
 }
 
-/// Has the next line audited, and tells why the audit is over, where it is.
+/// Audits the next line, and returns why the audit is over, if it is.
 fn audit_line(auditor: &mut Auditor, line: &[u8]) -> Option<Over>
     ensures domain { auditor.new.book.domain ≡ auditor.old.book.domain }
     ensures line { (records : List AuditRecord) → Keeps auditor.old records

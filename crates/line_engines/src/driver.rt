@@ -1,4 +1,4 @@
-//! How are the lines of an input answered, whatever it is that answers them?
+//! How are the lines of an input answered, by any line handler?
 
 ghost use Rattle.std.specs.Prelude.{◌≡◌, ◌+◌, ◌<◌, ◌^◌, ◌⊎◌, ℕ, Bool, false, List, [], OnErr, OnOk, IfErr};
 ghost use Rattle.reg_lines.specs.Stream.{IsOut, Puts};
@@ -8,38 +8,38 @@ use crate::fault::RunFault;
 use reg_lines::{Input, Line, Output, Sink, Source, flush_before_waiting, most_lines};
 use std::alloc::{AllocError, Global};
 
-/// What answers the lines of an input, one after another, and may have a last text.
+/// A line handler: it answers the lines of an input, one after another, and may add a last text.
 pub trait Answerer {
-    // What a run has come to.
+    // The state of a run.
     ghost State: { Type 0 };
 
-    // What stays as it is in a run.
+    // What doesn't change in a run.
     ghost Setting: { Type 0 };
 
     ghost setting: { Self → Self.Setting };
 
-    // What is kept stands for what the run has come to.
+    // Whether the value represents this state.
     ghost stands: { Self → Self.State → Type 0 };
 
-    // How many lines were answered.
+    // The number of lines that were answered.
     ghost lines: { Self → ℕ };
 
-    // What stays of how a run began, whatever its lines are answered and however it ends.
+    // What a value at the start of a run and a later value have in common, whatever the replies to its lines and however it ends.
     ghost keeps: { Self → Self → Type 0 };
 
-    // The reply that a line may get, and what the run has come to then.
+    // The reply that a line may get in a state, and the state after it.
     ghost answers: { Self.Setting → Self.State → List ℕ → Self.State → List ℕ → Type 0 };
 
     // Whether the run has ended, whatever lines follow.
     ghost ends: { Self.State → Bool };
 
-    // The text that may come behind the last reply.
+    // The text that may follow the last reply.
     ghost closes: { Self.Setting → Self.State → List ℕ → Type 0 };
 
-    // Whether memory may be wanting for that text.
+    // Whether that text may fail for lack of memory.
     ghost wants: { Type 0 };
 
-    /// Answers the line that comes next, and tells whether the run goes on. Of the line these bytes are kept.
+    /// Answers the next line, of which these bytes are kept. Returns true if the run goes on.
     fn answer<K: Sink>(&mut self, alloc: Global, line: &[u8], output: &mut Output<K>) -> bool
         requires { Self.lines self.old < 2 ^ 63 }
         ensures lines { Self.lines self.new ≡ Self.lines self.old + 1 }
@@ -48,8 +48,8 @@ pub trait Answerer {
         ensures answered { (now : Self.State) → Self.stands self.old now
             → AnswersKept (Self.answers (Self.setting self.old)) Self.ends (Self.stands self.new) now line.now output.old output.new result };
 
-    /// Puts the text that comes behind the last reply, and leaves what the run has come to. The error is want of memory, and
-    /// nothing is put then.
+    /// Puts the text that follows the last reply; the state stays the same. The error is out of memory, and then nothing is
+    /// put.
     fn close<K: Sink>(&mut self, alloc: Global, output: &mut Output<K>) -> Result<(), AllocError>
         ensures closed { (now : Self.State) → Self.stands self.old now
             → OnOk result (Closes (Self.closes (Self.setting self.old)) now output.old output.new) }
@@ -62,11 +62,11 @@ pub trait Answerer {
     ghost some_answer: { (s : Self.Setting) (now : Self.State) (line : List ℕ) → (next : Self.State) × (reply : List ℕ) × Self.answers s now line next reply };
 }
 
-/// Has each line of the input answered, in order, until the answerer ends the run, and then the last text put. No line is taken
-/// behind the one at which the run ends.
+/// Answers each line of the input, in order, until the line handler ends the run, and then puts the last text. No line is read after
+/// the one at which the run ends.
 ///
-/// The replies are out before each read that may wait, and at the end. What the run has come to then is what the answerer
-/// stands for; what it keeps of its beginning it keeps also where a device failed.
+/// The replies are out before each read that may wait, and at the end. The handler then represents the final state. The run
+/// preserves `keeps`, even if a device failed.
 pub fn run_lines<A: Answerer, S: Source, K: Sink>(
     alloc: Global,
     answerer: &mut A,
@@ -102,7 +102,7 @@ pub fn run_lines<A: Answerer, S: Source, K: Sink>(
     finish(alloc, answerer, output)
 }
 
-/// Puts the last text, and flushes what is left, also where memory is wanting for that text.
+/// Puts the last text, and flushes what is left, even if memory runs out for that text.
 fn finish<A: Answerer, K: Sink>(
     alloc: Global,
     answerer: &mut A,

@@ -1,11 +1,11 @@
-//! Why did a run not get to its end?
+//! Why did a run fail?
 
 ghost use Rattle.std.specs.Prelude.{◌≡◌};
 
 use std::alloc::AllocError;
 use thiserror::Error;
 
-/// Why a run stopped.
+/// Why a run failed.
 #[derive(Clone, Copy, Debug, PartialEq, Eq, Drop, Error)]
 pub enum RunFault {
     /// A read of the input failed.
@@ -14,7 +14,7 @@ pub enum RunFault {
     /// A write of the output failed, or a flush.
     #[error("output failed")]
     Output,
-    /// An allocation failed before the first line was read, or for the text behind the last reply.
+    /// An allocation failed before the first line was read, or for the text after the last reply.
     #[error("out of memory")]
     NoMemory,
 }

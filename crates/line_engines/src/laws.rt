@@ -1,11 +1,11 @@
-//! Are the records of a schedule audited yes?
+//! Is the verdict on the records of a schedule yes?
 
 ghost use Rattle.line_engines.specs.Confirmed.{RecordsAreAudited};
 
 use call_audit::laws::confirmed_law;
 
-/// The records that a schedule leaves are audited yes, where each is short enough to be read as a line: so a run that the
-/// machine recorded is confirmed by whoever believes the plain book alone.
+/// The verdict on the records of a schedule is yes, if each is short enough to be read as a line. So anyone who trusts the plain
+/// book alone can confirm a run that the machine recorded.
 pub fn recorded_runs_are_confirmed()
     ensures { RecordsAreAudited }
 {

@@ -1,14 +1,14 @@
 //! How are the lines of an input answered, from the bytes that are read to the bytes that are written?
 //!
-//! - [`Answerer`]: what answers the lines of an input; [`run_lines`]: a run of any of them over the bytes.
+//! - [`Answerer`]: a line handler, which answers the lines of an input; [`run_lines`]: a run of any of them over the bytes.
 //! - [`plain`]: from the bytes of request lines to the bytes of reply lines, on a plain book; [`schedule`]: from event lines to
-//!   their answers and the order of the calls; [`record_schedule`]: the same to the records of the calls alone; [`audit`]: from
-//!   records of calls to the verdict on them.
-//! - [`Outcome`]: how a run ended that got to its end; [`RunFault`]: why it stopped.
-//! - [`recorded_runs_are_confirmed`]: the records that a schedule leaves are audited yes.
+//!   their answers and the order of the calls; [`record_schedule`]: from event lines to the records of the calls alone; [`audit`]:
+//!   from records of calls to the verdict on them.
+//! - [`Outcome`]: the result of a run that succeeded; [`RunFault`]: why a run failed.
+//! - [`recorded_runs_are_confirmed`]: the verdict on the records of a schedule is yes.
 //!
-//! The definitions stand in `specs/`: what a run of any answerer does in `Driver`, and what each engine answers in `Answers`,
-//! `Schedules`, `Recorded` and `Audited`.
+//! The definitions are in `specs/`: `Driver` defines a run of any line handler, and `Answers`, `Schedules`, `Recorded` and `Audited`
+//! what each engine replies.
 #![tactic(auto)]
 
 mod audit_engine;

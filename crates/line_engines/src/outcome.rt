@@ -1,9 +1,9 @@
-//! How did a run end that got to its end?
+//! What is the result of a run that succeeded?
 
-/// How a run ended that got to its end.
+/// The result of a run that succeeded.
 #[derive(Clone, Copy, Debug, PartialEq, Eq, Drop)]
 pub enum Outcome {
-    /// All was done that was asked for; an audit found no fault.
+    /// Everything was done; an audit found no fault.
     Done,
     /// An audit found a fault.
     Denied,

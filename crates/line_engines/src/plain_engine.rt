@@ -16,8 +16,8 @@ use spiffe_name::{Failure, TrustDomain};
 use std::alloc::{AllocError, Global};
 use std::marker::Model;
 
-/// Answers each line of the input on a plain book of the trust domain, in order. Creates that come without an id get the
-/// ids of the seed, in order.
+/// Answers each line of the input on a plain book of the trust domain, in order. Creates without an id get the ids of the
+/// seed, in order.
 ///
 /// The replies are out before each read that may wait, and at the end.
 pub fn plain<S: Source, K: Sink>(
@@ -36,7 +36,7 @@ pub fn plain<S: Source, K: Sink>(
     run_lines(alloc, &mut run, input, output)
 }
 
-/// A plain book that answers lines, the ids that it gives, and how many calls were run and lines read.
+/// A plain book that answers lines, the ids that it gives, and the numbers of calls that were run and of lines that were read.
 #[derive(Drop)]
 struct PlainRun {
     book: PlainBook,
@@ -60,7 +60,7 @@ impl PlainRun {
     ghost use Rattle.std.specs.Prelude.{◌≡◌, IfOk};
     ghost use Rattle.line_engines.specs.Answers.{StandsFor, start};
 
-    /// Before the first line. The error is that memory was refused.
+    /// The state before the first line. The error is out of memory.
     fn new(alloc: Global, domain: TrustDomain, seed: [u8; 32]) -> Result<PlainRun, AllocError>
         ensures stands { IfOk result (λ run. StandsFor run (start seed)) }
         ensures domain { IfOk result (λ run. run.book.domain ≡ domain) }
@@ -114,13 +114,13 @@ impl Answerer for PlainRun {
         true
     }
 
-    /// No text comes behind the last reply.
+    /// Puts no text after the last reply.
     fn close<K: Sink>(&mut self, _: Global, _: &mut Output<K>) -> Result<(), AllocError> {
         Ok(())
     }
 }
 
-/// Answers one line, of which `lines` came before, after `calls` calls; the result is how many calls there are then.
+/// Answers the line after `lines` others and `calls` calls. Returns the number of calls after it.
 fn answer<K: Sink>(
     alloc: Global,
     book: &mut PlainBook,
@@ -149,7 +149,7 @@ fn answer<K: Sink>(
     }
 }
 
-/// Runs the batch of the line of this number on the book, as the call of this number, and answers it.
+/// Runs the batch of the line of this number on the book, as the call of this number, and prints the reply.
 fn call<K: Sink>(book: &mut PlainBook, batch: &Batch, call: u64, line: u64, output: &mut Output<K>)
     requires made_for { batch.now.domain ≡ book.old.domain }
     ensures domain { book.new.domain ≡ book.old.domain }

@@ -1,4 +1,4 @@
-//! Which records does an input of event lines leave?
+//! Which records does an input of event lines give?
 
 ghost use Rattle.std.specs.Prelude.{◌≡◌, [], List};
 ghost use Rattle.std.specs.List.{AllByRecursion, flat_map};
@@ -14,14 +14,14 @@ use spiffe_name::TrustDomain;
 use std::alloc::{AllocError, Global};
 use std::marker::Model;
 
-/// Takes each line of the input on a machine of calls of the trust domain, in order, as `schedule` does, and writes none of its
-/// answers, but at the end of the input a record of each call of the machine's order, in this order. Creates that come without an
-/// id get the ids of the seed, in order.
+/// Applies each line of the input to a machine of calls of the trust domain, in order, as `schedule` does, but writes no answers. At
+/// the end of the input it writes a record of each call of the machine's order, in this order. Creates without an id get the ids of
+/// the seed, in order.
 ///
 /// Returns how many lines were lost for lack of memory: those that `schedule` answers L6 or E5. If none was, the records are those
 /// of all events of the input.
 ///
-/// Memory may be wanting before the first line, and for the order.
+/// Memory may run out before the first line, and for the order.
 pub fn record_schedule<S: Source, K: Sink>(
     alloc: Global,
     domain: TrustDomain,
@@ -41,7 +41,7 @@ pub fn record_schedule<S: Source, K: Sink>(
     }
 }
 
-/// A machine that takes event lines, and tells nothing of them before the end; and how many of them were lost.
+/// A machine that applies event lines and writes nothing before the end, and the number of lost lines.
 #[derive(Drop)]
 struct RecordRun {
     schedule: ScheduleRun,
@@ -63,7 +63,7 @@ impl RecordRun {
     ghost use Rattle.std.specs.Prelude.{◌≡◌, IfOk};
     ghost use Rattle.line_engines.specs.Recorded.{KeepsRecording, first_recording};
 
-    /// Before the first line. The error is that memory was refused.
+    /// The state before the first line. The error is out of memory.
     fn new(alloc: Global, domain: TrustDomain, seed: [u8; 32]) -> Result<RecordRun, AllocError>
         ensures stands { IfOk result (λ run. KeepsRecording run (first_recording domain seed)) }
         ensures domain { IfOk result (λ run. run.schedule.machine.domain ≡ domain) }
@@ -75,7 +75,7 @@ impl RecordRun {
         })
     }
 
-    /// How many lines were lost.
+    /// Returns the number of lost lines.
     fn lost(&self) -> u64
         ensures { result ≡ self.now.lost }
     {
@@ -109,7 +109,7 @@ impl Answerer for RecordRun {
 
     ghost some_answer = { a_line_recorded };
 
-    /// A line gets no reply, and is counted if it is lost.
+    /// Applies the line, which gets no reply, and counts it if it is lost.
     fn answer<K: Sink>(&mut self, alloc: Global, line: &[u8], _: &mut Output<K>) -> bool {
         if self.schedule.take(alloc, line).is_lost() {
             self.lost += 1;

@@ -15,11 +15,11 @@ use spiffe_name::{Failure, TrustDomain};
 use std::alloc::{AllocError, Global};
 use std::marker::Model;
 
-/// Answers each line of the input on a machine of calls of the trust domain, in order, and then tells the order of the
-/// calls. Creates that come without an id get the ids of the seed, in order.
+/// Answers each line of the input with a machine of calls of the trust domain, in order, and then writes the order of the calls.
+/// Creates without an id get the ids of the seed, in order.
 ///
-/// The replies are out before each read that may wait, and at the end. Memory may be wanting before the first line, and for
-/// the order.
+/// The replies are out before each read that may wait, and at the end. Memory may run out before the first line, and for the
+/// order.
 pub fn schedule<S: Source, K: Sink>(
     alloc: Global,
     domain: TrustDomain,
@@ -36,7 +36,7 @@ pub fn schedule<S: Source, K: Sink>(
     run_lines(alloc, &mut run, input, output)
 }
 
-/// A machine that answers event lines, the ids that it gives, and how many lines were read.
+/// A machine that answers event lines, the ids that it gives, and the number of lines that were read.
 #[derive(Drop)]
 pub(crate) struct ScheduleRun {
     domain: TrustDomain,
@@ -60,7 +60,7 @@ impl ScheduleRun {
     ghost use Rattle.std.specs.Prelude.{◌≡◌, ◌+◌, ◌<◌, ◌^◌, IfOk};
     ghost use Rattle.line_engines.specs.Schedules.{Scheduled, StandsFor, TakesKept, is_lost, line_answer_json, start};
 
-    /// Before the first line. The error is that memory was refused.
+    /// The state before the first line. The error is out of memory.
     pub(crate) fn new(
         alloc: Global,
         domain: TrustDomain,
@@ -78,7 +78,7 @@ impl ScheduleRun {
         })
     }
 
-    /// Takes the line that comes next, of which these bytes are kept: what it is answered.
+    /// Applies the next line, of which these bytes are kept, and returns its answer.
     pub(crate) fn take(&mut self, alloc: Global, line: &[u8]) -> LineAnswer
         requires lines { self.old.lines < 2 ^ 63 }
         ensures lines { self.new.lines ≡ self.old.lines + 1 }
@@ -98,7 +98,7 @@ impl ScheduleRun {
         answer
     }
 
-    /// The machine, after the lines so far.
+    /// Returns the machine, after the lines so far.
     pub(crate) fn machine(&self) -> &Machine
         ensures { result.now ≡ self.now.machine }
     {
@@ -137,7 +137,7 @@ impl Answerer for ScheduleRun {
         true
     }
 
-    /// Tells the order of the calls.
+    /// Prints the order of the calls.
     fn close<K: Sink>(&mut self, _: Global, output: &mut Output<K>) -> Result<(), AllocError> {
         let order = self.machine.order()?;
         print_line(
@@ -150,14 +150,14 @@ impl Answerer for ScheduleRun {
     }
 }
 
-/// What a line is answered.
+/// The answer to a line.
 #[derive(Drop)]
 pub(crate) enum LineAnswer {
-    /// What the machine answers to its event.
+    /// The machine's answer to the event.
     Done(Done),
-    /// The machine refuses its event.
+    /// The machine refuses the event.
     Refused(EventRefused),
-    /// It spells no event, or memory was wanting to read it.
+    /// The line isn't an event, or memory ran out while it was read.
     NotRead(LineRefusal),
 }
 
@@ -165,7 +165,7 @@ impl LineAnswer {
     ghost use Rattle.std.specs.Prelude.{◌≡◌};
     ghost use Rattle.line_engines.specs.Schedules.{is_lost};
 
-    /// Whether its line was lost for lack of memory.
+    /// Returns true if the line was lost for lack of memory.
     pub(crate) fn is_lost(self) -> bool
         ensures { result ≡ is_lost self }
     {
@@ -189,7 +189,7 @@ impl PrintJson for LineAnswer {
     }
 }
 
-/// Takes one line, of which `lines` came before: what it is answered.
+/// Applies one line, after `lines` others, and returns its answer.
 fn take(
     alloc: Global,
     domain: &TrustDomain,
@@ -209,7 +209,7 @@ fn take(
     }
 }
 
-/// Applies the event of the line of this number: what it is answered.
+/// Applies the event of the line of this number, and returns the answer.
 fn apply(machine: &mut Machine, event: Event, line: u64) -> LineAnswer
     requires domain { IsFor machine.old.domain event }
     ensures { Applied machine.old event line (line_answer_json result) (is_lost result) machine.new }

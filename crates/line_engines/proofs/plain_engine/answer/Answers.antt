@@ -14,7 +14,7 @@ use Rattle.line_reading.specs.declared.request.Request.{Request}
 use Rattle.line_engines.specs.Answers.{AnswersBatch, AnswersLine, Running, as_line, called, passed, refused, replied, not_read, not_run}
 use Rattle.line_engines.proofs.plain_engine.answer.Goals as goal
 
--- the line spells no batch, or memory was wanting
+-- the line isn't a batch, or memory ran out
 of_failure : (domain : List ℕ) (now : Running) (line : List ℕ) (old new : OutputState) (book : PlainState) (ids : ChaCha) (failure : Failure Fault) → Stands book now.books → Fails failure (spelled domain now.ids line) → now.ids ≡ ids → Puts old new (as_line (failure_json (now.lines + 1) failure)) → AnswersLine domain now line old new book ids now.calls
 of_failure domain now line old new book ids NoMemory s e i p = (passed now, as_line (no_memory_json (now.lines + 1)), not_read refl refl, p, s, i, refl, refl)
 of_failure domain now line old new book ids (Refused fault) s e i p = (passed now, as_line (fault_json (now.lines + 1) fault), refused fault e refl refl, p, s, i, refl, refl)
