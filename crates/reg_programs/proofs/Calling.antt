@@ -1,4 +1,4 @@
--- What the engine `session` answers to one line.
+-- What the engine `session` replies to one line.
 use Rattle.std.proofs.Common.{◌≡◌, ◌+◌, ◌≤◌, ◌^◌, ℕ, List, true, false, refl, ap, subst, sym, ◌∙◌}
 use Rattle.std.specs.Prelude.{Ok}
 use Rattle.rand_chacha.specs.ChaCha.{ChaCha}
@@ -45,7 +45,7 @@ entered domain s u t stays may is =
       heard = told;
     })
 
--- ---- a line that has its answer
+-- ---- a line that has its answer already
 
 pub to_answer : (domain : Bytes) (s : Seated) (taken : Taken) (told : List ℕ) → HasText taken told → IsToAnswer domain s taken
 to_answer domain s (Answered call answer) told h = tt
@@ -53,7 +53,7 @@ to_answer domain s (Asked line batch) told h = absurd h
 to_answer domain s (NotAnswered r) told h = tt
 to_answer domain s (NotRead r) told h = tt
 
--- it is printed so, and the seat stays as it is
+-- this answer is printed, and the seat stays as it is
 pub printed_as : (s t : Seated) (taken : Taken) (told text : List ℕ) → HasText taken told → IsPrinted s taken t text → (t ≡ s) × (text ≡ told)
 printed_as s t (Answered call answer) told text h p = (p.0, p.1 ∙ sym h)
 printed_as s t (Asked line batch) told text h p = absurd h
@@ -78,7 +78,7 @@ failed domain now line text ids (Refused fault) i e t = record {
   lines_is = refl;
 }
 
--- the line spells no request, or memory was wanting
+-- the line isn't a request, or memory ran out
 pub line_refused : (domain : Bytes) (now : Session) (line : List ℕ) (ids : ChaCha) (refusal : LineRefusal) → now.ids ≡ ids → Fails refusal.failure (spelled domain now.ids line) → refusal.line ≡ now.lines + 1 → TakesRequestLine domain now line (refusal_json refusal) now.seat ids
 line_refused domain now line ids refusal i e n = failed domain now line (refusal_json refusal) ids refusal.failure i e (ap (λ k. failure_json k refusal.failure) n)
 
@@ -100,7 +100,7 @@ call_answered domain now line text seat ids request e a = record {
   lines_is = refl;
 }
 
--- what was printed is what was told, and the seat is as it was
+-- what was printed is the answer that the line had, and the seat is unchanged
 pub printed : (domain : Bytes) (now : Session) (line told text : List ℕ) (seat t : Seated) (ids : ChaCha) → t ≡ seat → text ≡ told → TakesRequestLine domain now line told seat ids → TakesRequestLine domain now line text t ids
 printed domain now line told text seat t ids s e taken = subst (λ (u : Seated). TakesRequestLine domain now line text u ids) (sym s) (subst (λ (x : List ℕ). TakesRequestLine domain now line x seat ids) (sym e) taken)
 
@@ -113,7 +113,7 @@ same_state a b s i n =
     let r : ℕ → Session = λ x. record { seat = b.seat; ids = b.ids; lines = x } in
     ap p s ∙ (ap q i ∙ ap r n)
 
--- an answer to what is kept of a line is one to the line
+-- a reply to what is kept of a line is one to the line
 of_kept : (domain : Bytes) (now : Session) (line : List ℕ) (next : Session) (reply : List ℕ) → IsLine line → AnswersRequest domain now (kept line) next reply → AnswersRequest domain now line next reply
 of_kept domain now line next reply is (refused fault e n r) = refused fault (sym (kept_spells domain now.ids line is) ∙ e) n r
 of_kept domain now line next reply is (not_read n r) = not_read n r

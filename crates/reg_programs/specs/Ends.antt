@@ -1,4 +1,4 @@
--- How the end of a run is told to the caller: by the exit status, and by a text on standard error.
+-- How a run reports its end to the caller: by the exit status, and by a text on standard error.
 use Rattle.std.specs.Prelude.{codes, ℕ, ◌++◌, List, [], ◌∷◌, Option, Some, Result, Ok, Err}
 use Rattle.clap.specs.declared.error.Error.{Error}
 use Rattle.spiffe_name.specs.Codes.{id_code}
@@ -15,11 +15,11 @@ use Rattle.line_engines.specs.declared.outcome.Outcome.TheVariants.{Denied, Done
 use Rattle.reg_programs.specs.declared.told.Told.{Told}
 use Rattle.reg_programs.specs.declared.told.Told.TheVariants as told
 
--- a line of the program's own, with its line feed
+-- a line of the program itself, with its line feed
 abbrev pub own_line : List ℕ → Option (List ℕ)
 own_line text = Some (codes "regd: " ++ (text ++ (10 ∷ [])))
 
--- the text on standard error; the parser's own, where it is known, stands as it is
+-- the text on standard error; the parser's own text, if it is known, is unchanged
 abbrev pub told_text : {E : Type 0} → (E → Option (List ℕ)) → Told E → Option (List ℕ)
 told_text text_of told.Nothing = Some []
 told_text text_of (told.Parser error) = text_of error
@@ -35,7 +35,7 @@ told_text text_of told.Address = own_line (codes "listen")
 told_text text_of told.Number = own_line (codes "number")
 told_text text_of told.NotText = own_line (codes "a word isn't UTF-8")
 
--- what is told of an invalid command line
+-- the text for an invalid command line
 abbrev pub told_of_line : LineFault → Told Error
 told_of_line (line.Refused error) = told.Parser error
 told_of_line (line.Domain refusal) = told.Domain refusal
@@ -45,7 +45,7 @@ told_of_line line.Number = told.Number
 told_of_line line.NotText = told.NotText
 told_of_line line.NoMemory = told.NoMemory
 
--- what is told of an end
+-- the text for an end of a run
 abbrev pub told_of : Ended → Told Error
 told_of ended.Done = told.Nothing
 told_of ended.Denied = told.Nothing
@@ -57,7 +57,7 @@ told_of ended.Listen = told.Listen
 told_of ended.Accept = told.Accept
 told_of ended.NoSeat = told.NoSeat
 
--- the exit status for an invalid command line; running out of memory is no fault of the words
+-- the exit status for an invalid command line; running out of memory is not a fault of the words
 abbrev pub status_of_line : LineFault → ℕ
 status_of_line line.NoMemory = 1
 status_of_line _ = 2
@@ -77,7 +77,7 @@ ended_by_run (Err run.Input) = ended.Input
 ended_by_run (Err run.Output) = ended.Output
 ended_by_run (Err run.NoMemory) = ended.NoMemory
 
--- the end, by what the command line and then the run returned
+-- the end of a run, from the results of the command line and then of the run
 abbrev pub ended_of : Result (Result Outcome RunFault) LineFault → Ended
 ended_of (Ok answered) = ended_by_run answered
 ended_of (Err fault) = ended.Line fault

@@ -11,12 +11,12 @@ use Rattle.line_engines.specs.declared.outcome.Outcome.TheVariants.{Done}
 use Rattle.command_line.specs.declared.program.Program.{Program}
 use Rattle.command_line.specs.declared.program.Program.TheVariants.{Audit, Plain, Record, Schedule, Serve}
 
--- a run that denies nothing
+-- the outcome of a run that isn't an audit
 abbrev pub done_of : {T : Type 0} → Result T RunFault → Result Outcome RunFault
 done_of (Ok x) = Ok Done
 done_of (Err fault) = Err fault
 
--- What a run of this program over an input and an output has done. Only an audit denies.
+-- The result of a run of this program over an input and an output. Only an audit has the outcome `Denied`.
 abbrev pub RunsAs : Program → List ℕ → List ℕ → InputState → InputState → OutputState → OutputState → Result Outcome RunFault → Type 0
 RunsAs Plain domain seed input rest output out result = (ran : Result Unit RunFault) × (result ≡ done_of ran) × RunsPlain domain seed input rest output out ran
 RunsAs Schedule domain seed input rest output out result = (ran : Result Unit RunFault) × (result ≡ done_of ran) × RunsSchedule domain seed input rest output out ran

@@ -1,4 +1,4 @@
--- What the engine `session` answers, line by line.
+-- What the engine `session` replies, line by line.
 use Rattle.std.specs.Prelude.{◌≡◌, ◌⊎◌, ◌≤◌, ◌^◌, ⊤, ℕ, ◌+◌, true, false, List, [], Result, Ok, Err, refl}
 use Rattle.rand_chacha.specs.ChaCha.{ChaCha}
 use Rattle.entry_book.specs.Batches.{Batch, is_query}
@@ -27,7 +27,8 @@ use Rattle.line_engines.specs.declared.fault.RunFault.{RunFault}
 use Rattle.reg_programs.specs.declared.session_engine.Taken.{Taken}
 use Rattle.reg_programs.specs.declared.session_engine.Taken.TheVariants.{Answered, Asked, NotAnswered, NotRead}
 
--- What a session has come to: the seat, which counts its calls, with the lists that it has seen and was told of; the ids that are still to be given; and how many lines were read.
+-- The state of a session: the seat, with its number of calls and the lists that it has seen and was informed of; the ids that are left to
+-- draw; and the number of lines that were read.
 pub record Session : Type 0 where
   pub seat : Seated
   pub ids : ChaCha
@@ -37,15 +38,15 @@ pub record Session : Type 0 where
 abbrev pub start : Seated → ChaCha → Session
 start seat ids = record { seat = seat; ids = ids; lines = 0 }
 
--- a line that spelled no request
+-- after a line without a request
 abbrev pub passed : Session → Session
 passed now = record now { lines = now.lines + 1 }
 
--- a line that spelled a request, which left the seat so, and these ids
+-- after a line with a request that left this seat and these ids
 abbrev pub asked : Session → Seated → ChaCha → Session
 asked now seat ids = record { seat = seat; ids = ids; lines = now.lines + 1 }
 
--- ---- what a call of the seat is answered, as it is printed: the call of this number, by the line of this number
+-- ---- the printed answer to a call of the seat: to the call of this number, in the line of this number
 
 abbrev pub no_answer_json : ℕ → NoAnswer → List ℕ
 no_answer_json line no.NoMemory = no_memory_json line
@@ -61,63 +62,67 @@ outcome_json call line NoEntry = seat_refusal_json line WasNotLetIn
 
 -- ---- a call of the seat, and its answer
 
--- What a seat is answered to a request, as it is printed, and what the seat is then. A question has the plain book's reply on the books of what the seat has then seen. A batch of changes is answered as the registry promises it, with the tries that the request gives.
+-- The printed answer to a request, and the seat after it. A query gets the reply of the plain book on the books of the journal that the
+-- seat has then seen. A batch of changes gets an outcome that the registry allows, with the number of tries of the request.
 pub data AnswersCall (domain : Bytes) (s : Seated) (request : Request) (line : ℕ) (t : Seated) (text : List ℕ) : Type 0 where
   replied : is_query request.batch.ops ≡ true → Entered domain s t → t.own ≡ s.own → text ≡ reply_json t.calls (reply_to request.batch (books_of (batches_of t.seen))) → AnswersCall domain s request line t text
   no_reply : (why : NoAnswer) → is_query request.batch.ops ≡ true → Stays domain s t → t.own ≡ s.own → text ≡ no_answer_json line why → AnswersCall domain s request line t text
   submitted : (outcome : Outcome) → is_query request.batch.ops ≡ false → Along domain s t → HasHeard s t outcome → IsSubmitted s t request.batch request.tries outcome → text ≡ outcome_json t.calls line outcome → AnswersCall domain s request line t text
 
--- ---- a line, and its answer
+-- ---- a line, and its reply
 
--- The reply that a line may get in a session, and what the session has come to then. A line that spells a request makes one call of the seat, and has drawn the ids of its creates, whatever it is answered; a seat with no call number left makes none. Where memory is wanting to read the line, it is answered so, and changes nothing.
+-- The reply that a line may get in a session, and the state after it. A line that represents a request makes one call of the seat, and
+-- draws the ids of its creates, whatever its answer; a seat without a call number left makes none. If memory runs out while a line is
+-- read, the reply says so, and the line changes nothing.
 pub data AnswersRequest (domain : Bytes) (now : Session) (line : List ℕ) (next : Session) (reply : List ℕ) : Type 0 where
   refused : (fault : Fault) → spelled domain now.ids line ≡ Err fault → next ≡ passed now → reply ≡ as_line (fault_json (now.lines + 1) fault) → AnswersRequest domain now line next reply
   not_read : next ≡ passed now → reply ≡ as_line (no_memory_json (now.lines + 1)) → AnswersRequest domain now line next reply
   spent : (request : Request) (ids : ChaCha) → spelled domain now.ids line ≡ Ok (request, ids) → 2 ^ 48 ≤ now.seat.calls → next ≡ asked now now.seat ids → reply ≡ as_line (seat_refusal_json (now.lines + 1) Spent) → AnswersRequest domain now line next reply
   answered : (request : Request) (ids : ChaCha) (seat : Seated) (text : List ℕ) → spelled domain now.ids line ≡ Ok (request, ids) → AnswersCall domain now.seat request (now.lines + 1) seat text → next ≡ asked now seat ids → reply ≡ as_line text → AnswersRequest domain now line next reply
 
--- Each line has an answer in every state, at least that memory is wanting.
+-- Each line has a reply in every state: at least the one for out of memory.
 pub a_request_answer : (domain : Bytes) (now : Session) (line : List ℕ) → (next : Session) × (reply : List ℕ) × AnswersRequest domain now line next reply
 a_request_answer domain now line = (passed now, as_line (no_memory_json (now.lines + 1)), not_read refl refl)
 
 -- ---- a run
 
--- no text comes behind the last reply, and the seat is left as the run has left it
+-- no text follows the last reply, and this is the seat at the end
 abbrev pub LeavesSeat : Seated → Session → List ℕ → Type 0
 LeavesSeat left last end = (end ≡ []) × (last.seat ≡ left)
 
--- What a run of the engine over an input and an output has done: it is a run of lines, and where it got to its end, it left the seat so.
+-- The result of a run of the engine over an input and an output: it is a run of lines, and if it succeeded, this is the seat at the end.
 abbrev pub RunsSession : {T : Type 0} → Bytes → Seated → ChaCha → InputState → InputState → OutputState → OutputState → Seated → Result T RunFault → Type 0
 RunsSession domain seat ids input rest output out left result = RunsOver (AnswersRequest domain) (LeavesSeat left) ⊥ (start seat ids) input rest output out result
 
--- ---- what the engine answers to a line
+-- ---- the engine's answer to a line
 
--- The line has its answer already, and it is printed so. A question has none before the seat answers it.
+-- The line has its answer already, which is printed as this text. A query has none before the seat answers it.
 abbrev pub HasText : Taken → List ℕ → Type 0
 HasText (Answered call answer) text = text ≡ answer_json call answer
 HasText (Asked line batch) text = ⊥
 HasText (NotAnswered r) text = text ≡ seat_refusal_json r.line r.refusal
 HasText (NotRead r) text = text ≡ refusal_json r
 
--- A question is the seat's to answer: the seat has just looked at what is published.
+-- A query is left for the seat to answer, which has just looked at the published state.
 abbrev pub IsToAnswer : Bytes → Seated → Taken → Type 0
 IsToAnswer domain seat (Answered call answer) = ⊤
 IsToAnswer domain seat (NotAnswered r) = ⊤
 IsToAnswer domain seat (NotRead r) = ⊤
 IsToAnswer domain seat (Asked line batch) = MaySee domain seat × (is_query batch.ops ≡ true) × (batch.domain ≡ domain)
 
--- the reply to a question on what the seat found, with the number of its call
+-- the reply to a query on the journal that the seat found, with the number of its call
 abbrev pub found_json : Seated → Batch → List ℕ
 found_json seat batch = reply_json seat.calls (reply_to batch (books_of (batches_of seat.found)))
 
--- What is printed of a line that was taken, and what the seat is then: what the line is answered; or the reply to a question on what the seat found, which it has then seen; or that memory is wanting for that reply.
+-- The printed reply to a line, and the seat after it: the answer that the line has; or the reply to a query on the journal that the seat
+-- found, which it has then seen; or that memory ran out for that reply.
 abbrev pub IsPrinted : Seated → Taken → Seated → List ℕ → Type 0
 IsPrinted s (Answered call answer) t text = (t ≡ s) × HasText (Answered call answer) text
 IsPrinted s (NotAnswered r) t text = (t ≡ s) × HasText (NotAnswered r) text
 IsPrinted s (NotRead r) t text = (t ≡ s) × HasText (NotRead r) text
 IsPrinted s (Asked line batch) t text = ((t ≡ record s { seen = s.found }) × (text ≡ found_json s batch)) ⊎ ((t ≡ s) × (text ≡ no_memory_json line))
 
--- One line was taken: its reply has this text, and this is where it left the seat and the ids.
+-- One line was answered: its reply has this text, and it left this seat and these ids.
 pub record TakesRequestLine (domain : Bytes) (now : Session) (line : List ℕ) (text : List ℕ) (seat : Seated) (ids : ChaCha) : Type 0 where
   pub next : Session
   pub answers : AnswersRequest domain now line next (as_line text)
@@ -125,9 +130,10 @@ pub record TakesRequestLine (domain : Bytes) (now : Session) (line : List ℕ) (
   pub ids_is : next.ids ≡ ids
   pub lines_is : next.lines ≡ now.lines + 1
 
--- ---- a law: what the seat of a session has seen only grows
+-- ---- a theorem: what the seat of a session has seen only grows
 
--- The seat is the same one, and has made no fewer calls. What it has seen begins with what it had seen, and is a lawful journal, if that was one.
+-- The seat is the same, has made no fewer calls, and was informed of nothing else. What it has seen extends what it had seen, and is a
+-- lawful journal if that was one.
 pub record Grew (domain : Bytes) (s t : Seated) : Type 0 where
   pub number : t.number ≡ s.number
   pub calls : s.calls ≤ t.calls
@@ -135,6 +141,6 @@ pub record Grew (domain : Bytes) (s t : Seated) : Type 0 where
   pub lawful : IsLawfulJournal domain s.seen → IsLawfulJournal domain t.seen
   pub told : t.told ≡ s.told
 
--- So the books on which a session was answered are those of beginnings of one lawful journal: of what the seat has seen in the end.
+-- So, if the journal is lawful, a session is answered on the books of its prefixes: of what the seat has seen at the end.
 abbrev pub SessionsGrow : Type 0
 SessionsGrow = (domain : Bytes) (lines : List (List ℕ)) (first last : Session) (text : List ℕ) → IsRun (AnswersRequest domain) first lines last text → Grew domain first.seat last.seat

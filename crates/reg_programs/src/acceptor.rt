@@ -12,13 +12,13 @@ use std::sync::Wait;
 use std::thread;
 use std::time::{Clock, Duration};
 
-/// How many shortages in a row end a server that has accepted no connection yet.
+/// The number of shortages in a row that end a server that has accepted no connection yet.
 const MOST_SHORTAGES: u32 = 1_000;
 
 /// Accepts this many connections, in order, and puts connection j, counted from 0, into queue j mod N of N. If an allocation fails
-/// when one is put, it is closed, and the others go on. The listener is closed in the end.
+/// when one is put, that one is closed, and the others go on. At the end the listener is closed.
 ///
-/// After an error of one connection it tries again, ten milliseconds later. So it does after a shortage: once a connection was
+/// After an error of one connection it tries again, ten milliseconds later. It does the same after a shortage: once a connection was
 /// accepted, without a limit, because an end would lose the book; before that, at most 999 times in a row. Any other error ends it.
 pub(crate) fn accept_all<R: Wait + Clock, L: OpenListener<Stream = TcpStream> + Drop>(
     rt: &R,
@@ -36,7 +36,7 @@ pub(crate) fn accept_all<R: Wait + Clock, L: OpenListener<Stream = TcpStream> + 
     Ok(())
 }
 
-/// The worker to which the connection of this number goes.
+/// Returns the worker of the connection with this number.
 fn worker_of(number: u64, workers: usize) -> usize
     requires { 0 < workers }
     ensures worker { result ≡ number % workers }
@@ -45,7 +45,7 @@ fn worker_of(number: u64, workers: usize) -> usize
     (number % workers as u64) as usize
 }
 
-/// The next connection. `has_accepted` says whether one was accepted before.
+/// Returns the next connection. `has_accepted` says whether one was accepted before.
 fn next_stream<R: Wait + Clock, L: OpenListener<Stream = TcpStream>>(
     rt: &R,
     listener: &L,
@@ -63,8 +63,8 @@ fn next_stream<R: Wait + Clock, L: OpenListener<Stream = TcpStream>>(
     unreachable!()
 }
 
-/// How many shortages have come in a row with this error, if `accept` is to be tried again. Once a connection was accepted they
-/// aren't counted.
+/// Returns the number of shortages in a row after this error, or an error if `accept` isn't to be tried again. Shortages aren't
+/// counted once a connection was accepted.
 fn shortages_after(
     fault: AcceptFault,
     shortages: u32,

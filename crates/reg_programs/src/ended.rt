@@ -1,4 +1,4 @@
-//! How did a run end, and what does the caller get to know of it?
+//! How did a run end, and what does the caller learn of it?
 
 ghost use Rattle.std.specs.Prelude.{◌≡◌};
 ghost use Rattle.reg_programs.specs.Ends.{ended_of, ended_of_server, status_of, told_of, told_of_line};
@@ -11,7 +11,7 @@ use line_engines::{Outcome, RunFault};
 /// The end of a run.
 #[derive(Debug, Drop)]
 pub enum Ended {
-    /// All was done.
+    /// Everything was done.
     Done,
     /// An audit found a fault.
     Denied,
@@ -32,7 +32,7 @@ pub enum Ended {
 }
 
 impl Ended {
-    /// The end, by why the command line is invalid, or else by what the run of its settings returned.
+    /// Returns the end of a run, from the fault of the command line or else the result of the run.
     pub fn of(answered: Result<Result<Outcome, RunFault>, LineFault>) -> Ended
         ensures { result ≡ ended_of answered }
     {
@@ -46,7 +46,7 @@ impl Ended {
         }
     }
 
-    /// The end of a server, by why it ended before its last connection did.
+    /// Returns the end of a server, from the reason for which it ended before its last connection did, if any.
     pub fn of_server(served: Result<(), ServeFault>) -> Ended
         ensures { result ≡ ended_of_server served }
     {
@@ -60,7 +60,7 @@ impl Ended {
         }
     }
 
-    /// What standard error gets.
+    /// Returns the text for standard error.
     pub fn told(self) -> Told<clap::Error>
         ensures { result ≡ told_of self }
     {
@@ -77,7 +77,7 @@ impl Ended {
     }
 }
 
-/// What standard error gets for an invalid command line.
+/// Returns the text for standard error after an invalid command line.
 fn told_of_fault(fault: LineFault) -> Told<clap::Error>
     ensures { result ≡ told_of_line fault }
 {
@@ -92,7 +92,7 @@ fn told_of_fault(fault: LineFault) -> Told<clap::Error>
     }
 }
 
-/// The exit status: 0 if all was done, 3 if an audit found a fault, 2 for an invalid command line, and 1 for every other end.
+/// Returns the exit status: 0 if everything was done, 3 if an audit found a fault, 2 for an invalid command line, 1 for any other end.
 pub fn status(ended: &Ended) -> u8
     ensures { result ≡ status_of ended.now }
 {

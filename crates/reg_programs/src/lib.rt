@@ -1,13 +1,13 @@
 //! What do the programs of `regd` do, from their command line and the bytes they read to the bytes they write?
 //!
-//! What a command line asks for stands in `command_line`, and how the lines of an input are answered in `line_engines`: whoever
-//! uses this crate finds both here.
+//! `command_line` defines what a command line requests, and `line_engines` how the lines of an input are answered. This crate
+//! re-exports both for its users.
 //!
-//! - [`run_settings`]: the program that the [`Settings`] ask for, over an input and an output.
+//! - [`run_settings`]: the program that the [`Settings`] request, over an input and an output.
 //! - [`session`]: the lines of one connection, answered through a seat of a shared registry; [`sessions_law`]: what the
 //!   seat has seen only grows.
-//! - [`serve`]: the program `regd serve`, a session for each connection; [`serve_connections`]: the same at a listener that is
-//!   there already, with the workers' seats ([`seats_of`]) and a [`Queue`] of connections for each ([`queues_of`]); a [`QueueState`]
+//! - [`serve`]: the program `regd serve`, with a session for each connection; [`serve_connections`]: the same at an existing
+//!   listener, with the workers' seats ([`seats_of`]) and a [`Queue`] of connections for each ([`queues_of`]); a [`QueueState`]
 //!   says which worker sleeps.
 //! - [`ServeFault`]: why a server ended before its last connection did.
 //! - [`Ended`]: how a run ended; [`status`]: its exit status; [`Told`]: what standard error gets.

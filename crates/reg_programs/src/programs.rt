@@ -8,8 +8,8 @@ use line_engines::{Outcome, RunFault, audit, plain, record_schedule, schedule};
 use reg_lines::{Input, Output, Sink, Source};
 use std::alloc::Global;
 
-/// Runs the program that the settings ask for, which is no server, with their trust domain and seed: each line of the input is
-/// answered, in order.
+/// Runs the program that the settings request, which is not a server, with their trust domain and seed: it answers each line of the
+/// input, in order.
 pub fn run_settings<S: Source, K: Sink>(
     alloc: Global,
     settings: Settings,
@@ -34,7 +34,7 @@ pub fn run_settings<S: Source, K: Sink>(
     }
 }
 
-/// What a run comes to that denies nothing, whatever it returns.
+/// Returns the outcome of a run that isn't an audit, whatever its value.
 fn done<T: Drop>(ran: Result<T, RunFault>) -> Result<Outcome, RunFault>
     ensures { result ≡ done_of ran }
 {

@@ -1,4 +1,4 @@
-//! How do connections get from whoever accepts them to a worker?
+//! How do connections get from the thread that accepts them to a worker?
 
 ghost use Rattle.std.specs.Prelude.{◌≡◌, IfOk, vec_len};
 
@@ -19,7 +19,7 @@ impl Connection {
     ghost use Rattle.std.specs.Prelude.{◌≡◌};
     ghost use Rattle.reg_lines.specs.Ids.{stream_ids};
 
-    /// The ids that its creates get: those of its own stream of the seed.
+    /// Returns the ids for its creates: those of its own stream of the seed.
     pub(crate) fn ids(&self, seed: [u8; 32]) -> Ids
         ensures { result ≡ stream_ids seed self.now.number }
     {
@@ -27,10 +27,10 @@ impl Connection {
     }
 }
 
-/// What a queue is like at a moment.
+/// A snapshot of a queue.
 #[derive(Clone, Copy, Debug, PartialEq, Eq, Drop)]
 pub struct QueueState {
-    /// How many connections wait.
+    /// The number of waiting connections.
     pub waiting: usize,
     /// The worker has come for the next connection: it sleeps if none waits and the queue is open.
     pub has_worker: bool,
@@ -45,7 +45,7 @@ struct Waiting {
     is_closed: bool,
 }
 
-/// The connections that wait for one worker, the one that came first in front.
+/// The connections that wait for one worker, the oldest first.
 #[derive(Drop)]
 pub struct Queue {
     waiting: Mutex<Waiting>,
@@ -53,7 +53,7 @@ pub struct Queue {
 }
 
 impl Queue {
-    /// No connection waits, and some may come.
+    /// Makes an open queue without connections.
     pub(crate) fn new(alloc: Global) -> Queue {
         Queue {
             waiting: Mutex::new(Waiting {
@@ -65,7 +65,7 @@ impl Queue {
         }
     }
 
-    /// What it is like at the moment. It waits for the lock alone.
+    /// Returns a snapshot. It waits for the lock alone.
     pub fn state<R: Wait>(&self, rt: &R) -> QueueState {
         let waiting = self.waiting.lock(rt);
         QueueState {
@@ -75,7 +75,7 @@ impl Queue {
         }
     }
 
-    /// Puts a connection behind those that wait. The error is a failed allocation: the connection is closed then.
+    /// Appends a connection. The error is a failed allocation; the connection is then closed.
     pub(crate) fn put<R: Wait>(&self, rt: &R, connection: Connection) -> Result<(), AllocError> {
         let mut waiting = self.waiting.lock(rt);
         let put = waiting.connections.push_back(connection);
@@ -87,13 +87,13 @@ impl Queue {
         }
     }
 
-    /// No connection comes any more.
+    /// Closes the queue: no more connections come.
     pub(crate) fn close<R: Wait>(&self, rt: &R) {
         self.waiting.lock(rt).is_closed = true;
         self.changed.notify_all();
     }
 
-    /// Waits for the next connection; none once the queue is closed and no connection waits.
+    /// Waits for the next connection. Returns `None` once the queue is closed and empty.
     pub(crate) fn take<R: Wait>(&self, rt: &R) -> Option<Connection> {
         let mut waiting = self.waiting.lock(rt);
         waiting.has_worker = true;
@@ -105,7 +105,7 @@ impl Queue {
     }
 }
 
-/// A queue for each of so many workers. The error is a failed allocation.
+/// Makes a queue for each of the workers. The error is a failed allocation.
 pub fn queues_of(alloc: Global, workers: usize) -> Result<Vec<Queue>, AllocError>
     ensures { IfOk result (λ queues. vec_len queues ≡ workers) }
 {
@@ -116,7 +116,7 @@ pub fn queues_of(alloc: Global, workers: usize) -> Result<Vec<Queue>, AllocError
     Ok(queues)
 }
 
-/// Closes them all.
+/// Closes all queues.
 pub(crate) fn close_all<R: Wait>(rt: &R, queues: &[Queue]) {
     for queue in queues {
         queue.close(rt);

@@ -11,7 +11,7 @@ pub enum ServeFault {
     /// It can't listen at the address.
     #[error("listen failed")]
     Listen,
-    /// A write of the address that it got failed.
+    /// The address of the listener couldn't be written.
     #[error("output failed")]
     Output,
     /// No connection can be accepted any more.

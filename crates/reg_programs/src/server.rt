@@ -17,13 +17,13 @@ use std::thread::Threads;
 use std::time::Clock;
 use std::{io, thread};
 
-/// Listens, tells the address that it got, serves so many connections through a shared registry with an empty book, and ends
-/// when the last one has ended. Connection j, counted from 0, goes to worker j mod N of N; a worker has one seat, and serves
-/// its connections one after another. Creates that come without an id get the ids of the seed, those of connection j the ones
-/// of its stream j. The trust domain is lent to the sessions, and `kept` is the same one for the registry to keep.
+/// Listens, prints the address of the listener, serves the planned number of connections through a shared registry with an empty book,
+/// and returns when the last one has ended. Connection j, counted from 0, goes to worker j mod N of N. A worker has one seat, and
+/// serves its connections one after another. Creates without an id get ids of the seed: those of connection j get the ids of its
+/// stream j. The sessions borrow the trust domain, and `kept` is a copy of it for the registry.
 ///
-/// Nothing is known of what a connection carries; a session over a device whose bytes are known has a contract. It waits for
-/// connections and for what they carry, and nothing is promised of its end.
+/// The contract says nothing about the bytes of a connection; `session` has a contract over devices with known bytes. The function
+/// waits for connections and for their bytes, and isn't guaranteed to return.
 pub fn serve<
     J: Naming + Send + Sync,
     R: Threads + Wait + Clock + Print + Net<Listener = TcpListener, Stream = TcpStream> + Sync,
@@ -47,7 +47,7 @@ pub fn serve<
     served
 }
 
-/// Serves the connections that come where the plan says, through this registry.
+/// Serves the connections to the address of the plan, through this registry.
 fn listen<
     J: Naming + Send + Sync,
     R: Threads + Wait + Clock + Print + Net<Listener = TcpListener, Stream = TcpStream> + Sync,
@@ -87,7 +87,7 @@ fn listen<
     )
 }
 
-/// A seat for each of so many workers.
+/// Makes a seat for each of the workers.
 pub fn seats_of<J: Naming, R: Wait>(
     rt: &R,
     alloc: Global,
@@ -108,15 +108,15 @@ pub fn seats_of<J: Naming, R: Wait>(
     Ok(seats)
 }
 
-/// Writes the address at which the server listens, as a line.
+/// Prints the address of the listener, as a line.
 fn tell<R: Print>(rt: &R, address: SocketAddr) -> io::Result<()> {
     println!(rt; "{{\"listening\":\"{address}\"}}")
 }
 
 /// Starts a worker with one of the seats for each queue, accepts the connections, and returns when all workers have ended. The
-/// listener is closed behind the last connection, so that whoever calls later is refused at once, and not kept waiting. If a
-/// worker's thread can't be started, the error is [`ServeFault::NoMemory`], and no connection is accepted. It waits for connections
-/// and for what they carry, and nothing is promised of its end.
+/// listener is closed after the last connection, so that later clients are refused immediately and don't wait. If a worker's thread
+/// can't be started, the error is [`ServeFault::NoMemory`], and no connection is accepted. The function waits for connections and
+/// for their bytes, and isn't guaranteed to return.
 pub fn serve_connections<
     J: Naming + Send + Sync,
     R: Threads + Wait + Clock + Sync,
@@ -167,7 +167,7 @@ pub fn serve_connections<
     )
 }
 
-/// One worker with its seat: serves the connections of its queue, one after another.
+/// Runs one worker with its seat: it serves the connections of its queue, one after another.
 fn work<J: Naming, R: Wait>(
     rt: &R,
     alloc: Global,
@@ -187,7 +187,7 @@ fn work<J: Naming, R: Wait>(
     }
 }
 
-/// Serves one connection, which is closed then, whatever becomes of it, and hands the seat back.
+/// Serves one connection, closes it in any case, and returns the seat.
 fn attend<J: Naming, R: Wait>(
     rt: &R,
     alloc: Global,
@@ -199,7 +199,7 @@ fn attend<J: Naming, R: Wait>(
 ) -> Seat<J>
     requires domain { domain.now ≡ J.domain }
 {
-    // so a reply goes out at once; where that can't be had, it goes out all the same
+    // so a reply is sent without delay; if the option can't be set, replies are sent all the same
     let _ = connection.stream.set_nodelay(true);
     let ids = connection.ids(seed);
     let mut input = Input::new(CountedDevice::new(&connection.stream));

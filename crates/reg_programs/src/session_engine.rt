@@ -21,11 +21,10 @@ use std::alloc::{AllocError, Global};
 use std::marker::Model;
 use std::sync::Wait;
 
-/// Answers each line of the input through the seat, in order, and hands the seat back. Creates that come without an id get the
-/// ids, in order.
+/// Answers each line of the input through the seat, in order, and returns the seat. Creates without an id get the ids, in order.
 ///
-/// The replies are out before each read that may wait, and at the end. What the seat has seen has only grown, also where a device
-/// failed. It waits for the input, and for the registry's lock, and nothing is promised of its end.
+/// The replies are out before each read that may wait, and at the end. What the seat has seen has only grown, even if a device failed.
+/// The function waits for the input and for the registry's lock, and isn't guaranteed to return.
 pub fn session<J: Naming, R: Wait, S: Source, K: Sink>(
     rt: &R,
     alloc: Global,
@@ -55,7 +54,7 @@ pub fn session<J: Naming, R: Wait, S: Source, K: Sink>(
     (run.into_seat(), ran)
 }
 
-/// A seat that answers lines, the ids that it gives, and how many lines were read.
+/// A seat that answers lines, the ids that it gives, and the number of lines that were read.
 #[derive(Drop)]
 struct SessionRun<'a, J: Naming, R: Wait> {
     rt: &'a R,
@@ -80,7 +79,7 @@ impl<'a, J: Naming, R: Wait> Model for SessionRun<'a, J, R> {
 impl<'a, J: Naming, R: Wait> SessionRun<'a, J, R> {
     ghost use Rattle.std.specs.Prelude.{◌≡◌};
 
-    /// The seat, taken out.
+    /// Returns the seat.
     fn into_seat(self) -> Seat<J>
         ensures { result ≡ self.entry.seat }
     {
@@ -130,26 +129,26 @@ impl<'a, J: Naming, R: Wait> Answerer for SessionRun<'a, J, R> {
         true
     }
 
-    /// No text comes behind the last reply.
+    /// Puts no text after the last reply.
     fn close<K: Sink>(&mut self, _: Global, _: &mut Output<K>) -> Result<(), AllocError> {
         Ok(())
     }
 }
 
-/// What has become of a line.
+/// The result of taking a line.
 #[derive(Drop)]
 pub(crate) enum Taken {
-    /// The call of this number is answered so.
+    /// The call of this number has this answer.
     Answered(u64, CallAnswer),
-    /// The line of this number asks this, and the seat, which has looked, is to answer it.
+    /// The line of this number has this query, which the seat is to answer; it has already looked at the published state.
     Asked(u64, Batch),
     /// The seat has no answer.
     NotAnswered(SeatRefused),
-    /// It spells no request, or an allocation failed.
+    /// The line isn't a request, or an allocation failed.
     NotRead(LineRefusal),
 }
 
-/// Prints the seat's answer to a question that it has looked for, whose rows it lends, or nothing where memory is wanting for it.
+/// Prints the seat's reply to a query, with borrowed rows. Returns false and prints nothing if memory runs out.
 fn print_found<J: Naming, K: Sink>(seat: &Seat<J>, batch: &Batch, output: &mut Output<K>) -> bool
     requires found { MaySee J.domain seat.now }
     requires query { is_query batch.now.ops ≡ true }
@@ -166,7 +165,7 @@ fn print_found<J: Naming, K: Sink>(seat: &Seat<J>, batch: &Batch, output: &mut O
     }
 }
 
-/// Prints the reply to a line that was taken. What the seat was answered on it has then seen.
+/// Prints the reply to a line that was taken. Afterwards the seat has seen the journal that its reply was computed from.
 fn print_taken<J: Naming, K: Sink>(seat: &mut Seat<J>, taken: &Taken, output: &mut Output<K>)
     requires { IsToAnswer J.domain seat.old taken.now }
     ensures { (text : List ℕ) × IsPrinted seat.old taken.now seat.new text × Puts output.old output.new (as_line text) }
@@ -188,7 +187,7 @@ fn print_taken<J: Naming, K: Sink>(seat: &mut Seat<J>, taken: &Taken, output: &m
     }
 }
 
-/// Takes one line, of which `lines` came before: what has become of it.
+/// Takes one line, after `lines` others, and returns the result.
 fn take<J: Naming, R: Wait>(
     rt: &R,
     alloc: Global,
@@ -220,7 +219,7 @@ fn take<J: Naming, R: Wait>(
     }
 }
 
-/// Makes a call of the seat, for the request of the line of this number: what has become of it.
+/// Makes a call of the seat, for the request of the line of this number, and returns the result.
 fn call<J: Naming, R: Wait>(
     rt: &R,
     registry: &Registry<J>,
@@ -249,7 +248,7 @@ fn call<J: Naming, R: Wait>(
     }
 }
 
-/// That memory is wanting for the answer to the line of this number.
+/// The refusal of the line of this number because memory ran out.
 fn no_memory(line: u64) -> LineRefusal
     ensures { refusal_json result ≡ no_memory_json line }
 {
@@ -259,7 +258,7 @@ fn no_memory(line: u64) -> LineRefusal
     }
 }
 
-/// Why the line of this number has no answer.
+/// Returns why the line of this number has no answer.
 fn not_answered(line: u64, why: NoAnswer) -> Taken
     ensures { HasText result (no_answer_json line why) }
 {
@@ -272,7 +271,7 @@ fn not_answered(line: u64, why: NoAnswer) -> Taken
     }
 }
 
-/// What became of the batch of changes that the call of this number handed in, for the line of this number.
+/// Returns the outcome of the changes that the call of this number submitted, for the line of this number.
 fn outcome_of(call: u64, line: u64, outcome: Outcome) -> Taken
     ensures { HasText result (outcome_json call line outcome) }
 {
@@ -286,8 +285,8 @@ fn outcome_of(call: u64, line: u64, outcome: Outcome) -> Taken
     }
 }
 
-/// What the seat of a session has seen only grows, whatever the lines and their answers are. This function has no code: it is a fact
-/// to cite.
+/// What the seat of a session has seen only grows, for any lines and answers. The body is empty: a proof calls the function to cite its
+/// contract.
 pub fn sessions_law()
     ensures { SessionsGrow }
 {}

@@ -9,7 +9,7 @@ use Rattle.reg_programs.specs.Sessions.{AnswersCall, HasText, no_reply, outcome_
 use Rattle.reg_programs.proofs.Calling.{entered, printed_as, to_answer}
 use Rattle.reg_programs.proofs.session_engine.call.Goals as goal
 
--- the seat has looked, and the question is its to answer
+-- the seat has looked at the published state, and is to answer the query
 
 pub returns-in-Ok : goal.returns-in-Ok
 returns-in-Ok g c =
@@ -26,7 +26,7 @@ returns-in-Ok g c =
           p;
     }
 
--- it has not
+-- the look failed
 
 pub returns-in-Err : goal.returns-in-Err
 returns-in-Err g c =
@@ -41,7 +41,7 @@ returns-in-Err g c =
           (no_reply c.in-Err.why query looked.stays looked.own a.1);
     }
 
--- a batch of changes was handed in
+-- a batch of changes was submitted
 
 pub returns-else-is_query : goal.returns-else-is_query
 returns-else-is_query g c =
