@@ -1,7 +1,7 @@
 //! `regd`, a workload registration server.
 //!
-//! The process: its words are read, the program that they ask for runs over standard input and output or the network, and how it
-//! ended is told by standard error and the exit status. What the programs do stands in `reg_programs`.
+//! The process parses its words, runs the requested program over standard input and output or the network, and reports its end by
+//! standard error and the exit status. The programs are in `reg_programs`.
 #![tactic(auto)]
 
 ghost use Rattle.std.specs.Prelude.{◌≡◌, ◌<◌, None};
@@ -30,12 +30,12 @@ fn main(rt: HostRuntime) -> ExitCode {
         Err(fault) => Ended::of(Err(fault)),
     };
     let code = status(&ended);
-    // where standard error fails, nobody is left to be told
+    // if standard error fails, there is no way left to report it
     let _ = rt.eprint(ended.told());
     ExitCode::from(code)
 }
 
-/// To the end of the input: what the run answered.
+/// Runs to the end of the input, and returns the result.
 fn run_lines_of<R: io::Input + Print + AllocGlobal>(
     rt: &R,
     settings: Settings,
@@ -47,7 +47,7 @@ fn run_lines_of<R: io::Input + Print + AllocGlobal>(
     run_settings(rt.alloc(), settings, &mut input, &mut output)
 }
 
-/// To the end of the last connection: how the server ended.
+/// Runs to the end of the last connection, and returns how the server ended.
 fn serve_settings<
     R: Threads
         + Wait
@@ -67,14 +67,14 @@ fn serve_settings<
     Ended::of_server(serve::<Brand, _>(rt, rt.alloc(), Opened::new(), kept, domain, seed, plan))
 }
 
-/// The settings that the words of the process ask for.
+/// Returns the settings that the words of the process request.
 fn settings_of_process<R: Env + AllocGlobal>(rt: &R) -> Result<Settings, LineFault> {
     let words = words_of_process(rt)?;
     let texts: Vec<&str> = words.iter().map(String::as_str).collect(rt.alloc())?;
     Settings::from_words(rt.alloc(), &texts)
 }
 
-/// The words of the process, its own name first.
+/// Returns the words of the process, its own name first.
 fn words_of_process<R: Env + AllocGlobal>(rt: &R) -> Result<Vec<String>, LineFault> {
     match env::args(rt) {
         Ok(words) => Ok(words.collect(rt.alloc())?),
