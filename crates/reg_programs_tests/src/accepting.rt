@@ -16,7 +16,7 @@ const RETRIED: [i32; 18] = [
     103, 71, 92, 95, 100, 101, 112, 113, 64, 110, 63, 94, 93, 24, 23, 12, 105, 1,
 ];
 
-/// The errors of Linux have the numbers from 1 to this one.
+/// The largest number of an error of Linux; they begin at 1.
 const LAST_ERROR: i32 = 133;
 
 const ABORTED: i32 = 103;
@@ -25,7 +25,7 @@ const BAD_LISTENER: i32 = 9;
 
 const SHORTAGES: [i32; 5] = [24, 23, 12, 105, 1];
 
-/// Errors, each so many times in a row; 0 is a connection.
+/// Errors, each the given number of times in a row; 0 is a connection.
 fn errors_of(alloc: Global, runs: &[(i32, u32)]) -> Result<Vec<i32>, Fail> {
     let mut errors = Vec::new(alloc);
     for run in runs {
@@ -37,7 +37,7 @@ fn errors_of(alloc: Global, runs: &[(i32, u32)]) -> Result<Vec<i32>, Fail> {
     Ok(errors)
 }
 
-/// How a server with a sleeping worker for each connection is run over these errors.
+/// A plan for these errors, with a sleeping worker for each connection.
 fn plan_of(errors: &[i32], connections: u64) -> Plan<'_>
     ensures { result.workers ≡ 2 }
 {
@@ -49,7 +49,7 @@ fn plan_of(errors: &[i32], connections: u64) -> Plan<'_>
     }
 }
 
-/// The server ended well, behind so many errors, with a pause after each.
+/// Asserts that the server succeeded after this number of errors, with a pause after each, and what it replied.
 fn is_served(rt: &impl Abort, hosted: &Hosted, errors: u64, connections: u64, want: &str) {
     holds(rt, hosted.ended.is_ok(), "the server ends well");
     holds_at(rt, hosted.pauses == errors, "pauses", hosted.pauses);
@@ -58,7 +58,7 @@ fn is_served(rt: &impl Abort, hosted: &Hosted, errors: u64, connections: u64, wa
     is_text(rt, hosted.answers.as_str(), want, "all answers");
 }
 
-/// The server ended by the last of so many errors.
+/// Asserts that the last of this number of errors ended the server.
 fn is_ended(rt: &impl Abort, hosted: &Hosted, errors: u64) {
     let ended = hosted.ended == Err(ServeFault::Accept);
     holds(rt, ended, "the server ends by its listener");
@@ -99,7 +99,7 @@ fn a_thousand_shortages_before_the_first_connection_end_a_server(
     Ok(())
 }
 
-/// An error of one connection comes between them: no thousand come in a row.
+/// An error of one connection comes in between: there are never a thousand in a row.
 #[test]
 fn fewer_shortages_in_a_row_end_no_server(rt: HostRuntime) -> Result<(), Fail> {
     let errors = errors_of(rt.alloc(), &[(24, 999), (ABORTED, 1), (105, 999)])?;

@@ -23,7 +23,7 @@ const QUESTION: &str = r#"{"ops":[{"op":"authorised","agent":"spiffe://ex.org/sp
 const ANSWER: &str = r#"{"call":1,"code":"O7","op":0,"place":0,"result":"refused"}
 "#;
 
-/// Calls the server at the address that its listener got, and returns the answer.
+/// Calls the server at the address of its listener, and returns the reply.
 fn answer_at_the_port<R: Wait + Clock + Net<Listener = TcpListener, Stream = TcpStream>>(
     rt: &R,
     alloc: Global,
@@ -40,7 +40,7 @@ fn answer_at_the_port<R: Wait + Clock + Net<Listener = TcpListener, Stream = Tcp
     Err(io::Error::from(io::ErrorKind::TimedOut))
 }
 
-/// Runs a server of one connection that listens where the system chooses.
+/// Runs a server of one connection that listens at a port that the system chooses.
 fn serve_one<
     R: Threads + Wait + Clock + Print + Net<Listener = TcpListener, Stream = TcpStream> + Sync,
 >(rt: &R, alloc: Global) -> Result<Result<(), ServeFault>, Fail> {
@@ -54,7 +54,7 @@ fn serve_one<
     Ok(serve::<Brand, _>(rt, alloc, Opened::new(), kept, &domain, [0; 32], plan))
 }
 
-/// The server prints the address that its listener got, and serves there.
+/// Asserts that the server prints the address of its listener, and serves there.
 fn is_announced<
     R: Abort + Threads + Wait + Clock + Net<Listener = TcpListener, Stream = TcpStream> + Sync,
 >(rt: &R, alloc: Global) -> Result<(), Fail> {

@@ -7,7 +7,7 @@ use std::alloc::Global;
 use std::process::Abort;
 use std::test::Fail;
 
-/// The verdict on these lines by `regd audit` for `ex.org`, and its outcome.
+/// Asserts the verdict of `regd audit` for `ex.org` on these lines, and its outcome.
 fn is_audited(
     rt: &impl Abort,
     alloc: Global,
@@ -25,13 +25,13 @@ fn is_audited(
     )
 }
 
-/// The lines are no good record, or a list of them: this is their verdict.
+/// Asserts that the verdict on these lines is this no.
 fn is_denied(rt: &impl Abort, alloc: Global, lines: &[u8], verdict: &str) -> Result<(), Fail> {
     let want = format!(in alloc; "{verdict}\n")?;
     is_audited(rt, alloc, lines, Outcome::Denied, want.as_str())
 }
 
-/// Each line of the table that tells a verdict is that on the lines before it, folded as in `lines`, up to the verdict before.
+/// Each verdict line of the table is the expected verdict on the lines between the verdict before and this one, in the notation of `lines`.
 fn are_denied(rt: &impl Abort, alloc: Global, table: &str) -> Result<(), Fail> {
     let mut lines = Vec::new(alloc);
     for line in table.lines() {
@@ -45,7 +45,7 @@ fn are_denied(rt: &impl Abort, alloc: Global, table: &str) -> Result<(), Fail> {
     Ok(())
 }
 
-/// Records that are all good.
+/// Asserts that the records have no fault.
 fn are_good(rt: &impl Abort, alloc: Global, lines: &str, want: &str) -> Result<(), Fail> {
     is_audited(rt, alloc, lines.as_bytes(), Outcome::Done, want)
 }
@@ -71,7 +71,7 @@ fn no_records_are_audited_yes(rt: HostRuntime) -> Result<(), Fail> {
     are_good(&rt, rt.alloc(), "", "{\"audit\":\"yes\",\"calls\":0}\n")
 }
 
-/// A committed call may not have replied, and the keys and escapes of a reply may stand otherwise than they are written.
+/// A committed call need not have replied, and the keys and escapes of a reply may differ from the printed ones.
 const UNREPLIED: &str =
     r#"{"batch":{"after":0,"ops":[{"op":"drop_bundle","domain":"b.org"}]},"call":4,"invoked":3,"replied":9,"reply":{"result":"refused","code":"O5","op":0,"place":0,"detail":"b.\u006frg","call":4}}
 {"batch":{"after":0,"ops":[{"op":"set_bundle","domain":"b.org","text":"t"}]},"call":2,"invoked":3,"replied":null,"reply":{"call":2,"place":1,"replies":[{"bundle":{"domain":"b.org","sequence":0,"text":"t"}}],"result":"committed"}}
@@ -87,7 +87,7 @@ fn a_committed_call_may_not_have_replied(rt: HostRuntime) -> Result<(), Fail> {
     )
 }
 
-/// Of two records each cause, and where several hold the first: the number of a call before its stamps, these before the order,
+/// For two records, each cause, and if several apply, the first one: the number of a call before its stamps, these before the order,
 /// and that before the reply.
 const BAD_SECOND: &str = r#"
 {"batch":{"ops":[{"op":"show_bundle","domain":"b.org"}]},"call":1,"invoked":5,"replied":9,"reply":{"call":1,"place":0,"replies":[{"bundle":null}],"result":"answered"}}
@@ -115,7 +115,7 @@ fn the_first_cause_is_told(rt: HostRuntime) -> Result<(), Fail> {
     are_denied(&rt, rt.alloc(), BAD_SECOND)
 }
 
-/// Lines that spell no record; a create has to have its id.
+/// Lines that aren't records; a create must have its id.
 const NO_RECORDS: &str = r#"
 «0*»
 {"audit":"no","line":1,"why":"L2"}

@@ -1,4 +1,4 @@
-//! Command lines and what is told of them, word for word.
+//! Command lines and what `regd` writes about them, word for word.
 
 use crate::wanted::{holds, is_text};
 use reg_programs::{
@@ -11,7 +11,7 @@ use std::fmt::Display;
 use std::process::Abort;
 use std::test::Fail;
 
-/// The words of a command line, which stand between bars.
+/// The words of a command line, which bars separate.
 pub fn words_of<'a>(alloc: Global, line: &'a str) -> Result<Vec<&'a str>, Fail> {
     let mut words = Vec::new(alloc);
     for word in line.split('|') {
@@ -28,7 +28,7 @@ fn told_of(alloc: Global, ended: Ended) -> Result<String, Fail> {
     Ok(format!(in alloc; "{code} {text}")?)
 }
 
-/// A program, and the word by which a command line names it.
+/// A program, and the word for it on a command line.
 fn program_text(alloc: Global, program: Program) -> Result<String, Fail> {
     let name = program.name();
     let program = match program {
@@ -41,7 +41,7 @@ fn program_text(alloc: Global, program: Program) -> Result<String, Fail> {
     Ok(format!(in alloc; "{program} by {name}")?)
 }
 
-/// What settings ask for: the program, the domain and the last byte of the seed; of a server its address, its workers and its
+/// What settings request: the program, the domain and the last byte of the seed; for a server its address, its workers and its
 /// connections.
 fn settings_text(alloc: Global, settings: &Settings) -> Result<String, Fail> {
     if let Some(plan) = settings.server() {
@@ -58,7 +58,7 @@ fn settings_text(alloc: Global, settings: &Settings) -> Result<String, Fail> {
     Ok(format!(in alloc; "{program} {domain} {last}")?)
 }
 
-/// What is told of a command line.
+/// The settings of a command line, or what `regd` writes about it.
 fn told(alloc: Global, words: &[&str]) -> Result<String, Fail> {
     match Settings::from_words(alloc, words) {
         Ok(settings) => settings_text(alloc, &settings),
@@ -67,7 +67,7 @@ fn told(alloc: Global, words: &[&str]) -> Result<String, Fail> {
     }
 }
 
-/// The text is this one, or begins with what stands before a `*`.
+/// Asserts that the text is this one, or begins with the text before a `*`.
 fn is_or_begins(rt: &impl Abort, got: &str, want: &str) {
     match want.strip_suffix('*') {
         Some(start) => holds(rt, got.starts_with(start), got),
@@ -75,7 +75,7 @@ fn is_or_begins(rt: &impl Abort, got: &str, want: &str) {
     }
 }
 
-/// A command line, and what is told of it.
+/// Asserts the settings of a command line, or what `regd` writes about it.
 fn is_told(rt: &impl Abort, alloc: Global, line: &str, want: &str) -> Result<(), Fail> {
     let words = words_of(alloc, line)?;
     let told = told(alloc, &words)?;
@@ -83,7 +83,7 @@ fn is_told(rt: &impl Abort, alloc: Global, line: &str, want: &str) -> Result<(),
     Ok(())
 }
 
-/// Each line of the table is a command line and what is told of it: all of it, or what stands before a `*`.
+/// Each line of the table is a command line and the result of `told`: all of it, or the text before a `*`.
 fn are_told(rt: &impl Abort, alloc: Global, table: &str) -> Result<(), Fail> {
     for case in table.lines() {
         if let Some((line, want)) = case.split_once(" => ") {
@@ -93,7 +93,7 @@ fn are_told(rt: &impl Abort, alloc: Global, table: &str) -> Result<(), Fail> {
     Ok(())
 }
 
-/// A domain by each form of its option, and behind any name of the program.
+/// A domain in each form of its option, and after any name of the program.
 const DOMAINS: &str = "
 regd|plain|--domain|ex.org => plain by plain ex.org 0
 ./out/regd|plain|--domain=ex.org => plain by plain ex.org 0
@@ -119,7 +119,7 @@ fn records_are_asked_for_by_a_word_of_their_own(rt: HostRuntime) -> Result<(), F
     are_told(&rt, rt.alloc(), RECORDS)
 }
 
-/// The seed is that of zeros but for its last byte, as its last two digits say.
+/// The seed is all zeros except for its last byte, which its last two digits give.
 const SEEDS: &str = "
 regd|plain|--domain|ex.org|--seed|00000000000000000000000000000000000000000000000000000000000000ab => plain by plain ex.org 171
 regd|plain|--domain|ex.org|--seed|00000000000000000000000000000000000000000000000000000000000000aB => 2 regd: seed$
@@ -147,7 +147,7 @@ fn a_domain_that_is_none_is_refused_with_its_code(rt: HostRuntime) -> Result<(),
     are_told(&rt, rt.alloc(), NO_DOMAINS)
 }
 
-/// The parser's refusals come before the domain's, which is bad here wherever it is given.
+/// The parser's refusals come before that of the domain, which is invalid in each of these lines.
 const OTHER_WORDS: &str = "
 regd => 2 error: 'regd' requires a subcommand but one was not provided$*
 regd|session|--domain|A => 2 error: unrecognized subcommand 'session'$*
@@ -227,7 +227,7 @@ fn end_of_server(word: &str) -> Result<Ended, Fail> {
     }
 }
 
-/// Each line of the table names an end, and says what is told of it.
+/// Asserts, for each line of the table, the status and the text of the end that it names.
 fn are_ends(rt: &impl Abort, alloc: Global, table: &str) -> Result<(), Fail> {
     for case in table.lines() {
         if let Some((word, want)) = case.split_once(" => ") {
@@ -238,7 +238,7 @@ fn are_ends(rt: &impl Abort, alloc: Global, table: &str) -> Result<(), Fail> {
     Ok(())
 }
 
-/// Behind the status of an end without a text there is a space.
+/// After the status of an end without a text there is a space.
 const ENDS: &str = "
 done => 0 \n
 denied => 3 \n
@@ -271,12 +271,12 @@ fn each_end_of_a_server_has_its_status_and_its_text(rt: HostRuntime) -> Result<(
     are_ends(&rt, rt.alloc(), ENDS_OF_SERVERS)
 }
 
-/// A fault's own text, as a line of the program with `$` for its end, behind the status.
+/// A fault's own text, as a line of the program with `$` for its end, after the status.
 fn line_of<E: Display>(alloc: Global, code: u8, fault: &E) -> Result<String, Fail> {
     Ok(format!(in alloc; "{code} regd: {fault}$")?)
 }
 
-/// What is told of the fault of a command line is its own text, in a line of the program.
+/// Asserts that the text for the fault of a command line is the fault's own text, in a line of the program.
 fn is_line_told_by_its_text(
     rt: &impl Abort,
     alloc: Global,
@@ -331,7 +331,7 @@ fn a_fault_is_told_by_its_own_text(rt: HostRuntime) -> Result<(), Fail> {
     Ok(())
 }
 
-/// The text of the parser stands as it is.
+/// The text of the parser is unchanged.
 #[test]
 fn a_refusal_of_the_parser_is_told_by_its_own_text(rt: HostRuntime) -> Result<(), Fail> {
     let words = words_of(rt.alloc(), "regd|plain")?;

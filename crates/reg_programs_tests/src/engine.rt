@@ -1,4 +1,4 @@
-//! The engines over memory: what a run answers, and tables of what it has to answer.
+//! The engines over memory: what a run replies, and tables of the expected replies.
 
 ghost use Rattle.std.specs.Prelude.{◌≡◌, IfOk, None};
 
@@ -16,21 +16,21 @@ use std::sync::Wait;
 use std::test::Fail;
 use test_devices::{Giver, Pace, Taker, Trouble};
 
-/// The seed that is taken where none is given.
+/// The default seed.
 pub const FIRST_SEED: [u8; 32] = [0; 32];
 
-/// What answers lines.
+/// An engine.
 #[derive(Clone, Copy)]
 pub enum Engine {
     Plain,
     /// A seat that is alone on a registry with an empty book.
     Session,
     Schedule,
-    /// A schedule of which the records are left.
+    /// A schedule that writes records.
     Record,
 }
 
-/// Runs an engine that is no session over these devices.
+/// Runs an engine other than a session over these devices.
 fn run_over(
     alloc: Global,
     engine: Engine,
@@ -53,7 +53,7 @@ fn run_over(
     }
 }
 
-/// How many lines the engine that records a schedule of `ex.org` loses of these bytes.
+/// The number of these lines that the engine that records a schedule of `ex.org` loses.
 pub fn lines_lost(alloc: Global, bytes: &[u8]) -> Result<u64, Fail> {
     let domain = TrustDomain::parse(alloc, "ex.org")?;
     let mut giver = Giver::new(bytes, Pace::All, Trouble::NONE);
@@ -93,7 +93,7 @@ pub fn run(
     run_with(rt, alloc, engine, ("ex.org", FIRST_SEED), giver, taker)
 }
 
-/// What an engine answers to these bytes.
+/// The replies of an engine to these bytes.
 fn answers_of(
     rt: &(impl Abort + Wait),
     alloc: Global,
@@ -109,7 +109,7 @@ fn answers_of(
     }
 }
 
-/// What `regd plain` with this trust domain and seed answers to these bytes, in lines that are compact, and a session, too.
+/// The replies of `regd plain` with this trust domain and seed to these bytes, after asserting that they are compact and a session's too.
 pub fn answers_with(
     rt: &(impl Abort + Wait),
     alloc: Global,
@@ -128,7 +128,7 @@ pub fn answers(rt: &(impl Abort + Wait), alloc: Global, bytes: &[u8]) -> Result<
     answers_with(rt, alloc, ("ex.org", FIRST_SEED), bytes)
 }
 
-/// The settings that the words give, which ask for no server.
+/// The settings of these words, which request no server.
 fn settings_of_words(alloc: Global, words: &[&str]) -> Result<Settings, Fail>
     ensures { IfOk result (λ settings. settings.server ≡ None) }
 {
@@ -141,7 +141,7 @@ fn settings_of_words(alloc: Global, words: &[&str]) -> Result<Settings, Fail>
     }
 }
 
-/// Runs the program that settings ask for over these devices.
+/// Runs the program that settings request over these devices.
 fn run_program(
     alloc: Global,
     settings: Settings,
@@ -155,7 +155,7 @@ fn run_program(
     run_settings(alloc, settings, &mut input, &mut output)
 }
 
-/// What the program of a command line answers to these bytes, in lines that are compact. Its run has this outcome.
+/// The replies of the program of a command line to these bytes, after asserting that they are compact, and the outcome of the run.
 fn answers_of_words(
     rt: &impl Abort,
     alloc: Global,
@@ -172,7 +172,7 @@ fn answers_of_words(
     Ok(taker.bytes)
 }
 
-/// The program of a command line has this outcome over these bytes, and writes this.
+/// Asserts the outcome of the program of a command line over these bytes, and what it writes.
 pub fn program_writes(
     rt: &impl Abort,
     alloc: Global,
@@ -185,7 +185,7 @@ pub fn program_writes(
     is_written(rt, &got, want)
 }
 
-/// A run's input, and the output that it has to give.
+/// A run's input, and its expected output.
 #[derive(Drop)]
 pub struct Table {
     pub asked: Vec<u8>,
@@ -193,8 +193,8 @@ pub struct Table {
 }
 
 impl Table {
-    /// The lines of a table that begin with `{` or `«` are requests and their answers in turn, and an order line behind them;
-    /// its other lines tell what is shown. A request is folded as in `lines`.
+    /// The lines of a table that begin with `{` or `«` are alternately requests and their replies, followed by an order line; its other
+    /// lines say what is shown. Requests are in the notation of `lines`.
     pub fn of(alloc: Global, text: &str) -> Result<Table, Fail> {
         let mut table = Table {
             asked: Vec::new(alloc),
@@ -204,7 +204,7 @@ impl Table {
         Ok(table)
     }
 
-    /// Adds the lines of another table.
+    /// Appends the lines of another table.
     pub fn read(&mut self, alloc: Global, text: &str) -> Result<(), Fail> {
         let mut is_answer = false;
         for line in text.lines() {
@@ -226,12 +226,12 @@ impl Table {
     }
 }
 
-/// The requests of the table, in one run of the engine of `ex.org` with the first seed, get the answers beside them.
+/// Asserts that the requests of the table, in one run of the engine of `ex.org` with the first seed, get their replies.
 pub fn are_answered(rt: &(impl Abort + Wait), alloc: Global, text: &str) -> Result<(), Fail> {
     are_answered_with(rt, alloc, ("ex.org", FIRST_SEED), text)
 }
 
-/// The same of an engine of another trust domain, or with another seed.
+/// The same for an engine of another trust domain, or with another seed.
 pub fn are_answered_with(
     rt: &(impl Abort + Wait),
     alloc: Global,
@@ -243,14 +243,14 @@ pub fn are_answered_with(
     is_written(rt, &got, table.wanted.as_str())
 }
 
-/// The lines of the table, in one run of the program of a command line, get the answers beside them, and then the order line.
+/// Asserts that the lines of the table, in one run of the program of a command line, get their replies, and then the order line.
 pub fn are_answered_by(rt: &impl Abort, alloc: Global, line: &str, text: &str) -> Result<(), Fail> {
     let table = Table::of(alloc, text)?;
     let want = table.wanted.as_str();
     program_writes(rt, alloc, line, Outcome::Done, &table.asked, want)
 }
 
-/// A line is the text that `serde_json` writes of the value that it reads there.
+/// Asserts that `serde_json` writes the same text for the value that it parses from the line.
 fn is_compact(rt: &impl Abort, alloc: Global, line: &str) -> Result<(), Fail> {
     let value = Value::from_str(alloc, line)?;
     let again = value.to_string(alloc)?;

@@ -9,7 +9,7 @@ use std::sync::Wait;
 use std::test::Fail;
 use test_devices::{Giver, Pace, Taker, Trouble};
 
-/// How many lines these bytes end.
+/// The number of lines that these bytes end.
 fn count_of_lines(bytes: &[u8]) -> u64 {
     let mut count = 0u64;
     for byte in bytes {
@@ -20,7 +20,7 @@ fn count_of_lines(bytes: &[u8]) -> u64 {
     count
 }
 
-/// How many lines were read of these bytes: once they have ended, their last part is one, too.
+/// The number of lines that were read of these bytes: at their end, the last part is one, too.
 fn lines_read(bytes: &[u8], giver: &Giver<'_>) -> u64 {
     let read = bytes.len().saturating_sub(giver.rest.len());
     let whole = count_of_lines(bytes.split_at(read.min(bytes.len())).0);
@@ -30,7 +30,7 @@ fn lines_read(bytes: &[u8], giver: &Giver<'_>) -> u64 {
     whole
 }
 
-/// How many lines are out where a read fails: a reply to each line so far. Records are all written at the end.
+/// The number of replies that are out when a read fails: one to each line so far. Records are all written at the end.
 fn lines_due(engine: Engine, table: &Table, giver: &Giver<'_>) -> u64 {
     match engine {
         Engine::Record => 0,
@@ -38,7 +38,7 @@ fn lines_due(engine: Engine, table: &Table, giver: &Giver<'_>) -> u64 {
     }
 }
 
-/// Runs with this read failing. Was there such a read?
+/// Runs with this read failing. Returns true if there was such a read.
 fn fails_at_read(
     rt: &(impl Abort + Wait),
     alloc: Global,
@@ -79,7 +79,7 @@ pub fn fail_each_read(
     Err(Fail::from("too many reads"))
 }
 
-/// Runs with this call of the writer failing. Was there such a call?
+/// Runs with this call of the writer failing. Returns true if there was such a call.
 fn fails_at_write(
     rt: &(impl Abort + Wait),
     alloc: Global,

@@ -1,4 +1,4 @@
-//! A server over TCP and those who call it, both ends in one process.
+//! A server over TCP and its clients, in one process.
 
 ghost use Rattle.std.specs.Prelude.{◌≡◌, ◌<◌, length, vec_len};
 
@@ -24,25 +24,25 @@ pub struct Plan<'a> {
     pub connections: u64,
     /// What the calls of `accept` return in turn, as [`Staged`] says.
     pub errors: &'a [i32],
-    /// Before each call of `accept` returns, all workers sleep.
+    /// Whether all workers sleep before each call of `accept` returns.
     pub waits: bool,
 }
 
-/// What became of a server.
+/// The result of a server.
 #[derive(Drop)]
 pub struct Hosted {
     pub ended: Result<(), ServeFault>,
-    /// What its callers were answered, one behind the other.
+    /// The replies to its clients, one after another.
     pub answers: String,
-    /// How often it called `accept`.
+    /// The number of calls of `accept`.
     pub accepts: u64,
-    /// How often it paused.
+    /// The number of pauses.
     pub pauses: u64,
 }
 
-/// Those who call a server.
+/// The clients of a server.
 pub trait Callers {
-    /// Calls the server, and adds what is answered.
+    /// Calls the server, and appends its replies.
     fn call<R: Wait + Clock + Net<Listener = TcpListener, Stream = TcpStream>>(
         &self,
         rt: &R,
@@ -56,11 +56,11 @@ pub trait Callers {
 #[derive(Drop)]
 pub struct InTurn(pub &'static [&'static str]);
 
-/// The second one sends a text and reads to the end, while the first one is silent.
+/// The second client sends a text and reads to the end, while the first one is silent.
 #[derive(Drop)]
 pub struct BesideASilentOne(pub &'static str);
 
-/// The second one waits behind the first one until all queues are closed. Then the first one, which was silent, ends.
+/// The second client waits for the first one until all queues are closed. Then the first one, which was silent, disconnects.
 #[derive(Drop)]
 pub struct BehindASilentOne(pub &'static str);
 
@@ -111,7 +111,7 @@ impl Callers for BehindASilentOne {
     }
 }
 
-/// Sends a text, and ends its side.
+/// Sends a text, and shuts down the sending side.
 fn send(mut stream: &TcpStream, text: &str) -> io::Result<()> {
     stream.write_all(text.as_bytes())?;
     stream.shutdown(Shutdown::Write)
@@ -132,13 +132,13 @@ fn receive(mut stream: &TcpStream, answers: &mut String) -> io::Result<()> {
     Err(io::Error::from(io::ErrorKind::TimedOut))
 }
 
-/// Sends a text, ends its side, and reads what is answered.
+/// Sends a text, shuts down the sending side, and reads the reply.
 pub fn exchange(stream: &TcpStream, text: &str, answers: &mut String) -> io::Result<()> {
     send(stream, text)?;
     receive(stream, answers)
 }
 
-/// What the callers are answered.
+/// The replies to the clients.
 fn answers_of<R: Wait + Clock + Net<Listener = TcpListener, Stream = TcpStream>, C: Callers>(
     rt: &R,
     alloc: Global,
@@ -151,7 +151,7 @@ fn answers_of<R: Wait + Clock + Net<Listener = TcpListener, Stream = TcpStream>,
     Ok(answers)
 }
 
-/// Runs a server with a book of its own, and its callers.
+/// Runs a server with a book of its own, and its clients.
 pub fn host<
     R: Threads + Wait + Clock + Net<Listener = TcpListener, Stream = TcpStream> + Sync,
     C: Callers,
@@ -220,7 +220,7 @@ fn on_a_port<
     )
 }
 
-/// The server and its callers, side by side.
+/// Runs the server and its clients concurrently.
 fn both<
     J: Naming + Send + Sync,
     R: Threads + Wait + Clock + Net<Listener = TcpListener, Stream = TcpStream> + Sync,

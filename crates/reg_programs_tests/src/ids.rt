@@ -1,10 +1,10 @@
-//! Which ids are given: of the words of ChaCha20's stream 0, which the cipher's published test vectors give for these
+//! Which ids are given: those of the words of ChaCha20's stream 0, which the cipher's published test vectors give for these
 //! seeds.
 
 use crate::engine::{FIRST_SEED, are_answered, are_answered_by, are_answered_with};
 use std::test::Fail;
 
-/// The first id of the seed of zeros; then the forms in which an id is read.
+/// The first id of the all-zero seed; then the forms in which an id is accepted.
 const FIRST_ID: &str = r#"
 {"ops":[{"identity":"spiffe://ex.org/web","op":"create","parent":"spiffe://ex.org/spire/agent/n1","selectors":["u:1"]}]}
 {"call":1,"place":1,"replies":[{"entry":{"domains":[],"expiry":0,"hint":"","id":"76b8e0ad-a0f1-4d90-805d-6ae55386bd28","identity":"spiffe://ex.org/web","parent":"spiffe://ex.org/spire/agent/n1","revision":0,"selectors":["u:1"]}}],"result":"committed"}
@@ -25,7 +25,7 @@ fn first_drawn_id(rt: HostRuntime) -> Result<(), Fail> {
     are_answered(&rt, rt.alloc(), FIRST_ID)
 }
 
-/// Which lines draw, and in which order.
+/// Which lines draw an id, and in which order.
 const DRAWN: &str = r#"
 a create without an id gets the first one
 {"ops":[{"op":"create","parent":"spiffe://ex.org/spire/agent/n1","identity":"spiffe://ex.org/web","selectors":["u:1"]}]}

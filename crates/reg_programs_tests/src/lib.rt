@@ -1,16 +1,16 @@
-//! What do the programs of `regd` answer, line by line, and how do they end?
+//! What do the programs of `regd` reply, line by line, and how do they end?
 //!
 //! The crate has tests alone, over the public calls of `reg_programs`:
 //!
-//! - `command_lines`: command lines and what is told of them, word for word.
-//! - `engine`: runs of the engines over memory, told by tables; `lines` unfolds theirs. On it stand `story`, `operations`,
+//! - `command_lines`: command lines and what `regd` writes about them, word for word.
+//! - `engine`: runs of the engines over memory, as tables, in the notation of `lines`. These use it: `story`, `operations`,
 //!   `refusals`, `ids`, `limits`, `pages`, `places`, `tokens`, `runs` (request lines), `schedules` (event lines), `records` and
 //!   `audits` (recorded calls).
 //! - `failing`: runs over a reader or a writer that fails.
 //! - `sessions`: the lines of one connection over memory.
-//! - `hosting`: a server over TCP and its callers, both ends in one process, with a listener and a runtime that do as told (`staged`). On
-//!   it stand `serving` (what callers get), `accepting` (errors of `accept`) and `announcing` (the address that is printed).
-//! - `wanted`: what a test wants to see.
+//! - `hosting`: a server over TCP and its clients, in one process, with a scripted listener and a runtime that counts (`staged`). These
+//!   use it: `serving` (what clients get), `accepting` (errors of `accept`) and `announcing` (the address that is printed).
+//! - `wanted`: assertions.
 #![tactic(auto)]
 
 #[cfg(test)]

@@ -7,7 +7,7 @@ use std::process::Abort;
 use std::sync::Wait;
 use std::test::Fail;
 
-/// What a book is filled with: each operation with a number of its own in the place of `#`.
+/// The operations that fill a book; `#` is replaced by consecutive numbers.
 const ENTRY: &str =
     r#"{"op":"create","parent":"spiffe://ex.org/spire/agent/n1","identity":"spiffe://ex.org/#","selectors":["u:1"]}"#;
 
@@ -15,7 +15,7 @@ const AGENT: &str = r#"{"op":"set_agent","agent":"spiffe://ex.org/spire/agent/#"
 
 const BUNDLE: &str = r#"{"op":"set_bundle","domain":"d#","text":""}"#;
 
-/// Adds this operation with this number, and what stands before it.
+/// Appends this operation with this number, after a text.
 fn add_op(
     alloc: Global,
     asked: &mut String,
@@ -29,7 +29,7 @@ fn add_op(
     Ok(())
 }
 
-/// Adds so many lines of 64 operations of this kind.
+/// Appends the given number of lines, with 64 operations of this kind each.
 fn fill(alloc: Global, asked: &mut String, op: &str, lines: u32) -> Result<(), Fail> {
     for number in 0..lines.saturating_mul(64) {
         let before = if number % 64 == 0 { "{\"ops\":[" } else { "," };
@@ -43,12 +43,12 @@ fn fill(alloc: Global, asked: &mut String, op: &str, lines: u32) -> Result<(), F
 
 const CHANGE: &str = "{\"ops\":[{\"op\":\"prune\",\"before\":0}]}\n";
 
-/// So many lines, each with a change.
+/// The given number of lines, each with a change.
 pub fn changes(alloc: Global, count: usize) -> Result<String, Fail> {
     Ok(CHANGE.repeat(alloc, count)?)
 }
 
-/// Are the requests of a table, behind these lines, answered as it says?
+/// Asserts that the requests of a table, after these lines, get their replies.
 fn end_with(rt: &(impl Abort + Wait), alloc: Global, lines: &str, table: &str) -> Result<(), Fail> {
     let table = Table::of(alloc, table)?;
     let mut asked = Vec::from_slice(alloc, lines.as_bytes())?;
@@ -58,7 +58,7 @@ fn end_with(rt: &(impl Abort + Wait), alloc: Global, lines: &str, table: &str) -
     is_written(rt, got.as_slice().split_at(from).1, table.wanted.as_str())
 }
 
-/// The book has as many entries, agents and bundles as it can have.
+/// The book has the maximum numbers of entries, agents and bundles.
 const FULL: &str = r#"
 one row more is refused, entries before agents and agents before bundles
 {"ops":[{"op":"set_bundle","domain":"d1024","text":""},{"op":"set_agent","agent":"spiffe://ex.org/spire/agent/4096","selectors":[]},{"op":"create","parent":"spiffe://ex.org/spire/agent/n1","identity":"spiffe://ex.org/16384","selectors":["u:1"]}]}
@@ -85,8 +85,8 @@ fn full_book(rt: HostRuntime) -> Result<(), Fail> {
     end_with(&rt, rt.alloc(), lines.as_str(), FULL)
 }
 
-/// A limit is held against the book after all operations of a batch, and belongs to none of them. A batch that it
-/// refuses has drawn its ids.
+/// A limit is checked on the book after all operations of a batch, and isn't the fault of a single one. A batch that is refused for
+/// it has drawn its ids.
 const ONE_MORE: &str = r#"
 {"ops":[{"op":"create","parent":"spiffe://ex.org/spire/agent/n1","identity":"spiffe://ex.org/web","selectors":["u:1"]},{"op":"set_bundle","domain":"d1024","text":""}]}
 {"call":17,"code":"W5","place":16,"result":"refused"}
@@ -103,7 +103,7 @@ fn one_bundle_too_many(rt: HostRuntime) -> Result<(), Fail> {
     end_with(&rt, rt.alloc(), lines.as_str(), ONE_MORE)
 }
 
-/// After 65,537 committed batches the history goes on: a refused operation is refused for itself, and questions are answered.
+/// After 65,537 committed batches the history goes on: a refused operation is refused for its own reason, and queries are answered.
 const GONE_ON: &str = r#"
 {"ops":[{"op":"prune","before":0}]}
 {"call":65537,"place":65537,"replies":[{"pruned":[]}],"result":"committed"}

@@ -1,12 +1,12 @@
-//! Lines, made of texts in which what is long, or no text, is folded.
+//! Lines from texts, in which long parts and invalid bytes have a short notation.
 //!
-//! `«64*x»` stands for `x` 64 times, and `«c3»` for the byte of this number; `«0*»` is a line with nothing in it. An LF comes
-//! behind each line, but for one that `«»` ends.
+//! `«64*x»` means `x` 64 times, `«c3»` the byte with this value, and `«0*»` an empty line. Each line gets an LF at its end, unless
+//! its text ends with `«»`.
 
 use std::alloc::Global;
 use std::test::Fail;
 
-/// Adds what stands between two marks.
+/// Appends what the notation between two marks means.
 fn add_folded(alloc: Global, bytes: &mut Vec<u8>, folded: &str) -> Result<(), Fail> {
     if let Some((count, text)) = folded.split_once("*") {
         let text = text.repeat(alloc, count.parse::<usize>()?)?;
@@ -17,7 +17,7 @@ fn add_folded(alloc: Global, bytes: &mut Vec<u8>, folded: &str) -> Result<(), Fa
     Ok(())
 }
 
-/// Adds a piece that begins behind a mark, or at the start of the text.
+/// Appends a piece that begins after a mark, or at the start of the text.
 fn add_piece(alloc: Global, bytes: &mut Vec<u8>, piece: &str) -> Result<(), Fail> {
     let mut text = piece;
     if let Some((folded, behind)) = piece.split_once("»") {
@@ -28,7 +28,7 @@ fn add_piece(alloc: Global, bytes: &mut Vec<u8>, piece: &str) -> Result<(), Fail
     Ok(())
 }
 
-/// Adds the line that a text stands for.
+/// Appends the line that a text means.
 pub fn add_line_of(alloc: Global, bytes: &mut Vec<u8>, text: &str) -> Result<(), Fail> {
     for piece in text.split('«') {
         add_piece(alloc, bytes, piece)?;

@@ -1,9 +1,9 @@
-//! What the operations answer, on one book after another: each table is a run on a new book.
+//! The replies to operations, on one book after another: each table is a run on a new book.
 
 use crate::engine::are_answered;
 use std::test::Fail;
 
-/// A book with nothing in it.
+/// An empty book.
 const NOTHING: &str = r#"
 {"ops":[{"agent":"spiffe://ex.org/spire/agent/n1","op":"authorised"}]}
 {"call":1,"code":"O7","op":0,"place":0,"result":"refused"}
@@ -33,7 +33,7 @@ fn cycle_of_parents(rt: HostRuntime) -> Result<(), Fail> {
     are_answered(&rt, rt.alloc(), CYCLE)
 }
 
-/// The agent's node has just the selectors of the alias, then one more, then one of them alone.
+/// The agent's node has exactly the selectors of the alias, then one more, then one of them alone.
 const ALIAS: &str = r#"
 {"ops":[{"id":"00000000-0000-0000-0000-000000000001","identity":"spiffe://ex.org/alias","op":"create","parent":"spiffe://ex.org/spire/server","selectors":["x:1","x:2"]},{"id":"00000000-0000-0000-0000-000000000002","identity":"spiffe://ex.org/web","op":"create","parent":"spiffe://ex.org/alias","selectors":["u:1"]},{"id":"00000000-0000-0000-0000-000000000003","identity":"spiffe://ex.org/side","op":"create","parent":"spiffe://ex.org/web","selectors":["u:2"]}]}
 {"call":1,"place":1,"replies":[{"entry":{"domains":[],"expiry":0,"hint":"","id":"00000000-0000-0000-0000-000000000001","identity":"spiffe://ex.org/alias","parent":"spiffe://ex.org/spire/server","revision":0,"selectors":["x:1","x:2"]}},{"entry":{"domains":[],"expiry":0,"hint":"","id":"00000000-0000-0000-0000-000000000002","identity":"spiffe://ex.org/web","parent":"spiffe://ex.org/alias","revision":0,"selectors":["u:1"]}},{"entry":{"domains":[],"expiry":0,"hint":"","id":"00000000-0000-0000-0000-000000000003","identity":"spiffe://ex.org/side","parent":"spiffe://ex.org/web","revision":0,"selectors":["u:2"]}}],"result":"committed"}
@@ -56,7 +56,7 @@ fn alias_held_by_all_its_selectors(rt: HostRuntime) -> Result<(), Fail> {
     are_answered(&rt, rt.alloc(), ALIAS)
 }
 
-/// Each operation of a batch finds what the earlier ones left.
+/// Each operation of a batch sees what the earlier ones left.
 const DISSOCIATED: &str = r#"
 {"ops":[{"domain":"b.org","op":"set_bundle","text":"{}"}]}
 {"call":1,"place":1,"replies":[{"bundle":{"domain":"b.org","sequence":0,"text":"{}"}}],"result":"committed"}
@@ -69,7 +69,7 @@ fn dissociated_entry_shown_in_the_same_batch(rt: HostRuntime) -> Result<(), Fail
     are_answered(&rt, rt.alloc(), DISSOCIATED)
 }
 
-/// An entry keeps its lifetimes when it loses a domain, and none that an update leaves out.
+/// An entry keeps its lifetimes when it loses a domain; an update removes those that it leaves out.
 const LIFETIMES: &str = r#"
 {"ops":[{"op":"set_bundle","domain":"b.org","text":"{}"}]}
 {"call":1,"place":1,"replies":[{"bundle":{"domain":"b.org","sequence":0,"text":"{}"}}],"result":"committed"}
@@ -92,7 +92,7 @@ fn lifetimes_left_out_are_none(rt: HostRuntime) -> Result<(), Fail> {
     are_answered(&rt, rt.alloc(), LIFETIMES)
 }
 
-/// The last operation is refused, and nothing of its batch is kept.
+/// The last operation is refused, and nothing of its batch takes effect.
 const STALE: &str = r#"
 {"ops":[{"id":"00000000-0000-0000-0000-000000000001","identity":"spiffe://ex.org/web","op":"create","parent":"spiffe://ex.org/spire/agent/n1","selectors":["u:1"]}]}
 {"call":1,"place":1,"replies":[{"entry":{"domains":[],"expiry":0,"hint":"","id":"00000000-0000-0000-0000-000000000001","identity":"spiffe://ex.org/web","parent":"spiffe://ex.org/spire/agent/n1","revision":0,"selectors":["u:1"]}}],"result":"committed"}
@@ -141,7 +141,7 @@ fn trusted_bundle_set_twice(rt: HostRuntime) -> Result<(), Fail> {
     are_answered(&rt, rt.alloc(), TRUSTED)
 }
 
-/// An update leaves nothing of the entry but its id, and adds 1 to its revision.
+/// An update keeps only the id of the entry, and adds 1 to its revision.
 const UPDATED: &str = r#"
 {"ops":[{"op":"set_bundle","domain":"b.org","text":"{}"},{"op":"create","id":"00000000-0000-0000-0000-000000000001","parent":"spiffe://ex.org/spire/agent/n1","identity":"spiffe://ex.org/web","selectors":["u:1"],"hint":"h","domains":["b.org"],"expiry":7}]}
 {"call":1,"place":1,"replies":[{"bundle":{"domain":"b.org","sequence":0,"text":"{}"}},{"entry":{"domains":["b.org"],"expiry":7,"hint":"h","id":"00000000-0000-0000-0000-000000000001","identity":"spiffe://ex.org/web","parent":"spiffe://ex.org/spire/agent/n1","revision":0,"selectors":["u:1"]}}],"result":"committed"}
@@ -166,7 +166,7 @@ fn update_sets_what_it_leaves_out(rt: HostRuntime) -> Result<(), Fail> {
     are_answered(&rt, rt.alloc(), UPDATED)
 }
 
-/// Entries that name the bundle refuse its drop, lose its domain, or go with it.
+/// Entries that name the bundle make its drop fail, lose its domain, or are deleted with it.
 const DROPPED: &str = r#"
 {"ops":[{"op":"set_bundle","domain":"c.org","text":""},{"op":"set_bundle","domain":"b.org","text":"{}"}]}
 {"call":1,"place":1,"replies":[{"bundle":{"domain":"c.org","sequence":0,"text":""}},{"bundle":{"domain":"b.org","sequence":0,"text":"{}"}}],"result":"committed"}
@@ -236,7 +236,7 @@ fn children_in_the_order_of_ids(rt: HostRuntime) -> Result<(), Fail> {
     are_answered(&rt, rt.alloc(), CHILDREN)
 }
 
-/// Of two refusals of an operation the first of its table is answered.
+/// If two refusals of an operation apply, the reply is the first in its table.
 const IN_TURN: &str = r#"
 {"ops":[{"op":"create","id":"00000000-0000-0000-0000-000000000001","parent":"spiffe://ex.org/spire/agent/n1","identity":"spiffe://ex.org/web","selectors":["u:1"]}]}
 {"call":1,"place":1,"replies":[{"entry":{"domains":[],"expiry":0,"hint":"","id":"00000000-0000-0000-0000-000000000001","identity":"spiffe://ex.org/web","parent":"spiffe://ex.org/spire/agent/n1","revision":0,"selectors":["u:1"]}}],"result":"committed"}

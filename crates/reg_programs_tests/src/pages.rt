@@ -1,4 +1,4 @@
-//! Pages of entries, with their filters, among questions and among changes, of the last book and of earlier ones.
+//! Pages of entries, with their filters, among queries and among changes, of the last book and of earlier ones.
 
 use crate::engine::{answers, are_answered};
 use crate::limits::changes;
@@ -23,7 +23,7 @@ fn a_page_of_an_empty_book(rt: HostRuntime) -> Result<(), Fail> {
     are_answered(&rt, rt.alloc(), EMPTY)
 }
 
-/// Five entries, page after page: of two, of all at once, and from the last one on.
+/// Five entries, page after page: pages of two, one page of all, and a page after the last entry.
 const PAGE_AFTER_PAGE: &str = r#"
 {"ops":[{"op":"set_bundle","domain":"b.org","text":"{}"},{"op":"set_bundle","domain":"c.org","text":"{}"},{"op":"create","id":"00000000-0000-0000-0000-000000000001","parent":"spiffe://ex.org/spire/agent/n1","identity":"spiffe://ex.org/web","selectors":["u:1"],"domains":["b.org"]},{"op":"create","id":"00000000-0000-0000-0000-000000000002","parent":"spiffe://ex.org/spire/agent/n1","identity":"spiffe://ex.org/api","selectors":["u:1","u:2"]},{"op":"create","id":"00000000-0000-0000-0000-000000000003","parent":"spiffe://ex.org/spire/agent/n2","identity":"spiffe://ex.org/web","selectors":["u:2"],"domains":["b.org","c.org"]},{"op":"create","id":"00000000-0000-0000-0000-000000000004","parent":"spiffe://ex.org/spire/agent/n1","identity":"spiffe://ex.org/db","selectors":["u:1","u:2","u:3"],"domains":["c.org"]},{"op":"create","id":"00000000-0000-0000-0000-000000000005","parent":"spiffe://ex.org/web","identity":"spiffe://ex.org/job","selectors":["u:4"]}]}
 {"call":1,"place":1,"replies":[{"bundle":{"domain":"b.org","sequence":0,"text":"{}"}},{"bundle":{"domain":"c.org","sequence":0,"text":"{}"}},{"entry":{"domains":["b.org"],"expiry":0,"hint":"","id":"00000000-0000-0000-0000-000000000001","identity":"spiffe://ex.org/web","parent":"spiffe://ex.org/spire/agent/n1","revision":0,"selectors":["u:1"]}},{"entry":{"domains":[],"expiry":0,"hint":"","id":"00000000-0000-0000-0000-000000000002","identity":"spiffe://ex.org/api","parent":"spiffe://ex.org/spire/agent/n1","revision":0,"selectors":["u:1","u:2"]}},{"entry":{"domains":["b.org","c.org"],"expiry":0,"hint":"","id":"00000000-0000-0000-0000-000000000003","identity":"spiffe://ex.org/web","parent":"spiffe://ex.org/spire/agent/n2","revision":0,"selectors":["u:2"]}},{"entry":{"domains":["c.org"],"expiry":0,"hint":"","id":"00000000-0000-0000-0000-000000000004","identity":"spiffe://ex.org/db","parent":"spiffe://ex.org/spire/agent/n1","revision":0,"selectors":["u:1","u:2","u:3"]}},{"entry":{"domains":[],"expiry":0,"hint":"","id":"00000000-0000-0000-0000-000000000005","identity":"spiffe://ex.org/job","parent":"spiffe://ex.org/web","revision":0,"selectors":["u:4"]}}],"result":"committed"}
@@ -89,7 +89,7 @@ fn filters_of_pages(rt: HostRuntime) -> Result<(), Fail> {
     are_answered(&rt, rt.alloc(), FILTERS)
 }
 
-/// A page among the changes of a batch sees what the earlier ones did.
+/// A page among the changes of a batch sees the effects of the earlier ones.
 const AMONG_CHANGES: &str = r#"
 {"ops":[{"op":"set_bundle","domain":"b.org","text":"{}"},{"op":"set_bundle","domain":"c.org","text":"{}"},{"op":"create","id":"00000000-0000-0000-0000-000000000001","parent":"spiffe://ex.org/spire/agent/n1","identity":"spiffe://ex.org/web","selectors":["u:1"],"domains":["b.org"]},{"op":"create","id":"00000000-0000-0000-0000-000000000002","parent":"spiffe://ex.org/spire/agent/n1","identity":"spiffe://ex.org/api","selectors":["u:1","u:2"]},{"op":"create","id":"00000000-0000-0000-0000-000000000003","parent":"spiffe://ex.org/spire/agent/n2","identity":"spiffe://ex.org/web","selectors":["u:2"],"domains":["b.org","c.org"]},{"op":"create","id":"00000000-0000-0000-0000-000000000004","parent":"spiffe://ex.org/spire/agent/n1","identity":"spiffe://ex.org/db","selectors":["u:1","u:2","u:3"],"domains":["c.org"]},{"op":"create","id":"00000000-0000-0000-0000-000000000005","parent":"spiffe://ex.org/web","identity":"spiffe://ex.org/job","selectors":["u:4"]}]}
 {"call":1,"place":1,"replies":[{"bundle":{"domain":"b.org","sequence":0,"text":"{}"}},{"bundle":{"domain":"c.org","sequence":0,"text":"{}"}},{"entry":{"domains":["b.org"],"expiry":0,"hint":"","id":"00000000-0000-0000-0000-000000000001","identity":"spiffe://ex.org/web","parent":"spiffe://ex.org/spire/agent/n1","revision":0,"selectors":["u:1"]}},{"entry":{"domains":[],"expiry":0,"hint":"","id":"00000000-0000-0000-0000-000000000002","identity":"spiffe://ex.org/api","parent":"spiffe://ex.org/spire/agent/n1","revision":0,"selectors":["u:1","u:2"]}},{"entry":{"domains":["b.org","c.org"],"expiry":0,"hint":"","id":"00000000-0000-0000-0000-000000000003","identity":"spiffe://ex.org/web","parent":"spiffe://ex.org/spire/agent/n2","revision":0,"selectors":["u:2"]}},{"entry":{"domains":["c.org"],"expiry":0,"hint":"","id":"00000000-0000-0000-0000-000000000004","identity":"spiffe://ex.org/db","parent":"spiffe://ex.org/spire/agent/n1","revision":0,"selectors":["u:1","u:2","u:3"]}},{"entry":{"domains":[],"expiry":0,"hint":"","id":"00000000-0000-0000-0000-000000000005","identity":"spiffe://ex.org/job","parent":"spiffe://ex.org/web","revision":0,"selectors":["u:4"]}}],"result":"committed"}
@@ -104,7 +104,7 @@ fn a_page_sees_the_changes_before_it(rt: HostRuntime) -> Result<(), Fail> {
     are_answered(&rt, rt.alloc(), AMONG_CHANGES)
 }
 
-/// Pages of the books that were the last ones before.
+/// Pages of earlier books.
 const EARLIER: &str = r#"
 {"ops":[{"op":"create","id":"00000000-0000-0000-0000-000000000001","parent":"spiffe://ex.org/spire/agent/n1","identity":"spiffe://ex.org/e1","selectors":["u:1"]},{"op":"create","id":"00000000-0000-0000-0000-000000000002","parent":"spiffe://ex.org/spire/agent/n1","identity":"spiffe://ex.org/e2","selectors":["u:1"]},{"op":"create","id":"00000000-0000-0000-0000-000000000003","parent":"spiffe://ex.org/spire/agent/n1","identity":"spiffe://ex.org/e3","selectors":["u:1"]},{"op":"create","id":"00000000-0000-0000-0000-000000000004","parent":"spiffe://ex.org/spire/agent/n1","identity":"spiffe://ex.org/e4","selectors":["u:1"]},{"op":"create","id":"00000000-0000-0000-0000-000000000005","parent":"spiffe://ex.org/spire/agent/n1","identity":"spiffe://ex.org/e5","selectors":["u:1"]}]}
 {"call":1,"place":1,"replies":[{"entry":{"domains":[],"expiry":0,"hint":"","id":"00000000-0000-0000-0000-000000000001","identity":"spiffe://ex.org/e1","parent":"spiffe://ex.org/spire/agent/n1","revision":0,"selectors":["u:1"]}},{"entry":{"domains":[],"expiry":0,"hint":"","id":"00000000-0000-0000-0000-000000000002","identity":"spiffe://ex.org/e2","parent":"spiffe://ex.org/spire/agent/n1","revision":0,"selectors":["u:1"]}},{"entry":{"domains":[],"expiry":0,"hint":"","id":"00000000-0000-0000-0000-000000000003","identity":"spiffe://ex.org/e3","parent":"spiffe://ex.org/spire/agent/n1","revision":0,"selectors":["u:1"]}},{"entry":{"domains":[],"expiry":0,"hint":"","id":"00000000-0000-0000-0000-000000000004","identity":"spiffe://ex.org/e4","parent":"spiffe://ex.org/spire/agent/n1","revision":0,"selectors":["u:1"]}},{"entry":{"domains":[],"expiry":0,"hint":"","id":"00000000-0000-0000-0000-000000000005","identity":"spiffe://ex.org/e5","parent":"spiffe://ex.org/spire/agent/n1","revision":0,"selectors":["u:1"]}}],"result":"committed"}
@@ -145,7 +145,7 @@ const CREATE: &str =
     r#"{"ops":[{"op":"create","id":"00000000-0000-0000-0000-000000000001","parent":"spiffe://ex.org/spire/agent/n1","identity":"spiffe://ex.org/e1","selectors":["u:1"]}]}
 "#;
 
-/// A create, then changes up to this place, each with its line, and then the page of the book that the create made.
+/// A create, then changes up to this place, each in a line, and then the page of the book that the create made.
 fn asked_at(alloc: Global, place: usize) -> Result<String, Fail> {
     let changes = changes(alloc, place.saturating_sub(1))?;
     let changes = changes.as_str();
@@ -155,7 +155,7 @@ fn asked_at(alloc: Global, place: usize) -> Result<String, Fail> {
 const PAGE: &str = r#"{"ops":[{"op":"page","size":2,"at":1}]}
 "#;
 
-/// The answer to the page, where so many changes came up to it.
+/// Asserts the reply to the page, after changes up to this place.
 fn last_is(rt: &(impl Abort + Wait), alloc: Global, place: usize, want: &str) -> Result<(), Fail> {
     let asked = asked_at(alloc, place)?;
     let got = answers(rt, alloc, asked.as_bytes())?;

@@ -1,9 +1,9 @@
-//! Batches that may run only at a place, or after it.
+//! Batches with a minimum place.
 
 use crate::engine::are_answered;
 use std::test::Fail;
 
-/// Questions and changes, each with the least place at which it may run.
+/// Queries and changes, each with its minimum place.
 const PLACES: &str = r#"
 {"ops":[{"op":"show","id":"00000000-0000-0000-0000-000000000001"}],"after":1}
 {"call":1,"code":"W1","place":0,"result":"refused"}

@@ -1,4 +1,4 @@
-//! The records that a schedule leaves, and nothing else.
+//! The records that a schedule writes, and nothing else.
 
 use crate::engine::{Engine, Table, lines_lost, program_writes};
 use crate::failing::{fail_each_read, fail_each_write};
@@ -10,13 +10,13 @@ use std::process::Abort;
 use std::test::Fail;
 use test_devices::Pace;
 
-/// The events, in one run of `regd schedule --record` for `ex.org`, leave these records.
+/// Asserts that one run of `regd schedule --record` for `ex.org` over these events writes these records.
 fn are_recorded(rt: &impl Abort, alloc: Global, events: &[u8], records: &str) -> Result<(), Fail> {
     let line = "regd|schedule|--domain|ex.org|--record";
     program_writes(rt, alloc, line, Outcome::Done, events, records)
 }
 
-/// Two calls would both add a row. The second one is a conflict, and is recorded nowhere; tried again it is refused.
+/// Two calls would both add a row. The second one is a conflict, and isn't recorded; retried, it is refused.
 const PHANTOM_EVENTS: &str =
     r#"{"batch":{"ops":[{"id":"00000000-0000-0000-0000-000000000001","identity":"spiffe://ex.org/web","op":"create","parent":"spiffe://ex.org/spire/agent/n1","selectors":["u:1"]}]},"call":1,"event":"invoke"}
 {"batch":{"ops":[{"id":"00000000-0000-0000-0000-000000000002","identity":"spiffe://ex.org/web","op":"create","parent":"spiffe://ex.org/spire/agent/n1","selectors":["u:1"]}]},"call":2,"event":"invoke"}
@@ -47,8 +47,8 @@ fn a_conflict_is_recorded_nowhere(rt: HostRuntime) -> Result<(), Fail> {
     are_recorded(&rt, rt.alloc(), PHANTOM_EVENTS.as_bytes(), PHANTOM_RECORDS)
 }
 
-/// A bundle is dropped and an entry that names it is created, at once. The call that commits first is recorded, whichever
-/// was invoked first.
+/// A bundle is dropped and an entry that names it is created, concurrently. The call that commits first is recorded, regardless of
+/// which was invoked first.
 const WRITE_SKEW_EVENTS: &str =
     r#"{"batch":{"ops":[{"domain":"b.org","op":"set_bundle","text":"{}"}]},"call":1,"event":"invoke"}
 {"call":1,"event":"begin"}
@@ -85,7 +85,7 @@ fn the_call_that_committed_is_recorded(rt: HostRuntime) -> Result<(), Fail> {
     )
 }
 
-/// A question that began before a change, and replied after it, stands in front of it.
+/// A query that began before a change, and replied after it, comes before it.
 const EARLY_QUESTION_EVENTS: &str =
     r#"{"batch":{"ops":[{"id":"00000000-0000-0000-0000-000000000001","op":"show"}]},"call":1,"event":"invoke"}
 {"call":1,"event":"begin"}
@@ -167,13 +167,13 @@ fn a_repeat_is_recorded_as_repeated(rt: HostRuntime) -> Result<(), Fail> {
     are_recorded(&rt, rt.alloc(), REPEAT_EVENTS.as_bytes(), REPEAT_RECORDS)
 }
 
-/// The records of the calls whose events came in turn among others.
+/// The records of the calls whose events were possible, among others that weren't.
 const IN_TURN_RECORDS: &str =
     r#"{"batch":{"after":0,"ops":[{"agent":"spiffe://ex.org/spire/agent/n1","op":"set_agent","selectors":["x:1"]}]},"call":7,"invoked":1,"replied":null,"reply":{"call":7,"place":1,"replies":[{"agent":{"id":"spiffe://ex.org/spire/agent/n1","selectors":["x:1"]}}],"result":"committed"}}
 {"batch":{"after":9,"ops":[{"agent":"spiffe://ex.org/spire/agent/n1","op":"show_agent"}]},"call":8,"invoked":5,"replied":7,"reply":{"call":8,"code":"W1","place":1,"result":"refused"}}
 "#;
 
-/// They take no number among the accepted events, either.
+/// They aren't numbered among the accepted events, either.
 #[test]
 fn refused_events_and_lines_leave_no_record(rt: HostRuntime) -> Result<(), Fail> {
     let table = Table::of(rt.alloc(), OUT_OF_TURN)?;
@@ -185,13 +185,13 @@ fn no_events_leave_no_records(rt: HostRuntime) -> Result<(), Fail> {
     are_recorded(&rt, rt.alloc(), b"", "")
 }
 
-/// The engine takes each of these lines.
+/// Asserts that the engine loses none of these lines.
 fn none_is_lost(rt: &impl Abort, alloc: Global, asked: &[u8]) -> Result<(), Fail> {
     holds(rt, lines_lost(alloc, asked)? == 0, "no line is lost");
     Ok(())
 }
 
-/// A line that is refused for what stands in it isn't lost, and neither is an event that comes out of turn.
+/// A line that is refused for its contents isn't lost, and neither is an event that isn't possible in the call's state.
 #[test]
 fn no_line_is_lost_while_there_is_memory(rt: HostRuntime) -> Result<(), Fail> {
     let table = Table::of(rt.alloc(), OUT_OF_TURN)?;
@@ -200,7 +200,7 @@ fn no_line_is_lost_while_there_is_memory(rt: HostRuntime) -> Result<(), Fail> {
     none_is_lost(&rt, rt.alloc(), PHANTOM_EVENTS.as_bytes())
 }
 
-/// At a failed read nothing was written, at a failed write a beginning of the records.
+/// At a failed read nothing was written, at a failed write a prefix of the records.
 #[test]
 fn each_failing_device_ends_a_recorded_schedule(rt: HostRuntime) -> Result<(), Fail> {
     let table = Table {

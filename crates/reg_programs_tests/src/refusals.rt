@@ -1,4 +1,4 @@
-//! Lines that are refused, and what they leave: no call number is taken, and the book stays.
+//! Lines that are refused, and their effects: they take no call number, and the book stays the same.
 
 use crate::engine::{FIRST_SEED, answers, are_answered, are_answered_with};
 use crate::wanted::is_written;
@@ -79,7 +79,7 @@ fn refused_lines_take_no_call_number(rt: HostRuntime) -> Result<(), Fail> {
     are_answered(&rt, rt.alloc(), REFUSED)
 }
 
-/// Texts that are selectors, and texts that are none.
+/// Valid and invalid selectors.
 const SELECTORS: &str = r#"
 {"ops":[{"agent":"spiffe://ex.org/spire/agent/n1","op":"set_agent","selectors":["unix:uid:1000"]}]}
 {"call":1,"place":1,"replies":[{"agent":{"id":"spiffe://ex.org/spire/agent/n1","selectors":["unix:uid:1000"]}}],"result":"committed"}
@@ -119,7 +119,7 @@ fn empty_segment_in_the_third_operation(rt: HostRuntime) -> Result<(), Fail> {
     are_answered(&rt, rt.alloc(), SEGMENT)
 }
 
-/// Texts that are SPIFFE IDs of the trust domain `a`, and texts that are none.
+/// Valid and invalid SPIFFE IDs of the trust domain `a`.
 const IDS: &str = r#"
 {"ops":[{"op":"children","parent":"spiffe://a"}]}
 {"code":"B4","line":1,"op":0}
@@ -197,7 +197,7 @@ fn ids_at_their_limits(rt: HostRuntime) -> Result<(), Fail> {
     are_answered_with(&rt, rt.alloc(), ("a", FIRST_SEED), LIMITS)
 }
 
-/// Lists in lists, and lines up to the limit and past it.
+/// Nested lists, and lines up to the limit and past it.
 const DEEP_AND_LONG: &str = r#"
 «128*[»«128*]»
 {"code":"L2","line":1}
@@ -209,7 +209,7 @@ const DEEP_AND_LONG: &str = r#"
 {"code":"L1","line":4}
 "#;
 
-/// Last lines without an LF: as long as they can be, and longer.
+/// Last lines without an LF: of the maximum length, and longer.
 const LONG_AND_CUT: &str = r#"
 {"ops":[{"id":"00000000-0000-0000-0000-000000000001","op":"show"}]}«1048509* »«»
 {"code":"L3","line":1}
@@ -228,7 +228,7 @@ fn lists_too_deep_and_lines_too_long(rt: HostRuntime) -> Result<(), Fail> {
     are_answered(&rt, rt.alloc(), LONGER_AND_CUT)
 }
 
-/// The front of a line is answered so.
+/// Asserts that a prefix of a line is refused as truncated.
 fn is_truncated(rt: &(impl Abort + Wait), alloc: Global, front: &[u8]) -> Result<(), Fail> {
     let got = answers(rt, alloc, front)?;
     is_written(rt, &got, "{\"code\":\"L3\",\"line\":1}\n")

@@ -9,7 +9,7 @@ use std::sync::Wait;
 use std::test::Fail;
 use test_devices::{Giver, Pace, Taker, Trouble};
 
-/// A run that meets every operation, with an id that is drawn.
+/// A run that has every operation, with an id that is drawn.
 const EVERY_OPERATION: &str = r#"
 an agent, a bundle, and an entry without an id, which names the bundle
 {"ops":[{"op":"set_agent","agent":"spiffe://ex.org/spire/agent/n1","selectors":["x:1"]},{"op":"set_bundle","domain":"b.org","text":"{}"},{"op":"create","parent":"spiffe://ex.org/spire/agent/n1","identity":"spiffe://ex.org/web","selectors":["u:1"],"domains":["b.org"]}]}
@@ -38,7 +38,7 @@ fn every_operation_is_answered(rt: HostRuntime) -> Result<(), Fail> {
     are_answered(&rt, rt.alloc(), EVERY_OPERATION)
 }
 
-/// The table's requests are answered over devices that are so slow.
+/// Asserts that the table's requests get their replies over devices at these paces.
 fn is_run(
     rt: &(impl Abort + Wait),
     alloc: Global,
@@ -64,7 +64,7 @@ fn slow_devices_change_nothing(rt: HostRuntime) -> Result<(), Fail> {
     Ok(())
 }
 
-/// A last part without LF, and its answer behind those to every operation.
+/// A last part without LF, and its reply, after those to every operation.
 const CUT: &str = r#"
 {"ops":[]}«»
 {"code":"L3","line":5}
@@ -93,8 +93,8 @@ fn each_failing_write_ends_the_run(rt: HostRuntime) -> Result<(), Fail> {
     Ok(())
 }
 
-/// A run of every operation by this engine at this pace makes so many reads, so many calls of the writer, and so many flushes among
-/// them.
+/// Asserts how many reads a run of every operation by this engine at this pace makes, how many calls of the writer, and how many of
+/// these are flushes.
 fn is_counted(
     rt: &(impl Abort + Wait),
     alloc: Global,
@@ -118,7 +118,7 @@ fn replies_are_out_before_the_next_read_and_not_line_by_line(rt: HostRuntime) ->
     for engine in [Engine::Plain, Engine::Session] {
         // a terminal gives a line at a time, and gets a flush before each read: there are four lines and the end
         is_counted(&rt, rt.alloc(), engine, Pace::Line, (5, 10, 6))?;
-        // a file gives all lines at once, and gets their replies at once
+        // a file gives all lines in one read, and gets their replies in one write
         is_counted(&rt, rt.alloc(), engine, Pace::All, (2, 4, 3))?;
     }
     Ok(())

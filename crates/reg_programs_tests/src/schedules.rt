@@ -1,4 +1,4 @@
-//! Event lines, their answers, and the order line behind them.
+//! Event lines, their answers, and the order line after them.
 
 use crate::engine::{Engine, Table, are_answered_by};
 use crate::failing::{fail_each_read, fail_each_write};
@@ -7,12 +7,12 @@ use std::process::Abort;
 use std::test::Fail;
 use test_devices::Pace;
 
-/// The events of the table, in one run of `regd schedule` for `ex.org`, get the answers beside them, and then the order line.
+/// Asserts that the events of the table, in one run of `regd schedule` for `ex.org`, get their answers, and then the order line.
 fn are_played(rt: &impl Abort, alloc: Global, text: &str) -> Result<(), Fail> {
     are_answered_by(rt, alloc, "regd|schedule|--domain|ex.org", text)
 }
 
-/// A question, from its invoke to its reply.
+/// A query, from its invoke to its reply.
 const QUESTION: &str = r#"
 {"event":"invoke","call":1,"batch":{"ops":[{"op":"show","id":"00000000-0000-0000-0000-000000000001"}]}}
 {"call":1,"state":"new"}
@@ -30,8 +30,8 @@ fn a_question_is_invoked_begun_read_and_answered(rt: HostRuntime) -> Result<(), 
     are_played(&rt, rt.alloc(), QUESTION)
 }
 
-/// Two calls look for an entry that isn't there, and would both add it. The second one is a conflict, and tried again it is
-/// refused by the first one's entry; a conflict is no part of the order.
+/// Two calls look for an entry that isn't there, and would both add it. The second one is a conflict, and retried it is refused
+/// because of the first one's entry; a conflict is no part of the order.
 const PHANTOM: &str = r#"
 {"event":"invoke","call":1,"batch":{"ops":[{"op":"create","id":"00000000-0000-0000-0000-000000000001","parent":"spiffe://ex.org/spire/agent/n1","identity":"spiffe://ex.org/web","selectors":["unix:uid:1000"]}]}}
 {"call":1,"state":"new"}
@@ -73,7 +73,7 @@ fn of_two_calls_that_add_one_row_one_is_a_conflict(rt: HostRuntime) -> Result<()
     are_played(&rt, rt.alloc(), PHANTOM)
 }
 
-/// An entry that names a bundle is created, and the bundle is dropped as long as no entry names it: whichever commits second is a
+/// An entry that names a bundle is created, and the bundle is dropped if no entry names it: the call that commits second is a
 /// conflict.
 const WRITE_SKEW: &str = r#"
 {"event":"invoke","call":1,"batch":{"ops":[{"op":"set_bundle","domain":"b.org","text":"{}"}]}}
@@ -122,7 +122,7 @@ fn of_two_calls_that_each_read_what_the_other_writes_one_is_a_conflict(
     are_played(&rt, rt.alloc(), WRITE_SKEW)
 }
 
-/// Two updates of what both have read. The second one is a conflict, and tried again it is refused by its revision.
+/// Two updates of what both have read. The second one is a conflict, and retried it is refused for its revision.
 const LOST_UPDATE: &str = r#"
 {"event":"invoke","call":1,"batch":{"ops":[{"op":"create","id":"00000000-0000-0000-0000-000000000001","parent":"spiffe://ex.org/spire/agent/n1","identity":"spiffe://ex.org/web","selectors":["u:1"]}]}}
 {"call":1,"state":"new"}
@@ -176,7 +176,7 @@ fn no_update_is_lost(rt: HostRuntime) -> Result<(), Fail> {
     are_played(&rt, rt.alloc(), LOST_UPDATE)
 }
 
-/// A question that is asked after an answer sees what that told; one that began before sees the book of its begin to its end.
+/// A query that is invoked after a reply sees what that reported; one that began before sees the book of its begin to its end.
 const STALE_READ: &str = r#"
 {"event":"invoke","call":1,"batch":{"ops":[{"op":"show","id":"00000000-0000-0000-0000-000000000001"},{"op":"show","id":"00000000-0000-0000-0000-000000000001"}]}}
 {"call":1,"state":"new"}
@@ -216,7 +216,7 @@ fn a_question_after_an_answer_sees_what_it_told(rt: HostRuntime) -> Result<(), F
     are_played(&rt, rt.alloc(), STALE_READ)
 }
 
-/// What isn't committed is seen by the call itself alone, and is gone where its commit is a conflict.
+/// Only the call itself sees its uncommitted changes, and they are dropped if its commit is a conflict.
 const DIRTY_READ: &str = r#"
 {"event":"invoke","call":1,"batch":{"ops":[{"op":"create","id":"00000000-0000-0000-0000-000000000001","parent":"spiffe://ex.org/spire/agent/n1","identity":"spiffe://ex.org/web","selectors":["u:1"]},{"op":"show","id":"00000000-0000-0000-0000-000000000001"}]}}
 {"call":1,"state":"new"}
@@ -268,7 +268,7 @@ fn no_question_sees_what_isnt_committed(rt: HostRuntime) -> Result<(), Fail> {
     are_played(&rt, rt.alloc(), DIRTY_READ)
 }
 
-/// Events out of turn, and lines that spell none, are refused among others, and change nothing.
+/// Events that aren't possible, and lines that aren't events, are refused among others, and change nothing.
 pub const OUT_OF_TURN: &str = r#"
 {"event":"begin","call":7}
 {"code":"E2","line":1}
@@ -314,7 +314,7 @@ fn events_out_of_turn_are_refused_and_change_nothing(rt: HostRuntime) -> Result<
     are_played(&rt, rt.alloc(), OUT_OF_TURN)
 }
 
-/// No line has no answer but the order of no calls.
+/// No lines get the order of no calls.
 #[test]
 fn no_events_have_an_order_without_calls(rt: HostRuntime) -> Result<(), Fail> {
     are_played(&rt, rt.alloc(), "{\"order\":[]}\n")

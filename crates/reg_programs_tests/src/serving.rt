@@ -1,4 +1,4 @@
-//! What do the callers of a server get over TCP?
+//! What do the clients of a server get over TCP?
 
 ghost use Rattle.std.specs.Prelude.{◌<◌};
 
@@ -12,7 +12,7 @@ use std::test::Fail;
 use std::thread::Threads;
 use std::time::Clock;
 
-/// An agent, an entry under it, and what the agent may serve.
+/// An agent, an entry under it, and the agent's authorised entries.
 pub const FIRST_LINES: &str =
     r#"{"ops":[{"op":"set_agent","agent":"spiffe://ex.org/spire/agent/n1","selectors":["x:1"]}]}
 {"ops":[{"op":"create","id":"00000000-0000-0000-0000-000000000001","parent":"spiffe://ex.org/spire/agent/n1","identity":"spiffe://ex.org/web","selectors":["unix:uid:1000"]}]}
@@ -25,7 +25,7 @@ pub const FIRST_ANSWERS: &str =
 {"call":3,"place":2,"replies":[{"entries":[{"domains":[],"expiry":0,"hint":"","id":"00000000-0000-0000-0000-000000000001","identity":"spiffe://ex.org/web","parent":"spiffe://ex.org/spire/agent/n1","revision":0,"selectors":["unix:uid:1000"]}]}],"result":"answered"}
 "#;
 
-/// The question, and its answer by a seat that made no call before, and by one that made three.
+/// A query, and its reply by a seat that made no call before, and by one that made three.
 const QUESTION: &str = r#"{"ops":[{"op":"authorised","agent":"spiffe://ex.org/spire/agent/n1"}]}
 "#;
 
@@ -37,7 +37,7 @@ const FOURTH_ANSWER: &str =
     r#"{"call":4,"place":2,"replies":[{"entries":[{"domains":[],"expiry":0,"hint":"","id":"00000000-0000-0000-0000-000000000001","identity":"spiffe://ex.org/web","parent":"spiffe://ex.org/spire/agent/n1","revision":0,"selectors":["unix:uid:1000"]}]}],"result":"answered"}
 "#;
 
-/// A line that is cut inside.
+/// A line that is truncated.
 const CUT: &str = "{\"ops\":";
 
 /// Creates without an id.
@@ -57,8 +57,8 @@ const CREATED: &str =
 {"call":3,"place":3,"replies":[{"entry":{"domains":[],"expiry":0,"hint":"","id":"ef3fdfd6-c615-48fb-b5cf-35bd3dd33b80","identity":"spiffe://ex.org/c","parent":"spiffe://ex.org/spire/agent/n1","revision":0,"selectors":["u:1"]}}],"result":"committed"}
 "#;
 
-/// A server of so many workers that accepts so many connections ends well, and its callers are answered this. Where it waits, all
-/// workers sleep before each connection is accepted.
+/// Asserts that a server with these numbers of workers and connections succeeds, and what its clients get. If `waits`, all workers
+/// sleep before each connection is accepted.
 fn are_answered<
     R: Abort + Threads + Wait + Clock + Net<Listener = TcpListener, Stream = TcpStream> + Sync,
     C: Callers,
@@ -107,7 +107,7 @@ fn a_connection_that_is_cut_inside_a_line_ends_none_but_itself(
     are_answered(&rt, rt.alloc(), 1, 2, false, &callers, want.as_str())
 }
 
-/// Both workers sleep when a connection is accepted. The one that has none is woken by the end.
+/// Both workers sleep when a connection is accepted. The end wakes the one that gets none.
 #[test]
 fn a_sleeping_worker_is_woken(rt: HostRuntime) -> Result<(), Fail> {
     let want = format!(in rt.alloc(); "{FIRST_ANSWERS}{ANSWER}")?;

@@ -1,4 +1,4 @@
-//! Sessions over memory, and over devices that fail: a seat that is alone on a registry answers what a plain book answers.
+//! Sessions over memory, and over devices that fail: a seat that is alone on a registry replies what a plain book replies.
 
 ghost use Rattle.std.specs.Prelude.{◌≡◌};
 
@@ -67,7 +67,7 @@ fn session_of<J: Naming, R: Wait>(
     ran
 }
 
-/// The same, of a registry of its own.
+/// The same, with a registry of its own.
 pub fn run_alone<R: Wait>(
     rt: &R,
     alloc: Global,
@@ -80,7 +80,7 @@ pub fn run_alone<R: Wait>(
     session_of::<Brand, _>(rt, alloc, Opened::new(), kept, &domain, seed, giver, taker)
 }
 
-/// An agent, an entry under it, and what the agent may serve.
+/// An agent, an entry under it, and the agent's authorised entries.
 const FIRST_LINES: &str = r#"
 {"ops":[{"op":"set_agent","agent":"spiffe://ex.org/spire/agent/n1","selectors":["x:1"]}]}
 {"call":1,"place":1,"replies":[{"agent":{"id":"spiffe://ex.org/spire/agent/n1","selectors":["x:1"]}}],"result":"committed"}

@@ -1,4 +1,4 @@
-//! A listener and a runtime that do as a test says.
+//! A listener and a runtime that a test controls.
 
 use reg_programs::{Queue, QueueState};
 use std::alloc::Global;
@@ -10,18 +10,18 @@ use std::thread::Threads;
 use std::time::{Clock, Duration};
 use std::{io, thread};
 
-/// How often a test looks for what is to come, a millisecond apart, before it gives up.
+/// How often a test checks for an event, at intervals of a millisecond, before it gives up.
 pub const TURNS: u32 = 10_000;
 
 /// An error that ends a listener (EBADF).
 const BAD_LISTENER: i32 = 9;
 
-/// The worker of a queue in this state sleeps.
+/// Returns true if the worker of a queue in this state sleeps.
 fn is_asleep(state: QueueState) -> bool {
     state.has_worker && state.waiting == 0 && !state.is_closed
 }
 
-/// At this moment the worker of each queue sleeps.
+/// Returns true if the worker of each queue sleeps at this moment.
 fn are_asleep<R: Wait>(rt: &R, queues: &[Queue]) -> bool {
     for queue in queues {
         if !is_asleep(queue.state(rt)) {
@@ -31,7 +31,7 @@ fn are_asleep<R: Wait>(rt: &R, queues: &[Queue]) -> bool {
     true
 }
 
-/// Waits until the worker of each queue sleeps. The answer is false if they don't come to it.
+/// Waits until the worker of each queue sleeps. Returns false on a timeout.
 fn fall_asleep<R: Wait + Clock>(rt: &R, queues: &[Queue]) -> bool {
     for _ in 0..TURNS {
         if are_asleep(rt, queues) {
@@ -42,7 +42,7 @@ fn fall_asleep<R: Wait + Clock>(rt: &R, queues: &[Queue]) -> bool {
     false
 }
 
-/// Waits until each queue is closed. The answer is false if one stays open.
+/// Waits until each queue is closed. Returns false on a timeout.
 pub fn become_closed<R: Wait + Clock>(rt: &R, queues: &[Queue]) -> bool {
     for _ in 0..TURNS {
         let mut are_closed = true;
@@ -57,7 +57,7 @@ pub fn become_closed<R: Wait + Clock>(rt: &R, queues: &[Queue]) -> bool {
     false
 }
 
-/// A listener whose calls of `accept` fail as told.
+/// A listener with scripted errors of `accept`.
 #[derive(Drop)]
 pub struct Staged<'a, R: Wait + Clock> {
     pub rt: &'a R,
@@ -65,9 +65,9 @@ pub struct Staged<'a, R: Wait + Clock> {
     pub queues: &'a [Queue],
     /// The numbers of the errors that the calls return in turn, 0 for a connection. All later calls return connections.
     pub errors: &'a [i32],
-    /// Before each call returns, all workers sleep.
+    /// Whether all workers sleep before each call returns.
     pub waits: bool,
-    /// How many calls were made.
+    /// The number of calls.
     pub calls: &'a AtomicU64,
 }
 
@@ -108,7 +108,7 @@ impl<'a, R> Watched<'a, R> {
         }
     }
 
-    /// How many pauses were asked for.
+    /// The number of pauses that were requested.
     pub fn pauses(&self) -> u64 {
         self.pauses.load(Ordering::SeqCst)
     }
@@ -125,7 +125,7 @@ impl<R: Wait> Watched<'_, R> {
         *self.bound.lock(self.rt)
     }
 
-    /// Adds a text and an end to what is printed.
+    /// Appends a text and an end to what is printed.
     fn add(&self, text: &str, end: &str) -> io::Result<()> {
         let mut printed = self.printed.lock(self.rt);
         printed.push_str(text)?;

@@ -1,9 +1,9 @@
-//! A run that an operator knows: the lines of `examples/operator.jsonl`, each with its answer.
+//! A run as an operator knows it: the lines of `examples/operator.jsonl`, each with its reply.
 
 use crate::engine::are_answered;
 use std::test::Fail;
 
-/// Node aliases, a workload behind two parents, a partner's bundle, and entries that expire.
+/// Node aliases, a workload below two parents, a partner's bundle, and entries that expire.
 const STORY: &str = r#"
 two agents, with what their nodes have
 {"ops":[{"op":"set_agent","agent":"spiffe://ex.org/spire/agent/a","selectors":["host:a","rack:1"]},{"op":"set_agent","agent":"spiffe://ex.org/spire/agent/b","selectors":["host:b","role:build"]}]}

@@ -1,4 +1,4 @@
-//! Batches that carry a token: sent again, they aren't run again.
+//! Batches with a token: sent again, they aren't executed again.
 
 use crate::engine::are_answered;
 use std::test::Fail;
@@ -59,7 +59,7 @@ fn a_repeat_has_the_same_operations_in_any_spelling(rt: HostRuntime) -> Result<(
     are_answered(&rt, rt.alloc(), SPELLINGS)
 }
 
-/// Batches that aren't committed, each with a token that a later one carries.
+/// Batches that aren't committed, each with a token that a later one has.
 const NOT_KEPT: &str = r#"
 refused for an operation
 {"ops":[{"op":"drop_agent","agent":"spiffe://ex.org/spire/agent/n1"}],"token":"00000000-0000-0000-0000-000000000009"}

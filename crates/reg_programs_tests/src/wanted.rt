@@ -1,32 +1,32 @@
-//! What a test wants to see: one call each, since an assertion that is written out takes the prover seconds.
+//! Assertions, each in a function of its own, since an assertion that is written out takes the prover seconds.
 
 use reg_programs::RunFault;
 use std::process::Abort;
 use std::test::Fail;
 
-/// The two texts are the same.
+/// Asserts that the two texts are equal.
 pub fn is_text(rt: &impl Abort, got: &str, want: &str, at: &str) {
     assert_eq!(rt; got, want, "{at}");
 }
 
-/// The bytes are those of this text.
+/// Asserts that the bytes are those of this text.
 pub fn is_written(rt: &impl Abort, got: &[u8], want: &str) -> Result<(), Fail> {
     is_text(rt, str::from_utf8(got)?, want, "what is written");
     Ok(())
 }
 
-/// It holds.
+/// Asserts that it holds.
 pub fn holds(rt: &impl Abort, it: bool, at: &str) {
     assert!(rt; it, "{at}");
 }
 
-/// It holds at this number.
+/// Asserts that it holds at this number.
 pub fn holds_at(rt: &impl Abort, it: bool, at: &str, number: u64) {
     assert!(rt; it, "{at} {number}");
 }
 
-/// A run whose device was to fail at this call wrote a beginning of the text. Where it came to the call it ended there, with
-/// this fault; else it ended well, and wrote all of it.
+/// Asserts that a run whose device was to fail at this call wrote a prefix of the text. If it made the call, it ended there, with this
+/// fault; otherwise it succeeded, and wrote everything.
 pub fn ends_at_a_failure(
     rt: &impl Abort,
     call: u64,

@@ -1,5 +1,5 @@
 use Rattle.reg_programs_tests.proofs.announcing.serve_one.Given as goal
 
--- the history that was just opened, and the trust domain that was parsed
+-- the newly opened history, and the trust domain that was parsed
 abbrev pub ghosts-serve : goal.ghosts-serve
 ghosts-serve g a = record { history = a.opened.seen.book; domain = a.kept }

@@ -1,5 +1,5 @@
 use Rattle.reg_programs_tests.proofs.hosting.host.Given as goal
 
--- the history that was just opened, and the trust domain that was parsed
+-- the newly opened history, and the trust domain that was parsed
 abbrev pub ghosts-host_by : goal.ghosts-host_by
 ghosts-host_by g a = record { history = a.opened.seen.book; domain = a.kept }

@@ -1,5 +1,5 @@
 use Rattle.reg_programs_tests.proofs.sessions.run_alone.Given as goal
 
--- the history that was just opened, and the trust domain that was parsed
+-- the newly opened history, and the trust domain that was parsed
 abbrev pub ghosts-session_of : goal.ghosts-session_of
 ghosts-session_of g a = record { history = a.opened.seen.book; domain = a.kept }
