@@ -58,7 +58,7 @@ func parse(words []string) (s settings, err error) {
 	if host, _ := os.Hostname(); s.Name == "" {
 		s.Name = host + "/" + s.listen
 	}
-	s.Operators = strings.Split(*operators, ",")
+	s.Operators, s.Limits = strings.Split(*operators, ","), server.UsualLimits
 	isTLS := s.files != server.Files{}
 	switch {
 	case flags.NArg() > 0:

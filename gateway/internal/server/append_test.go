@@ -20,7 +20,7 @@ func TestCollect(t *testing.T) {
 		{"the longest line", 2, 1 << 20, 1},
 		{"few lines", 7, 1, 7},
 	} {
-		g := New(s.log, Options{})
+		g := New(s.log, Options{Limits: s.limits})
 		for i := 0; i < c.count; i++ {
 			g.changes <- &request{line: make([]byte, c.size), left: &atomic.Bool{}}
 		}

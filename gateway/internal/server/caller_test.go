@@ -146,9 +146,6 @@ func handshake(t *testing.T, server *tls.Config, client *tls.Config) (string, er
 
 // TestCallers checks what callers with certificates may send, and that a connection outlives the time for a handshake.
 func TestCallers(t *testing.T) {
-	long := handshakeTime
-	t.Cleanup(func() { handshakeTime = long })
-	handshakeTime = time.Second
 	a := newAuthority(t)
 	a.leaf("server")
 	config, err := a.files("server").Config()
@@ -156,6 +153,7 @@ func TestCallers(t *testing.T) {
 		t.Fatal(err)
 	}
 	s := newSite(t)
+	s.limits.Handshake = time.Second
 	g, _, _ := s.gateway("a")
 	g.options.TLS, g.options.Operators = config, []string{n2}
 	on, err := net.Listen("tcp", "127.0.0.1:0")
@@ -191,7 +189,7 @@ func TestCallers(t *testing.T) {
 		got, err := in.ReadString('\n')
 		s.expect(c.name, []string{got}, c.want+"\n")
 		if c.name == "an operator" {
-			time.Sleep(handshakeTime * 3 / 2)
+			time.Sleep(s.limits.Handshake * 3 / 2)
 			fmt.Fprintln(conn, c.line)
 			got, err = in.ReadString('\n')
 			s.expect(c.name+" after the time for a handshake", []string{got}, answered(2, 0)+"\n")

@@ -20,8 +20,15 @@ import (
 	"regd/gateway/internal/wire"
 )
 
-// How long a caller may take for its TLS handshake, and to read when its answers fill all buffers.
-var handshakeTime, writeTime = 10 * time.Second, 60 * time.Second
+// Limits are how long a gateway waits.
+type Limits struct {
+	Answer, After    time.Duration // for an answer, after which the connection ends; for the commit number that a query names
+	Handshake, Write time.Duration // for the TLS handshake of a caller; for a caller to read when its answers fill all buffers
+	Votes            time.Duration // between two looks at the votes
+}
+
+// UsualLimits are those of the program. Tests shorten some.
+var UsualLimits = Limits{20 * time.Second, 2 * time.Second, 10 * time.Second, 60 * time.Second, 5 * time.Second}
 
 // Options configure a gateway.
 type Options struct {
@@ -30,6 +37,7 @@ type Options struct {
 	Replica   replica.Options
 	TLS       *tls.Config // nil: callers come in plain text, and all are operators
 	Operators []string    // SPIFFE IDs that may send every line
+	Limits    Limits
 }
 
 // A Gateway serves callers.
@@ -116,7 +124,7 @@ func (g *Gateway) receive(ctx context.Context, conn net.Conn, isFresh bool) {
 	id, isOperator := "", true
 	if g.options.TLS != nil {
 		secure := tls.Server(conn, g.options.TLS)
-		conn.SetDeadline(time.Now().Add(handshakeTime))
+		conn.SetDeadline(time.Now().Add(g.options.Limits.Handshake))
 		if secure.HandshakeContext(ctx) != nil {
 			return
 		}

@@ -40,6 +40,8 @@ type site struct {
 	ctx   context.Context
 	store *etcdtest.Server
 	log   *etcd.Log
+	// limits of the gateways that start from now on
+	limits Limits
 }
 
 func newSite(t *testing.T) *site {
@@ -47,7 +49,7 @@ func newSite(t *testing.T) *site {
 	t.Cleanup(store.CloseClientConnections)
 	ctx, cancel := context.WithTimeout(context.Background(), 50*time.Second)
 	t.Cleanup(cancel)
-	s := &site{t, ctx, store, etcd.New([]string{store.URL}, "r/", nil)}
+	s := &site{t, ctx, store, etcd.New([]string{store.URL}, "r/", nil), UsualLimits}
 	if err := s.log.Open(ctx, "ex.org"); err != nil {
 		t.Fatal(err)
 	}
@@ -56,7 +58,8 @@ func newSite(t *testing.T) *site {
 
 // gateway starts a gateway, and returns it with the addresses of its two ports.
 func (s *site) gateway(name string) (*Gateway, string, string) {
-	g := New(s.log, Options{Name: name, Program: "p", Replica: replica.Options{Program: os.Args[0], Domain: "ex.org", Workers: 3}})
+	g := New(s.log, Options{Name: name, Program: "p", Limits: s.limits,
+		Replica: replica.Options{Program: os.Args[0], Domain: "ex.org", Workers: 3}})
 	ctx, stop := context.WithCancel(s.ctx)
 	var addresses []string
 	ready, ended := make(chan struct{}), make(chan error, 1)
@@ -202,7 +205,7 @@ func TestGateways(t *testing.T) {
 	}
 	begin := time.Now()
 	s.expect("a query that is too early", s.call(first, `{"ops":[{"op":"show"}],"after":99}`), `{"call":1,"code":"W1","place":40,"result":"refused"}`)
-	if took := time.Since(begin); took < afterTime {
+	if took := time.Since(begin); took < s.limits.After {
 		t.Errorf("it waited for %v", took)
 	}
 	_, third, _ := s.gateway("c")
@@ -281,7 +284,7 @@ func TestUnknownAppend(t *testing.T) {
 	s := newSite(t)
 	s.log.Append(s.ctx, 1, []byte("a"))
 	s.log.Cut(s.ctx, 1)
-	g := New(s.log, Options{})
+	g := New(s.log, Options{Limits: s.limits})
 	go g.appendChanges(s.ctx)
 	first := &request{line: []byte(prune), reply: make(chan []byte, 1), left: &atomic.Bool{}}
 	s.store.LoseAnswers(1)
@@ -312,10 +315,8 @@ func TestUnknownAppend(t *testing.T) {
 // TestNoAnswer lets etcd refuse everything. After some time the connection of a change ends, and that of a fresh query; other queries are answered.
 // Of the changes whose callers have left, only the one that was being appended is made.
 func TestNoAnswer(t *testing.T) {
-	long := waitTime
-	t.Cleanup(func() { waitTime = long })
-	waitTime = 300 * time.Millisecond
 	s := newSite(t)
+	s.limits.Answer = 300 * time.Millisecond
 	_, usual, fresh := s.gateway("a")
 	s.store.Refuse(1 << 30)
 	begin := time.Now()
@@ -371,9 +372,8 @@ func TestCallerLeft(t *testing.T) {
 
 // TestSlowCallers checks that a caller that never reads, and one that never begins its handshake, are cut off.
 func TestSlowCallers(t *testing.T) {
-	defer func(h, w time.Duration) { handshakeTime, writeTime = h, w }(handshakeTime, writeTime)
-	handshakeTime, writeTime = 100*time.Millisecond, 100*time.Millisecond
 	s := newSite(t)
+	s.limits.Handshake, s.limits.Write = 100*time.Millisecond, 100*time.Millisecond
 	g, address, _ := s.gateway("a")
 	conn, _ := s.dial(address)
 	conn.(*net.TCPConn).SetReadBuffer(4096)
@@ -387,7 +387,7 @@ func TestSlowCallers(t *testing.T) {
 			t.Fatal("a caller that never reads is served")
 		}
 	}
-	secure := New(s.log, Options{TLS: &tls.Config{}})
+	secure := New(s.log, Options{TLS: &tls.Config{}, Limits: s.limits})
 	on, err := net.Listen("tcp", "127.0.0.1:0")
 	if err != nil {
 		t.Fatal(err)
@@ -435,7 +435,7 @@ func TestStatus(t *testing.T) {
 	if code != 200 || !reflect.DeepEqual(values, want) || silent > 5 {
 		t.Errorf("got %d, %v", code, values)
 	}
-	code, values = status(t, New(s.log, Options{}))
+	code, values = status(t, New(s.log, Options{Limits: s.limits}))
 	if code != 503 || values["ready"] != false || values["disputed"] != false || values["silent"].(float64) > 1 {
 		t.Errorf("without a replica: got %d, %v", code, values)
 	}

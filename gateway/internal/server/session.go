@@ -12,9 +12,6 @@ import (
 	"regd/gateway/internal/wire"
 )
 
-// waitTime is how long a caller waits for an answer; then the connection ends. afterTime is how long a query waits for the commit number of its caller.
-var waitTime, afterTime = 20 * time.Second, 2 * time.Second
-
 const (
 	mostRow    = 256 // lines of a connection that are under way
 	retryTime  = 2 * time.Millisecond
@@ -111,7 +108,7 @@ func (s *session) add(line []byte) *request {
 // query sends a line to the replica. It returns false if the session ends.
 func (s *session) query(ctx context.Context, line []byte) bool {
 	if s.isFresh {
-		late, cancel := context.WithTimeout(ctx, waitTime)
+		late, cancel := context.WithTimeout(ctx, s.options.Limits.Answer)
 		defer cancel()
 		if head, err := s.freshHead(late); err != nil || !s.board.wait(late, head, 0) {
 			return false
@@ -122,7 +119,7 @@ func (s *session) query(ctx context.Context, line []byte) bool {
 		if !s.writeAnswers(ctx, 0) {
 			return false
 		}
-		late, cancel := context.WithTimeout(ctx, afterTime)
+		late, cancel := context.WithTimeout(ctx, s.options.Limits.After)
 		defer cancel()
 		s.board.wait(late, 0, after) // if it is still too early, regd says W1
 	}
@@ -172,7 +169,7 @@ func (s *session) await(ctx context.Context, q *request) []byte {
 	if len(q.reply) == 0 && !s.flush() {
 		return nil
 	}
-	late := time.NewTimer(waitTime) // a context for each line would make all connections wait for one lock
+	late := time.NewTimer(s.options.Limits.Answer) // a context for each line would make all connections wait for one lock
 	defer late.Stop()
 	for {
 		select {
@@ -202,7 +199,7 @@ func (s *session) flush() bool {
 	if len(s.out) == 0 {
 		return true
 	}
-	s.conn.SetWriteDeadline(time.Now().Add(writeTime))
+	s.conn.SetWriteDeadline(time.Now().Add(s.options.Limits.Write))
 	_, err := s.conn.Write(s.out)
 	s.out = s.out[:0]
 	return err == nil

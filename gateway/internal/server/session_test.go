@@ -84,7 +84,7 @@ func TestRow(t *testing.T) {
 	s := newSite(t)
 	short := `{"ops":[{"op":"prune"}]}`
 	for line, want := range map[string]int{short: mostRow, short + strings.Repeat(" ", wire.MaxLine-len(short)): 1} {
-		g := New(s.log, Options{}) // which makes no entries of its changes
+		g := New(s.log, Options{Limits: s.limits}) // which makes no entries of its changes
 		inner, outer := net.Pipe()
 		ctx, cancel := context.WithCancel(s.ctx)
 		ended := make(chan struct{})
@@ -121,7 +121,7 @@ func (w *written) Write(text []byte) (int, error) {
 // rowOf returns a session with the answers to changes, of which a nil one can't be known.
 func rowOf(s *site, answers ...[]byte) (*session, *written) {
 	conn := &written{}
-	made := &session{Gateway: New(s.log, Options{}), conn: conn, isChanging: true}
+	made := &session{Gateway: New(s.log, Options{Limits: s.limits}), conn: conn, isChanging: true}
 	for _, answer := range answers {
 		made.add(nil).answer(answer)
 	}
@@ -148,10 +148,8 @@ func TestWriteAnswers(t *testing.T) {
 
 // TestAnswersDoNotWait checks that an answer is sent although a later line of the caller gets none, or waits for a commit.
 func TestAnswersDoNotWait(t *testing.T) {
-	long := afterTime
-	t.Cleanup(func() { afterTime = long })
-	afterTime = 10 * time.Second
 	s := newSite(t)
+	s.limits.After = 10 * time.Second
 	_, address, _ := s.gateway("a")
 	for name, second := range map[string]string{"an early line": `{"ops":[],"after":99}`, "a line without an answer": `{"ops":[{"op":"show","hint":"HANG"}]}`} {
 		conn, in := s.dial(address)
@@ -168,10 +166,8 @@ func TestAnswersDoNotWait(t *testing.T) {
 // TestFreshAnswersDoNotWait sends two fresh queries together. The worker is late, so the answer to the first one comes after two seconds. Only then is
 // etcd asked for the second one, and if it doesn't answer, the caller still has the first answer.
 func TestFreshAnswersDoNotWait(t *testing.T) {
-	long := waitTime
-	t.Cleanup(func() { waitTime = long })
-	waitTime = 4 * time.Second
 	s := newSite(t)
+	s.limits.Answer = 4 * time.Second
 	g, usual, fresh := s.gateway("a")
 	s.expect("a change", s.call(usual, `{"ops":[{"op":"prune","hint":"LATE"}]}`), committed(1, 1))
 	conn, in := s.dial(fresh)
@@ -231,10 +227,8 @@ func TestAnswerOnce(t *testing.T) {
 
 // TestPastAfter checks that a query with the number of a commit that is there doesn't wait for the lines before it.
 func TestPastAfter(t *testing.T) {
-	long := waitTime
-	t.Cleanup(func() { waitTime = long })
-	waitTime = 300 * time.Millisecond
 	s := newSite(t)
+	s.limits.Answer = 300 * time.Millisecond
 	g, address, _ := s.gateway("a")
 	s.expect("a change", s.call(address, prune), committed(1, 1))
 	made := &session{Gateway: g, conn: &written{}}
@@ -304,7 +298,7 @@ func TestSlowReplica(t *testing.T) {
 func TestFreshHead(t *testing.T) {
 	s := newSite(t)
 	s.log.Append(s.ctx, 1, []byte("a"))
-	g := New(s.log, Options{})
+	g := New(s.log, Options{Limits: s.limits})
 	s.store.Refuse(1 << 30)
 	short, cancel := context.WithTimeout(s.ctx, 500*time.Millisecond)
 	defer cancel()
@@ -352,7 +346,7 @@ func TestReplicaIsAway(t *testing.T) {
 	within(t, "no other replica", func() bool { now, _ = g.board.read(); return now != nil })
 	s.log.Append(s.ctx, 1, etcd.JoinEntry("x", [][]byte{[]byte(prune), []byte(`{"ops":[{"op":"prune","hint":"KILL"}]}`)}))
 	within(t, "the replica stays", func() bool { now, _ = g.board.read(); return now == nil })
-	other := New(s.log, Options{Replica: g.options.Replica})
+	other := New(s.log, Options{Replica: g.options.Replica, Limits: s.limits})
 	ctx, stop := context.WithCancel(s.ctx)
 	ended := make(chan error, 1)
 	go func() { ended <- other.Run(ctx, func(context.Context) error { return errors.New("it is ready") }) }()
@@ -374,7 +368,7 @@ func TestRunEnds(t *testing.T) {
 	for _, name := range []string{"a", "b"} {
 		s.log.Put(s.ctx, "sum/p/00000000000003e8/"+name, []byte("00"))
 	}
-	g := New(s.log, Options{Program: "p", Name: "c", Replica: replica.Options{Program: os.Args[0], Domain: "ex.org", Workers: 2}})
+	g := New(s.log, Options{Program: "p", Name: "c", Limits: s.limits, Replica: replica.Options{Program: os.Args[0], Domain: "ex.org", Workers: 2}})
 	isOver, begin := false, time.Now()
 	err := g.Run(s.ctx, func(ctx context.Context) error {
 		g.executed(replica.State{Entry: voteInterval - 1})

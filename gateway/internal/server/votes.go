@@ -16,9 +16,6 @@ const (
 	votesWatched, votesLeft = 4, 64
 )
 
-// voteTime is the time between two looks at the votes.
-var voteTime = 5 * time.Second
-
 // ErrOutvoted is returned when a majority of the gateways has another checksum.
 var ErrOutvoted = errors.New("a majority of the gateways has another checksum")
 
@@ -44,7 +41,7 @@ func (g *Gateway) compare(ctx context.Context) error {
 		select {
 		case <-ctx.Done():
 			return ctx.Err()
-		case <-time.After(voteTime):
+		case <-time.After(g.options.Limits.Votes):
 		case mark := <-g.marks:
 			if last = append(last, mark); len(last) > votesWatched {
 				last = last[1:]

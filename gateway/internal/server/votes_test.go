@@ -38,11 +38,9 @@ func TestJudge(t *testing.T) {
 
 // TestLooks checks that a gateway looks at the votes again although it has none of its own to add, and forgets a difference that is gone or old.
 func TestLooks(t *testing.T) {
-	long := voteTime
-	t.Cleanup(func() { voteTime = long })
-	voteTime = 20 * time.Millisecond
 	s := newSite(t)
-	g := New(s.log, Options{Program: "p", Name: "a"})
+	s.limits.Votes = 20 * time.Millisecond
+	g := New(s.log, Options{Program: "p", Name: "a", Limits: s.limits})
 	ctx, stop := context.WithCancel(s.ctx)
 	ended := make(chan error, 1)
 	go func() { ended <- g.compare(ctx) }()
@@ -85,7 +83,7 @@ func TestVotes(t *testing.T) {
 	}
 	ended := map[string]chan error{}
 	start := func(program, name string, sum byte) *Gateway {
-		g, end := New(s.log, Options{Program: program, Name: name}), make(chan error, 1)
+		g, end := New(s.log, Options{Program: program, Name: name, Limits: s.limits}), make(chan error, 1)
 		ended[name] = end
 		go func() { end <- g.compare(s.ctx) }()
 		mark(g, voteInterval, sum)

@@ -28,9 +28,10 @@ def need(*commands):
     if os.geteuid() != 0:
         print(f"{name}: run `sudo {' '.join(words)}` first", file=sys.stderr)
         sys.exit(2)
-    print(f"{name}: {' '.join(words)}", file=sys.stderr)
-    # packages may start a service on the usual port, which nothing here uses
-    subprocess.run(words, check=True, stdout=subprocess.DEVNULL, env={**os.environ, "DEBIAN_FRONTEND": "noninteractive"})
+    # a new machine has no list of packages; and packages may start a service on the usual port, which nothing here uses
+    for command in (["apt-get", "update"], words):
+        print(f"{name}: {' '.join(command)}", file=sys.stderr)
+        subprocess.run(command, check=True, stdout=subprocess.DEVNULL, env={**os.environ, "DEBIAN_FRONTEND": "noninteractive"})
 
 
 def go(*words, env=None, cwd=SOURCES, **more):
