@@ -6,9 +6,9 @@
 //! - [`run_settings`]: the program that the [`Settings`] request, over an input and an output.
 //! - [`session`]: the lines of one connection, answered through a seat of a shared registry; [`sessions_law`]: what the
 //!   seat has seen only grows.
-//! - [`serve`]: the program `regd serve`, with a session for each connection; [`serve_connections`]: the same at an existing
-//!   listener, with the workers' seats ([`seats_of`]) and a [`Queue`] of connections for each ([`queues_of`]); a [`QueueState`]
-//!   says which worker sleeps.
+//! - [`serve`]: the program `regd serve`, with a session for each connection; [`Server`]: its parameters. [`serve_connections`]:
+//!   the same at an existing listener, with what the workers share ([`ServerContext`]), their seats ([`seats_of`]) and a [`Queue`]
+//!   of connections for each ([`queues_of`]); a [`QueueState`] says which worker sleeps.
 //! - [`ServeFault`]: why a server ended before its last connection did.
 //! - [`Ended`]: how a run ended; [`status`]: its exit status; [`Told`]: what standard error gets.
 #![tactic(auto)]
@@ -32,6 +32,6 @@ pub use line_engines::{
 pub use programs::run_settings;
 pub use queue::{Queue, QueueState, queues_of};
 pub use serve_fault::ServeFault;
-pub use server::{seats_of, serve, serve_connections};
+pub use server::{Server, ServerContext, seats_of, serve, serve_connections};
 pub use session_engine::{session, sessions_law};
 pub use told::Told;

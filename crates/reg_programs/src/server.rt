@@ -11,20 +11,54 @@ use reg_lines::{CountedDevice, Input, Output};
 use shared_registry::{Naming, Opened, Registry, Seat};
 use spiffe_name::TrustDomain;
 use std::alloc::Global;
+use std::marker::Brand;
 use std::net::{Net, OpenListener, SocketAddr, TcpListener, TcpStream};
 use std::sync::Wait;
 use std::thread::Threads;
 use std::time::Clock;
 use std::{io, thread};
 
+/// The parameters of a server.
+#[derive(Clone, Copy)]
+pub struct Server<'a> {
+    /// The trust domain of its book.
+    pub domain: &'a TrustDomain,
+    /// The seed of the ids of creates that come without one. Those of connection j, counted from 0, get the ids of its stream j.
+    pub seed: [u8; 32],
+    /// Where it listens, how many workers it has, and how many connections it serves.
+    pub plan: ServerPlan,
+}
+
+/// What the workers of a server share: the registry, and how their sessions are run.
+#[derive(Drop)]
+pub struct ServerContext<'a, J: Naming, R> {
+    pub rt: &'a R,
+    pub alloc: Global,
+    pub registry: &'a Registry<J>,
+    /// The registry's trust domain.
+    pub domain: &'a TrustDomain,
+    /// The seed of the ids, as in [`Server`].
+    pub seed: [u8; 32],
+    pub ghost own: { domain.now ≡ J.domain },
+}
+
 /// Listens, prints the address of the listener, serves the planned number of connections through a shared registry with an empty book,
 /// and returns when the last one has ended. Connection j, counted from 0, goes to worker j mod N of N. A worker has one seat, and
-/// serves its connections one after another. Creates without an id get ids of the seed: those of connection j get the ids of its
-/// stream j. The sessions borrow the trust domain, and `kept` is a copy of it for the registry.
+/// serves its connections one after another.
 ///
 /// The contract says nothing about the bytes of a connection; `session` has a contract over devices with known bytes. The function
 /// waits for connections and for their bytes, and isn't guaranteed to return.
 pub fn serve<
+    R: Threads + Wait + Clock + Print + Net<Listener = TcpListener, Stream = TcpStream> + Sync,
+>(rt: &R, alloc: Global, server: Server<'_>) -> Result<(), ServeFault>
+    requires { 0 < server.plan.workers }
+{
+    let kept = server.domain.clone()?;
+    serve_opened::<Brand, _>(rt, alloc, Opened::new(), kept, server)
+}
+
+/// Serves the connections through a registry of this history. `kept` is a copy of the trust domain, which the registry owns.
+fn serve_opened<
     J: Naming + Send + Sync,
     R: Threads + Wait + Clock + Print + Net<Listener = TcpListener, Stream = TcpStream> + Sync,
 >(
@@ -32,38 +66,37 @@ pub fn serve<
     alloc: Global,
     opened: Opened,
     kept: TrustDomain,
-    domain: &TrustDomain,
-    seed: [u8; 32],
-    plan: ServerPlan,
+    server: Server<'_>,
 ) -> Result<(), ServeFault>
     requires history { opened.seen.book ≡ J.history }
     requires kept { kept ≡ J.domain }
-    requires domain { domain.now ≡ J.domain }
-    requires workers { 0 < plan.workers }
+    requires domain { server.domain.now ≡ J.domain }
+    requires workers { 0 < server.plan.workers }
 {
+    let Server { domain, seed, plan } = server;
     let registry = Registry::<J>::new(alloc, opened, kept)?;
-    let served = listen(rt, alloc, &registry, domain, seed, plan);
+    let context = ServerContext {
+        rt,
+        alloc,
+        registry: &registry,
+        domain,
+        seed,
+    };
+    let served = listen(&context, plan);
     registry.close(rt);
     served
 }
 
-/// Serves the connections to the address of the plan, through this registry.
+/// Serves the connections to the address of the plan.
 fn listen<
     J: Naming + Send + Sync,
     R: Threads + Wait + Clock + Print + Net<Listener = TcpListener, Stream = TcpStream> + Sync,
->(
-    rt: &R,
-    alloc: Global,
-    registry: &Registry<J>,
-    domain: &TrustDomain,
-    seed: [u8; 32],
-    plan: ServerPlan,
-) -> Result<(), ServeFault>
-    requires domain { domain.now ≡ J.domain }
-    requires workers { 0 < plan.workers }
+>(context: &ServerContext<'_, J, R>, plan: ServerPlan) -> Result<(), ServeFault>
+    requires { 0 < plan.workers }
 {
+    let (rt, alloc) = (context.rt, context.alloc);
     let workers = plan.workers as usize;
-    let seats = seats_of(rt, alloc, registry, workers)?;
+    let seats = seats_of(rt, alloc, context.registry, workers)?;
     let queues = queues_of(alloc, workers)?;
     let Ok(listener) = TcpListener::bind(rt, plan.listen) else {
         return Err(ServeFault::Listen);
@@ -75,11 +108,7 @@ fn listen<
         return Err(ServeFault::Output);
     }
     serve_connections(
-        rt,
-        alloc,
-        registry,
-        domain,
-        seed,
+        context,
         seats,
         queues.as_slice(),
         listener,
@@ -122,25 +151,20 @@ pub fn serve_connections<
     R: Threads + Wait + Clock + Sync,
     L: OpenListener<Stream = TcpStream> + Drop,
 >(
-    rt: &R,
-    alloc: Global,
-    registry: &Registry<J>,
-    domain: &TrustDomain,
-    seed: [u8; 32],
+    context: &ServerContext<'_, J, R>,
     mut seats: Vec<Seat<J>>,
     queues: &[Queue],
     listener: L,
     connections: u64,
 ) -> Result<(), ServeFault>
-    requires domain { domain.now ≡ J.domain }
     requires workers { 0 < length queues.now }
     requires seats { vec_len seats ≡ length queues.now }
 {
+    let rt = context.rt;
     thread::scope(
         thread::scope_env(),
         rt,
         |scope|
-            requires domain { domain.now ≡ J.domain }
             requires workers { 0 < length queues.now }
             requires seats { vec_len seats ≡ length queues.now }
         {
@@ -148,14 +172,7 @@ pub fn serve_connections<
                 let Some(seat) = seats.pop() else {
                     unreachable!()
                 };
-                if scope
-                    .spawn(
-                        move ||
-                            requires { domain.now ≡ J.domain }
-                        { work(rt, alloc, registry, domain, seed, seat, queue) },
-                    )
-                    .is_err()
-                {
+                if scope.spawn(move || work(context, seat, queue)).is_err() {
                     close_all(rt, queues);
                     return Err(ServeFault::NoMemory);
                 }
@@ -168,49 +185,32 @@ pub fn serve_connections<
 }
 
 /// Runs one worker with its seat: it serves the connections of its queue, one after another.
-fn work<J: Naming, R: Wait>(
-    rt: &R,
-    alloc: Global,
-    registry: &Registry<J>,
-    domain: &TrustDomain,
-    seed: [u8; 32],
-    mut seat: Seat<J>,
-    queue: &Queue,
-)
-    requires domain { domain.now ≡ J.domain }
-{
-    for _ in rt.forever() {
-        let Some(connection) = queue.take(rt) else {
+fn work<J: Naming, R: Wait>(context: &ServerContext<'_, J, R>, mut seat: Seat<J>, queue: &Queue) {
+    for _ in context.rt.forever() {
+        let Some(connection) = queue.take(context.rt) else {
             break
         };
-        seat = attend(rt, alloc, registry, domain, seed, seat, &connection);
+        seat = attend(context, seat, &connection);
     }
 }
 
 /// Serves one connection, closes it in any case, and returns the seat.
 fn attend<J: Naming, R: Wait>(
-    rt: &R,
-    alloc: Global,
-    registry: &Registry<J>,
-    domain: &TrustDomain,
-    seed: [u8; 32],
+    context: &ServerContext<'_, J, R>,
     seat: Seat<J>,
     connection: &Connection,
-) -> Seat<J>
-    requires domain { domain.now ≡ J.domain }
-{
+) -> Seat<J> {
     // so a reply is sent without delay; if the option can't be set, replies are sent all the same
     let _ = connection.stream.set_nodelay(true);
-    let ids = connection.ids(seed);
     let mut input = Input::new(CountedDevice::new(&connection.stream));
     let mut output = Output::new(CountedDevice::new(&connection.stream));
     let (seat, _) = session(
-        rt,
-        alloc,
-        registry,
-        domain,
+        context.rt,
+        context.alloc,
+        context.registry,
+        context.domain,
         seat,
-        ids,
+        connection.ids(context.seed),
         &mut input,
         &mut output,
     );

@@ -3,11 +3,9 @@
 use crate::hosting::exchange;
 use crate::staged::{TURNS, Watched};
 use crate::wanted::{holds, is_text};
-use reg_programs::{ServeFault, ServerPlan, serve};
-use shared_registry::Opened;
+use reg_programs::{ServeFault, Server, ServerPlan, serve};
 use spiffe_name::TrustDomain;
 use std::alloc::Global;
-use std::marker::Brand;
 use std::net::{Ipv4Addr, Net, SocketAddrV4, TcpListener, TcpStream};
 use std::process::Abort;
 use std::sync::Wait;
@@ -45,13 +43,17 @@ fn serve_one<
     R: Threads + Wait + Clock + Print + Net<Listener = TcpListener, Stream = TcpStream> + Sync,
 >(rt: &R, alloc: Global) -> Result<Result<(), ServeFault>, Fail> {
     let domain = TrustDomain::parse(alloc, "ex.org")?;
-    let kept = domain.clone()?;
     let plan = ServerPlan {
         listen: SocketAddrV4::new(Ipv4Addr::LOCALHOST, 0),
         workers: 1,
         connections: 1,
     };
-    Ok(serve::<Brand, _>(rt, alloc, Opened::new(), kept, &domain, [0; 32], plan))
+    let server = Server {
+        domain: &domain,
+        seed: [0; 32],
+        plan,
+    };
+    Ok(serve(rt, alloc, server))
 }
 
 /// Asserts that the server prints the address of its listener, and serves there.

@@ -3,7 +3,7 @@
 ghost use Rattle.std.specs.Prelude.{◌≡◌, ◌<◌, length, vec_len};
 
 use crate::staged::{Staged, TURNS, Watched, become_closed};
-use reg_programs::{Queue, ServeFault, queues_of, seats_of, serve_connections};
+use reg_programs::{Queue, ServeFault, ServerContext, queues_of, seats_of, serve_connections};
 use shared_registry::{Naming, Opened, Registry, Seat};
 use spiffe_name::TrustDomain;
 use std::alloc::Global;
@@ -242,7 +242,14 @@ fn both<
 {
     let address = real.local_addr()?;
     let watched = Watched::new(rt, alloc);
-    let runtime = &watched;
+    let context = ServerContext {
+        rt: &watched,
+        alloc,
+        registry,
+        domain,
+        seed: [0; 32],
+    };
+    let shared = &context;
     let calls = AtomicU64::new(0);
     let listener = Staged {
         rt,
@@ -256,22 +263,9 @@ fn both<
     let (ended, answers) = thread::join(
         rt,
         ||
-            requires domain { domain.now ≡ J.domain }
             requires workers { 0 < length queues.now }
             requires seats { vec_len seats ≡ length queues.now }
-        {
-            serve_connections(
-                runtime,
-                alloc,
-                registry,
-                domain,
-                [0; 32],
-                seats,
-                queues,
-                listener,
-                connections,
-            )
-        },
+        { serve_connections(shared, seats, queues, listener, connections) },
         || answers_of(rt, alloc, address, queues, callers),
     );
     Ok(Hosted {

@@ -8,11 +8,8 @@ ghost use Rattle.std.specs.Prelude.{◌≡◌, ◌<◌, None};
 
 use reg_lines::{CountedDevice, Input, Output};
 use reg_programs::{
-    Ended, LineFault, Outcome, RunFault, ServeFault, ServerPlan, Settings, run_settings, serve,
-    status,
+    Ended, LineFault, Outcome, RunFault, Server, ServerPlan, Settings, run_settings, serve, status,
 };
-use shared_registry::Opened;
-use std::marker::Brand;
 use std::net::{Net, TcpListener, TcpStream};
 use std::process::ExitCode;
 use std::rt::Env;
@@ -59,12 +56,12 @@ fn serve_settings<
 >(rt: &R, settings: Settings, plan: ServerPlan) -> Ended
     requires { 0 < plan.workers }
 {
-    let domain = settings.domain();
-    let Ok(kept) = domain.clone() else {
-        return Ended::of_server(Err(ServeFault::NoMemory));
+    let server = Server {
+        domain: settings.domain(),
+        seed: settings.seed(),
+        plan,
     };
-    let seed = settings.seed();
-    Ended::of_server(serve::<Brand, _>(rt, rt.alloc(), Opened::new(), kept, domain, seed, plan))
+    Ended::of_server(serve(rt, rt.alloc(), server))
 }
 
 /// Returns the settings that the words of the process request.
