@@ -161,15 +161,14 @@ class Prover:
         return sorted((it for it in self.proofs.values() if not it.has_run and not self.lacking(it)), key=lambda proof: -proof.chain)
 
     def group(self, first):
-        """Returns the crates for one run that begins with this one: the longest chain of crates above it, as far as what they lack besides
-        takes less time than they do. One run copies each crate out of the toolchain's store once."""
+        """Returns the crates for one run that begins with this one: the longest chain of crates above it, as far as they lack nothing else.
+        Where several proofs of a run may start, each of them gets fewer jobs."""
         found, last = [first], first
         while above := [it for it in self.proofs.values() if last.name in it.uses]:
             last = max(above, key=lambda proof: proof.chain)
-            lacking = self.lacking(last, found)
-            if any(it.has_run for it in lacking) or sum(it.estimate for it in lacking) > last.estimate:
+            if self.lacking(last, found):
                 break
-            found += [*lacking, last]
+            found.append(last)
         return found
 
     def start(self, proofs, is_first):
