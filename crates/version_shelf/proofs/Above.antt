@@ -1,4 +1,4 @@
--- Rows in order, and rows above a key.
+-- Sorted rows, and rows above a key.
 use Rattle.std.proofs.Common.{◌≡◌, Bool, true, false, cond, List, [], ◌∷◌, ◌++◌, filter, None, refl, sym, ap, ◌∙◌, arith}
 use Rattle.std.specs.declared.cmp.Ordering.{Ordering}
 use Rattle.std.specs.declared.cmp.Ordering.TheVariants.{Less, Equal, Greater}
@@ -11,13 +11,13 @@ use Rattle.std.proofs.lemmas.Cmp.{alike_right}
 use Rattle.std.proofs.lemmas.Map.Keys.{sorted_head}
 use Rattle.version_shelf.specs.Shelf.{IsInOrder, get, rows_below, rows_above}
 
--- a choice of three, by what a comparison answers
+-- case distinction by the result of a comparison
 pub by_order : {G : Type 0} (a : Ordering) → (a ≡ Less → G) → (a ≡ Equal → G) → (a ≡ Greater → G) → G
 by_order Less below same above = below refl
 by_order Equal below same above = same refl
 by_order Greater below same above = above refl
 
--- ---- what holds of each key
+-- ---- properties of all keys
 
 all_then : {K : Type 0} {P Q : K → Type 0} → ((y : K) → P y → Q y) → (ys : List K) → AllByRecursion P ys → AllByRecursion Q ys
 all_then {K} {P} {Q} gives [] all = tt
@@ -34,7 +34,7 @@ all_filter P p (x ∷ xs) all =
     elim (p x) as (λ b. AllByRecursion P (keys_of (cond b (x ∷ filter p xs) (filter p xs)))) [ true ↦ (all.0, rest) | false ↦ rest ]
 
 module _ {K V : Type 0} (cmp : K → K → Ordering) where
-  -- some of the rows are in order, too
+  -- filtered rows of a sorted list are sorted
   pub in_order_filter : (p : K × V → Bool) (rows : List (K × V)) → IsInOrder cmp rows → IsInOrder cmp (filter p rows)
   unfolding IsStrictlySortedBy
   in_order_filter p [] sorted = tt
@@ -60,7 +60,7 @@ module _ {K : Type 0} {cmp : K → K → Ordering} (o : IsTotalOrder cmp) (key :
   pub less_from_greater : (k : K) → cmp k key ≡ Greater → cmp key k ≡ Less
   less_from_greater k greater = o.antisymm key k ∙ ap ordering_reverse greater
 
-  -- no key is both below the key and equal to what equals the key
+  -- a key below the key is not equal to a key that equals it
   pub below_is_apart : (k q : K) → cmp k key ≡ Less → is_eq (cmp key q) ≡ true → is_eq (cmp k q) ≡ false
   below_is_apart k q less same = ap is_eq (sym (alike_right o key q k (equal_from _ same)) ∙ less)
 
@@ -89,7 +89,7 @@ module _ {K V : Type 0} {cmp : K → K → Ordering} (o : IsTotalOrder cmp) (key
   get_of_above [] all = refl
   get_of_above (r ∷ rs) all = rw (greater_from_less o key r.0 all.0) (get_of_above rs all.1)
 
-  -- after a row at the key, and after one above it
+  -- all rows after a row at the key, or after one above it, are above it
   pub all_above_equal : (r : K × V) (rs : List (K × V)) → IsInOrder cmp (r ∷ rs) → cmp r.0 key ≡ Equal → AllAbove cmp key rs
   all_above_equal r rs sorted same = all_then (λ y less. sym (o.congr r.0 key y same) ∙ less) (keys_of rs) (sorted_head cmp r.0 (keys_of rs) sorted)
 

@@ -1,4 +1,4 @@
--- Rows in order, of which the first are below a key and the last are above it.
+-- Sorted rows of which the first are below a key and the last are above it.
 use Rattle.std.proofs.Common.{◌≡◌, ◌+◌, ◌<◌, ◌≤◌, Bool, true, false, cond, List, [], ◌∷◌, ◌++◌, length, filter, Some, refl, ap, ◌∙◌, append-nil, length-append, arith}
 use Rattle.std.specs.declared.cmp.Ordering.{Ordering}
 use Rattle.std.specs.declared.cmp.Ordering.TheVariants.{Less, Equal, Greater}
@@ -15,7 +15,7 @@ use Rattle.version_shelf.proofs.Above.{by_order, AllAbove, below_of_above, above
 use Rattle.version_shelf.proofs.First.{from_of_above}
 use Rattle.version_shelf.proofs.Flat.{flatten-append, full_front, full_back, full_from_pages, pages_front, pages_back, full_least}
 
--- ---- the last of many parts
+-- ---- the last part of a list of pages
 
 module _ {X : Type 0} (p : X → Bool) where
   ends_append : (xs : List X) (y : X) (ys : List X) → ends p (xs ++ y ∷ ys) ≡ ends p (y ∷ ys)
@@ -27,7 +27,7 @@ module _ {X : Type 0} (p : X → Bool) where
   ends_onto xs [] passes = cc
   ends_onto xs (y ∷ ys) passes = ends_append xs y ys ∙ passes
 
-  -- where the last page's last part passes, so does the last part of all
+  -- if the last part of the last page passes, so does the last part of all
   pub ends_flatten : (pages : List (List X)) → ends (ends p) pages ≡ true → ends p (flatten pages) ≡ true
   ends_flatten [] passes = passes
   ends_flatten (x ∷ []) passes = ap (ends p) (append-nil x) ∙ passes
@@ -37,13 +37,13 @@ module _ {X : Type 0} (p : X → Bool) where
   not_empty_ends xs [] some = absurd (omega arith)
   not_empty_ends xs (y ∷ ys) some = ends_append xs y ys
 
-  -- and where it doesn't, of pages that have parts
+  -- if it doesn't, neither does the last part of all; the pages are full, so they aren't empty
   pub ends_flatten_not : (pages : List (List X)) → AreFull least_rows pages → ends (ends p) pages ≡ false → ends p (flatten pages) ≡ false
   ends_flatten_not [] full passes = refl
   ends_flatten_not (x ∷ []) full passes = ap (ends p) (append-nil x) ∙ passes
   ends_flatten_not (x ∷ y ∷ pages) full passes = not_empty_ends x (flatten (y ∷ pages)) (omega (arith, length-append y (flatten pages), full.1.0.0)) ∙ ends_flatten_not (y ∷ pages) full.1 passes
 
--- ---- rows in order
+-- ---- sorted rows
 
 module _ {K V : Type 0} (cmp : K → K → Ordering) where
   keys_front : (P : K → Type 0) (xs ys : List (K × V)) → AllByRecursion P (keys_of (xs ++ ys)) → AllByRecursion P (keys_of xs)
@@ -104,7 +104,7 @@ module _ {K V : Type 0} {cmp : K → K → Ordering} (o : IsTotalOrder cmp) (key
   get_before [] more all = get_of_above o key more all
   get_before (r ∷ rs) more all = ap (λ found. cond (is_eq (cmp r.0 key)) (Some r.1) found) (get_before rs more all)
 
-  -- rows below, rows of any kind, and rows above
+  -- all rows of the first list are below the key, and all rows of the second are above it
   pub record IsAround (xs zs : List (K × V)) : Type 0 where
     pub before : AllBelow cmp key xs
     pub behind : AllAbove cmp key zs
@@ -169,7 +169,7 @@ module _ {K V : Type 0} {cmp : K → K → Ordering} (o : IsTotalOrder cmp) (key
     pub leaves_order : IsInOrder cmp (flatten leaves)
     leaves_order = in_order_front cmp (flatten leaves) (flatten (flatten above)) (in_order_back cmp (flatten (flatten below)) (flatten leaves ++ flatten (flatten above)) middles_order)
 
-    -- where there are other middles, every leaf is full
+    -- if there are other middles, every leaf is full
     pub leaves_full : 0 < length below + length above → AreFull least_rows (flatten below ++ (leaves ++ flatten above))
     leaves_full more = full_from_pages least_rows (flatten below ++ (leaves ++ flatten above)) some_pages (omega (arith, cuts.fewest more, length-append (flatten below) (leaves ++ flatten above), length-append leaves (flatten above)))
 

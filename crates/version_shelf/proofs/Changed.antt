@@ -1,4 +1,4 @@
--- What a shelf with a row, and a shelf without a key, are.
+-- The rows of a shelf with a row, and of a shelf without a key.
 use Rattle.std.proofs.Common.{◌≡◌, ℕ, ◌+◌, ◌<◌, ◌≤◌, Bool, true, false, cond, List, [], ◌∷◌, length, Option, Some, None, is_some, refl, ap, ◌∙◌, arith}
 use Rattle.std.specs.declared.cmp.Ordering.{Ordering}
 use Rattle.std.specs.declared.cmp.Ordering.TheVariants.{Less, Equal, Greater}
@@ -14,7 +14,7 @@ use Rattle.version_shelf.proofs.Above.{by_order, all_append, all_filter, in_orde
 pub one_at_most : {K V : Type 0} (cmp : K → K → Ordering) (rows : List (K × V)) (key : K) → count_of cmp rows key ≤ 1
 one_at_most cmp rows key = elim (is_some (get cmp rows key)) as (λ b. cond b 1 0 ≤ 1) [ true ↦ omega arith | false ↦ omega arith ]
 
--- ---- the changed lists, at their first row
+-- ---- the changed lists, by the first row
 
 module _ {K V : Type 0} {cmp : K → K → Ordering} (o : IsTotalOrder cmp) (key : K) (r : K × V) (rs : List (K × V)) where
   with_less : (v : V) → cmp r.0 key ≡ Less → with_key cmp (r ∷ rs) key v ≡ r ∷ with_key cmp rs key v
@@ -30,7 +30,7 @@ module _ {K V : Type 0} {cmp : K → K → Ordering} (o : IsTotalOrder cmp) (key
       let above = all_above_greater o key r rs sorted greater in
       rw (greater, below_of_above o key rs above, above_of_above o key rs above) refl
 
--- ---- what a changed shelf is
+-- ---- properties of the changed rows
 
 twice_chosen : {V : Type 0} (b : Bool) (x y z : Option V) → cond b x z ≡ cond b x (cond b y z)
 twice_chosen true x y z = refl
@@ -66,7 +66,7 @@ module _ {K V : Type 0} {cmp : K → K → Ordering} (o : IsTotalOrder cmp) (key
       (λ same. rw (with_equal o key r rs v sorted same) (in_order_more cmp (key, v) rs (all_above_equal o key r rs sorted same) tail))
       (λ greater. rw (with_greater o key r rs v sorted greater) (in_order_more cmp (key, v) (r ∷ rs) (less_from_greater o key r.0 greater, all_above_greater o key r rs sorted greater) sorted))
 
-  -- one row more, unless the key was there
+  -- one more row, unless a row had the key
   pub length_with : (v : V) (rows : List (K × V)) → IsInOrder cmp rows → length (with_key cmp rows key v) + count_of cmp rows key ≡ length rows + 1
   length_with v [] sorted = refl
   length_with v (r ∷ rs) sorted =
@@ -79,7 +79,7 @@ module _ {K V : Type 0} {cmp : K → K → Ordering} (o : IsTotalOrder cmp) (key
   pub room_after_with : (most : ℕ) (v : V) (rows : List (K × V)) → IsInOrder cmp rows → length rows < most → length (with_key cmp rows key v) ≤ most
   room_after_with most v rows sorted room = omega (arith, length_with v rows sorted)
 
-  -- without the key there are the rows with other keys
+  -- the rows without the key are those with other keys
   without_is : (rows : List (K × V)) → IsInOrder cmp rows → without_key cmp rows key ≡ rows_apart cmp rows key
   without_is [] sorted = refl
   without_is (r ∷ rs) sorted = by_order (cmp r.0 key)
@@ -98,7 +98,7 @@ module _ {K V : Type 0} {cmp : K → K → Ordering} (o : IsTotalOrder cmp) (key
       (λ same. let found = rw same at none in cc)
       (λ greater. rw greater (ap (λ l. r ∷ l) (absent_apart rs (rw greater at none))))
 
-  -- without a key that isn't there, the rows are the same
+  -- if no row has the key, the rows without it are the same
   pub without_absent : (rows : List (K × V)) → IsInOrder cmp rows → get cmp rows key ≡ None → without_key cmp rows key ≡ rows
   without_absent rows sorted none = without_is rows sorted ∙ absent_apart rows none
 
@@ -115,7 +115,7 @@ module _ {K V : Type 0} {cmp : K → K → Ordering} (o : IsTotalOrder cmp) (key
   changes_apart rows q =
       lookup-filter-keys (λ k. is_eq (cmp k q)) (λ k. is_ne (cmp k key)) (is_ne (cmp q key)) (λ k same. ap is_ne (o.congr k q key (equal_from _ same))) rows ∙ rw (o.antisymm q key) (unless_equal (cmp key q) (get cmp rows q))
 
-  -- one row less, if the key was there
+  -- one row less, if a row had the key
   pub length_without : (rows : List (K × V)) → IsInOrder cmp rows → length (without_key cmp rows key) + count_of cmp rows key ≡ length rows
   length_without rows sorted = rw (without_is rows sorted) (length_apart rows sorted)
 

@@ -1,4 +1,4 @@
--- Where pages are cut at a key.
+-- Pages cut at a key.
 use Rattle.std.proofs.Common.{◌≡◌, ℕ, ◌+◌, ◌-◌, ◌<◌, ◌≤◌, Bool, List, [], ◌∷◌, ◌++◌, length, get_or, take, refl, sym, ap, ◌∙◌, append-nil, length-append, length-take-le, inl, inr, arith}
 use Rattle.std.proofs.lemmas.List.{take-take, get_or-take, get_or_at}
 use Rattle.version_shelf.specs.Pages.{AreFull, ArePages, Cuts, CutsAt, IsPlace, ends}
@@ -50,7 +50,7 @@ module _ {X : Type 0} (least : ℕ) where
   cuts_none [] [] (a ∷ above) parts none few = absurd (omega arith)
   cuts_none (p ∷ pages) below [] parts none few = absurd (omega (arith, ap length parts, ap length (append-nil below)))
 
--- the place of the key among all pages but the last
+-- a cut at the index of the key among all pages but the last
 module _ {X : Type 0} (passes : X → Bool) (pages others below : List (List X)) (place : ℕ) (page : List X) (above : List (List X)) where
   pub cuts_at : others ≡ take (length pages - 1) pages → IsPlace (ends passes) others place → below ≡ take place pages → length below ≡ place → pages ≡ below ++ page ∷ above → CutsAt passes below page above
   cuts_at some is front size parts =

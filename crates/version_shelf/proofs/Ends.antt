@@ -1,4 +1,4 @@
--- What the last and the first of some parts say.
+-- Whether the last or the first of a list of parts passes, and the number of comparisons of a binary search.
 use Rattle.std.proofs.Common.{◌≡◌, ℕ, ◌+◌, ◌/◌, ◌<◌, ◌≤◌, suc, zero, Bool, false, List, [], ◌∷◌, ◌++◌, length, get_or, take, drop, refl, ap, ◌∙◌, arith}
 use Rattle.std.proofs.lemmas.List.{drop_more, take_more}
 use Rattle.version_shelf.specs.Pages.{ends, starts}
@@ -9,7 +9,7 @@ module _ {X : Type 0} (p : X → Bool) where
   ends_push (y ∷ []) x = refl
   ends_push (y ∷ z ∷ xs) x = ends_push (z ∷ xs) x
 
-  -- the same of a part at its index
+  -- the same for the part at an index
   pub ends_take : (xs : List X) (i : ℕ) (d : X) → i < length xs → ends p (take (i + 1) xs) ≡ p (get_or xs i d)
   ends_take xs i d inside = ap (ends p) (take_more xs i d inside) ∙ ends_push (take i xs) (get_or xs i d)
 
@@ -20,18 +20,18 @@ module _ {X : Type 0} (p : X → Bool) where
   starts_past [] = refl
   starts_past (x ∷ xs) = starts_past xs
 
--- ---- a search by halves
+-- ---- binary search
 
 -- two to the power of n
 abbrev pub doubled : ℕ → ℕ
 doubled zero = 1
 doubled (suc n) = doubled n + doubled n
 
--- a search among so many parts ends with no more comparisons than these
+-- a binary search in this number of parts, after count comparisons, ends with at most this total
 pub data Finds (size count most : ℕ) : Type 0 where
   halvings : (left : ℕ) → size < doubled left → count + left ≤ most → Finds size count most
 
--- half of the parts, and one comparison more
+-- the same for at most half of the parts, after one more comparison
 pub finds_less : (size count most half more : ℕ) → 0 < size → half ≤ size / 2 → more ≤ count + 1 → Finds size count most → Finds half more most
 finds_less size count most half more some smaller one (halvings zero few bound) = absurd (omega arith)
 finds_less size count most half more some smaller one (halvings (suc left) few bound) = halvings left (omega arith) (omega arith)

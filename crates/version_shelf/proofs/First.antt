@@ -1,4 +1,4 @@
--- What the first of the rows from a key on says of the key.
+-- The first of the rows from a key on determines the value at the key, and the rows above it.
 use Rattle.std.proofs.Common.{◌≡◌, Bool, true, false, List, [], ◌∷◌, length, Option, Some, None, refl, sym, ap, ◌∙◌, arith}
 use Rattle.std.specs.declared.cmp.Ordering.{Ordering}
 use Rattle.std.specs.Ordering.{is_eq}
@@ -17,7 +17,7 @@ module _ {K V : Type 0} {cmp : K → K → Ordering} (o : IsTotalOrder cmp) (key
   from_of_above [] all = refl
   from_of_above (r ∷ rs) all = rw (greater_from_less o key r.0 all.0) (ap (λ l. r ∷ l) (from_of_above rs all.1))
 
-  -- what the first of the rows from the key on says of the value found at the key, and of the rows above it
+  -- the value at the key and the rows above it, given the rows from the key on: the first row is at the key, or no row is
   abbrev pub FirstFrom : Option V → List (K × V) → List (K × V) → Type 0
   FirstFrom found above [] = (found ≡ None) × (above ≡ [])
   FirstFrom found above (r ∷ rs) = (is_eq (cmp r.0 key) ≡ true → (found ≡ Some r.1) × (above ≡ rs)) × (is_eq (cmp r.0 key) ≡ false → (found ≡ None) × (above ≡ r ∷ rs))
@@ -33,7 +33,7 @@ module _ {K V : Type 0} {cmp : K → K → Ordering} (o : IsTotalOrder cmp) (key
       let above = all_above_greater o key r rs sorted greater in
       rw (greater, above_of_above o key rs above, from_of_above rs above, get_of_above o key rs above) (λ other. grind arith, λ _. (refl, refl)))
 
-  -- others are the rows from the key on; b says whether the first of them is at the key
+  -- others are the rows from the key on; b is whether the first of them is at the key
   module _ (rows : List (K × V)) (sorted : IsInOrder cmp rows) (others : List (K × V)) (from : others ≡ rows_from cmp rows key) where
     module _ (r : K × V) (above : List (K × V)) (parts : others ≡ r ∷ above) (answer : Ordering) (compared : answer ≡ cmp r.0 key) (b : Bool) (tested : b ≡ is_eq answer) where
       says : (a : Bool) → b ≡ a → is_eq (cmp r.0 key) ≡ a

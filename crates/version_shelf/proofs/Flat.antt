@@ -1,4 +1,4 @@
--- Pages, and what they hold.
+-- Lists of pages, and the parts in them.
 use Rattle.std.proofs.Common.{◌≡◌, ◌+◌, ◌-◌, ◌*◌, ◌/◌, ◌<◌, ◌≤◌, ℕ, true, false, cond, nat_lt, List, [], ◌∷◌, ◌++◌, length, take, drop, refl, sym, ap, ◌∙◌, append-nil, append_assoc, length-append, length-take-le, length-drop, take-append-drop, Result, Ok, Err, arith}
 use Rattle.std.proofs.Math.Nat.{mul-suc}
 use Rattle.std.proofs.lemmas.Bool.{ltb-true, ltb-false}
@@ -40,7 +40,7 @@ full_from_pages least [] all more = tt
 full_from_pages least (p ∷ []) all more = absurd (omega arith)
 full_from_pages least (p ∷ q ∷ ps) all more = all
 
--- some of the pages that stand beside one another are pages
+-- a suffix, and a prefix, of pages have the sizes of pages
 pub pages_back : {X : Type 0} (least : ℕ) (ps qs : List (List X)) → ArePages least (ps ++ qs) → ArePages least qs
 pages_back least [] qs all = all
 pages_back least (p ∷ []) [] all = tt
@@ -53,12 +53,12 @@ pages_front least (p ∷ []) [] all = all
 pages_front least (p ∷ []) (q ∷ qs) all = all.0.1
 pages_front least (p ∷ r ∷ ps) qs all = full_front least (p ∷ r ∷ ps) qs all
 
--- full pages hold as many parts as they have to
+-- a lower bound for the number of parts in full pages
 pub full_least : {X : Type 0} (least : ℕ) (ps : List (List X)) → AreFull least ps → least * length ps ≤ length (flatten ps)
 full_least least [] all = omega arith
 full_least least (p ∷ ps) all = rw (mul-suc least (length ps)) (omega (arith, full_least least ps all.1, length-append p (flatten ps), all.0.0))
 
--- ---- parts in pages
+-- ---- parts cut into pages
 
 pub flatten-in_pages : {X : Type 0} (least : ℕ) (parts : List X) → flatten (in_pages least parts) ≡ parts
 flatten-in_pages least parts = elim (nat_lt (least + least) (length parts)) as (λ b. flatten (cond b (take (length parts / 2) parts ∷ drop (length parts / 2) parts ∷ []) (parts ∷ [])) ≡ parts) [
@@ -67,7 +67,7 @@ flatten-in_pages least parts = elim (nat_lt (least + least) (length parts)) as (
 ]
 
 module _ {X : Type 0} (least : ℕ) where
-  -- a list that is long enough is cut into full pages
+  -- a list of at least the least number of parts, and at most three times as many, is cut into full pages
   full-in_pages : (parts : List X) → least ≤ length parts → length parts ≤ least + least + least → AreFull least (in_pages least parts)
   full-in_pages parts enough most =
       let half : length parts / 2 ≤ length parts = omega arith in
@@ -82,7 +82,7 @@ module _ {X : Type 0} (least : ℕ) where
             ((enough, few), tt)
       ] refl
 
-  -- pages below, those of the parts, and pages above
+  -- the pages below, those of the parts, and the pages above
   pub flatten_rebuilt : (below : List (List X)) (parts : List X) (above : List (List X)) → flatten (below ++ (in_pages least parts ++ above)) ≡ flatten below ++ (parts ++ flatten above)
   flatten_rebuilt below parts above = flatten-append below (in_pages least parts ++ above) ∙ ap (λ l. flatten below ++ l) (flatten-append (in_pages least parts) above ∙ ap (λ l. l ++ flatten above) (flatten-in_pages least parts))
 
@@ -103,7 +103,7 @@ last_full least all rest page is full =
     let parts = rw is at full in
     ((full_back least rest (page ∷ []) parts).0, full_front least rest (page ∷ []) parts)
 
--- a page's parts put together with those beside it
+-- parts merged with those of the neighbour below, or above
 pub beside_left : {X : Type 0} (all below : List (List X)) (page parts behind : List X) → all ≡ below ++ page ∷ [] → flatten below ++ ((page ++ parts) ++ behind) ≡ flatten all ++ (parts ++ behind)
 beside_left all below page parts behind is = sym (ap (λ l. flatten l ++ (parts ++ behind)) is ∙ ap (λ l. l ++ (parts ++ behind)) (flatten-append below (page ∷ []) ∙ ap (λ l. flatten below ++ l) (append-nil page)) ∙ append_assoc (flatten below) page (parts ++ behind) ∙ ap (λ l. flatten below ++ l) (sym (append_assoc page parts behind)))
 

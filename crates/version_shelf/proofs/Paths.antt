@@ -1,4 +1,4 @@
--- The way down to a key, and what becomes of a shelf where the leaf there has other rows.
+-- The path from the root to a key, and the shelf after the rows of its leaf changed.
 use Rattle.std.proofs.Common.{◌≡◌, ◌+◌, ◌<◌, List, [], ◌∷◌, ◌++◌, length, Result, Ok, Err, sym, ap, ◌∙◌, append-nil, append_assoc, length-append, arith}
 use Rattle.std.specs.declared.cmp.Ordering.{Ordering}
 use Rattle.std.specs.Ordering.{is_lt}
@@ -43,10 +43,10 @@ module _ {K V : Type 0} {cmp : K → K → Ordering} (o : IsTotalOrder cmp) (key
         ∙ ap (λ l. get cmp l key) leaf_cuts.joined
         ∙ get_around o key (flatten below) rows (flatten above) (leaves_around o key leaves below rows above leaf_cuts leaf_at order))
 
--- ---- the leaf has other rows, and so its middle other leaves
+-- ---- the rows of the leaf change, and so do the leaves of its middle
 
 module _ {X : Type 0} (middles middles_below : List (List (List X))) (leaves : List (List X)) (middles_above : List (List (List X))) where
-  -- where there are other middles, every leaf is full
+  -- if there are other middles, every leaf is full
   pub others_full : Cuts least_leaves middles middles_below leaves middles_above → ArePages least_rows (flatten middles) → 0 < length middles_below + length middles_above → AreFull least_rows (flatten middles_below ++ (leaves ++ flatten middles_above))
   others_full cuts pages more =
       let all = rw cuts.joined at pages in
@@ -57,7 +57,7 @@ module _ {X : Type 0} (middles middles_below : List (List (List X))) (leaves : L
       let back = full_back least_rows (flatten middles_below) (leaves ++ flatten middles_above) all in
       pages_from_full least_rows (flatten middles_below ++ (changed ++ flatten middles_above)) (full_append least_rows (flatten middles_below) (changed ++ flatten middles_above) (full_front least_rows (flatten middles_below) (leaves ++ flatten middles_above) all) (full_append least_rows changed (flatten middles_above) full (full_back least_rows leaves (flatten middles_above) back)))
 
--- the other leaves stay as they are
+-- after the leaves of one middle change, all leaves have the sizes of pages
 pub leaves_changed : {X : Type 0} (middles middles_below : List (List (List X))) (leaves : List (List X)) (middles_above : List (List (List X))) (changed : List (List X)) → Cuts least_leaves middles middles_below leaves middles_above → ArePages least_rows (flatten middles) → ArePages least_rows changed → (0 < length middles_below + length middles_above → 1 < length changed) → ArePages least_rows (flatten middles_below ++ (changed ++ flatten middles_above))
 leaves_changed middles [] leaves [] changed cuts pages are more = rw (append-nil changed) are
 leaves_changed middles [] leaves (p ∷ above) changed cuts pages are more = around_full middles [] leaves (p ∷ above) changed (others_full middles [] leaves (p ∷ above) cuts pages (omega arith)) (full_from_pages least_rows changed are (more (omega arith)))

@@ -1,4 +1,4 @@
--- What makes middles a shelf, and what the changed ones hold.
+-- Middles that satisfy the invariant of a shelf, and the rows of changed ones.
 use Rattle.std.proofs.Common.{◌≡◌, ℕ, ◌*◌, ◌≤◌, Bool, false, cond, List, ◌∷◌, ◌++◌, length, Option, Some, None, is_some, Bor, Result, Ok, Err, refl, ap, ◌∙◌, append_assoc, inl, inr, arith}
 use Rattle.std.specs.Option.{option_copied}
 use Rattle.std.specs.Result.{IfOk, MatchResult}
@@ -53,7 +53,7 @@ module _ {K V : Type 0} (cmp : K → K → Ordering) (key : K) (old all new x y 
       ∙ ap (λ l. rows_below cmp all key ++ l) above
       ∙ ap (λ l. without_key cmp l key) same
 
--- what holds of a value holds of a result that is that value
+-- a property of a value is one of each successful result that equals it
 pub if_same : {T E : Type 0} (value : T) (Q : T → Type 0) → Q value → (r : Result T E) → IfOk r (λ new. new ≡ value) → IfOk r Q
 if_same value Q holds (Ok v) is = rw is holds
 if_same value Q holds (Err e) is = tt
@@ -62,7 +62,7 @@ pub match_same : {T E : Type 0} (value : T) (Q : T → Type 0) → Q value → (
 match_same value Q holds other (Ok v) is = rw is holds
 match_same value Q holds other (Err e) is = tt
 
--- ---- a value that was found, or wasn't
+-- ---- whether a value was found
 
 pub is_some_copied : {V : Type 0} (found : Option (Bor V)) → is_some found ≡ is_some (option_copied found)
 is_some_copied None = refl

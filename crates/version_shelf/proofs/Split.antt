@@ -1,4 +1,4 @@
--- Where a search among rows in order ends, and what stands on its two sides.
+-- The result of a search in sorted rows, and the rows on both sides of it.
 use Rattle.std.proofs.Common.{◌≡◌, ℕ, ◌+◌, ◌-◌, ◌<◌, ◌≤◌, suc, zero, Bool, true, false, cond, not, ◌&&◌, List, [], ◌∷◌, length, get_or, take, drop, filter, refl, sym, ap, ◌∙◌, inl, inr, arith}
 use Rattle.std.specs.declared.cmp.Ordering.{Ordering}
 use Rattle.std.specs.declared.cmp.Ordering.TheVariants.{Less, Equal, Greater}
@@ -16,7 +16,7 @@ use Rattle.version_shelf.specs.Shelf.{IsInOrder, rows_below, rows_between, rows_
 use Rattle.version_shelf.specs.Pages.{IsPlace, ends}
 use Rattle.version_shelf.proofs.Ends.{ends_take, starts_drop}
 
--- ---- a list whose first i elements pass, and no other
+-- ---- a list of which exactly the first i elements pass
 
 module _ {X : Type 0} (p : X → Bool) where
   none_pass : (xs : List X) → AllWithin (λ x. p x ≡ false) xs 0 (length xs) → filter p xs ≡ []
@@ -37,7 +37,7 @@ module _ {X : Type 0} (p : X → Bool) where
   filter_back [] (suc i) parts = refl
   filter_back (x ∷ xs) (suc i) parts = rw (parts.0 0 x (omega arith) (omega arith)) (filter_back xs i (λ k d low high. parts.0 (suc k) d (omega arith) (omega arith), λ k d low high. parts.1 (suc k) d (omega arith) (omega arith)))
 
--- ---- rows in order
+-- ---- sorted rows
 
 less_from : (a : Ordering) → is_lt a ≡ true → a ≡ Less
 less_from Less is = refl
@@ -57,20 +57,20 @@ not_true true not = absurd (not refl)
 not_true false not = refl
 
 module _ {K V : Type 0} {cmp : K → K → Ordering} (o : IsTotalOrder cmp) (rows : List (K × V)) (sorted : IsInOrder cmp rows) (key : K) where
-  -- the keys rise along the rows
+  -- the keys ascend
   rises : (i j : ℕ) (d : K × V) → i < j → j < length rows → cmp (get_or rows i d).0 (get_or rows j d).0 ≡ Less
   rises i j d before inside =
       let less = Less-from_sorted cmp (keys_of rows) i j d.0 sorted before (rw (length-keys_of rows) inside) in
       rw (get_or-map (λ r. r.0) rows i d d.0 (omega arith), get_or-map (λ r. r.0) rows j d d.0 inside) at less
 
-  -- a row below the key has only such rows before it
+  -- all rows before a row below the key are below it, too
   pub is_partitioned : IsPartitionedBy (λ row. is_lt (cmp row.0 key)) rows
   is_partitioned i j d le inside below = elim (cases_lt i j) [
     | inl before ↦ ap is_lt (o.trans _ _ _ (rises i j d before inside) (less_from _ below))
     | inr after ↦ let same : i ≡ j = omega arith in rw same below
   ]
 
-  -- a place is where those rows end
+  -- the index is the number of the rows below the key
   pub point_is : (i : ℕ) → IsPlace (λ row. is_lt (cmp row.0 key)) rows i → IsPartitionPoint (λ row. is_lt (cmp row.0 key) ≡ true) (λ row. is_lt (cmp row.0 key) ≡ false) rows i
   point_is i place = (
     λ k d low high.
@@ -85,14 +85,14 @@ module _ {K V : Type 0} {cmp : K → K → Ordering} (o : IsTotalOrder cmp) (row
         apart (sym first ∙ sym (starts_drop passes rows i d here) ∙ place.behind)),
   )
 
-  -- so the rows before such a row are those below the key, and the others those from it on
+  -- so the rows before the index are those below the key, and the others are those from the key on
   pub front_is : (i : ℕ) → IsPartitionPoint (λ row. is_lt (cmp row.0 key) ≡ true) (λ row. is_lt (cmp row.0 key) ≡ false) rows i → take i rows ≡ rows_below cmp rows key
   front_is i parts = sym (filter_front (λ row. is_lt (cmp row.0 key)) rows i parts)
 
   pub back_is : (i : ℕ) → IsPartitionPoint (λ row. is_lt (cmp row.0 key) ≡ true) (λ row. is_lt (cmp row.0 key) ≡ false) rows i → drop i rows ≡ rows_from cmp rows key
   back_is i parts = sym (filter_back (λ row. is_ge (cmp row.0 key)) rows i (λ k d low high. ge_from _ ∙ ap not (parts.0 k d low high), λ k d low high. ge_from _ ∙ ap not (parts.1 k d low high)))
 
--- first the rows from lo on, and of those the ones below hi
+-- the rows between lo and hi are, of the rows from lo on, those below hi
 pub between_is : {K V : Type 0} (cmp : K → K → Ordering) (lo hi : K) (rows : List (K × V)) → rows_below cmp (rows_from cmp rows lo) hi ≡ rows_between cmp rows lo hi
 between_is cmp lo hi [] = refl
 between_is cmp lo hi (r ∷ rs) = elim (is_ge (cmp r.0 lo)) as (λ b. rows_below cmp (cond b (r ∷ rows_from cmp rs lo) (rows_from cmp rs lo)) hi ≡ cond (b && is_lt (cmp r.0 hi)) (r ∷ rows_between cmp rs lo hi) (rows_between cmp rs lo hi)) [

@@ -1,4 +1,4 @@
--- The rows between two bounds, by the pages where the bounds belong.
+-- The rows between two bounds, by the pages to which the bounds belong.
 use Rattle.std.proofs.Common.{◌≡◌, ℕ, ◌<◌, ◌≤◌, ◌&&◌, List, [], ◌∷◌, ◌++◌, length, filter, drop, refl, sym, ap, subst, ◌∙◌, append-nil, append_assoc, length-append, inl, inr, arith}
 use Rattle.std.specs.declared.cmp.Ordering.{Ordering}
 use Rattle.std.specs.declared.cmp.Ordering.TheVariants.{Less}
@@ -41,7 +41,7 @@ module _ {K V : Type 0} {cmp : K → K → Ordering} (o : IsTotalOrder cmp) (lo 
       ∙ ap (λ l. filter p page ++ l) (none_after back last)
       ∙ append-nil (filter p page)
 
-  -- the bounds belong to two pages, and others stand between them
+  -- the bounds belong to two pages, with others between them
   between_two : (front first between last back rest : List (K × V)) → rest ≡ between ++ (last ++ back) → IsAround o lo front rest → IsAround o hi (first ++ between) back → rows_between cmp (front ++ (first ++ rest)) lo hi ≡ rows_from cmp first lo ++ (between ++ rows_below cmp last hi)
   between_two front first between last back rest parts low high =
       let below : AllBelow cmp hi first = all_front (λ y. cmp y hi ≡ Less) first between high.before in
@@ -54,7 +54,7 @@ module _ {K V : Type 0} {cmp : K → K → Ordering} (o : IsTotalOrder cmp) (lo 
       ∙ ap (λ l. rows_from cmp first lo ++ rows_below cmp l hi) parts
       ∙ ap (λ l. rows_from cmp first lo ++ l) (below_around o hi between last back (record { before = all_back (λ y. cmp y hi ≡ Less) first between high.before; behind = high.behind }))
 
--- ---- the pages from the one at a place on
+-- ---- the pages from an index on
 
 module _ {X : Type 0} (least : ℕ) (pages below : List (List X)) (page : List X) (above : List (List X)) (cuts : Cuts least pages below page above) (from : List (List X)) (is : from ≡ drop (length below) pages) where
   pub front_and_rest : pages ≡ below ++ from
@@ -75,7 +75,7 @@ module _ {X : Type 0} (least : ℕ) (pages below : List (List X)) (page : List X
   pub rest_size : (most : ℕ) → length pages ≤ most → length from ≤ most
   rest_size most few = omega (arith, ap length front_and_rest, length-append below from)
 
-  -- the other bound belongs to a later page
+  -- if the other bound belongs to a later page
   module _ (ends_below : List (List X)) (last : List X) (ends_above : List (List X)) (ends_cuts : Cuts least from ends_below last ends_above) (first : List X) (between : List (List X)) (more : ends_below ≡ first ∷ between) where
     whole_rest : from ≡ ends_below ++ last ∷ ends_above
     whole_rest = elim ends_cuts.whole [
@@ -213,12 +213,12 @@ module _ {K V : Type 0} {cmp : K → K → Ordering} (o : IsTotalOrder cmp) (key
 
 -- ---- all pages
 
--- a page before others is as full as they are
+-- all pages after the first are full
 pub later_full : {X : Type 0} (least : ℕ) (page : List X) (pages : List (List X)) → ArePages least (page ∷ pages) → AreFull least pages
 later_full least page [] are = tt
 later_full least page (p ∷ ps) are = are.1
 
--- full middles have full leaves
+-- the leaves of full middles are full
 pub full_leaves : {X : Type 0} (middles : List (List (List X))) → AreFull least_leaves middles → ArePages least_rows (flatten middles) → AreFull least_rows (flatten middles)
 full_leaves [] all are = tt
 full_leaves (m ∷ ms) all are = full_from_pages least_rows (m ++ flatten ms) are (omega (arith, all.0, length-append m (flatten ms)))
@@ -248,7 +248,7 @@ module _ {X : Type 0} (rest : List X) (leaves : List (List X)) (middles : List (
   walk_parts : walk_rows rest leaves middles last_leaves last ≡ rest ++ ((flatten leaves ++ (flatten (flatten middles) ++ flatten last_leaves)) ++ last)
   walk_parts = ap (λ l. rest ++ l) (sym (append_assoc (flatten leaves) (flatten (flatten middles) ++ flatten last_leaves) last ∙ ap (λ l. flatten leaves ++ l) (append_assoc (flatten (flatten middles)) (flatten last_leaves) last)))
 
-  -- the same pages, of which the first leaf is taken
+  -- the same rows, after the walk takes the first leaf
   pub next_leaf : (new_leaves : List (List X)) (new_middles : List (List (List X))) (new_last_leaves : List (List X)) (new_last leaf taken : List X) (more : List (List X)) → length rest ≡ 0 → new_last ≡ last → flatten new_leaves ++ (flatten (flatten new_middles) ++ flatten new_last_leaves) ≡ flatten leaves ++ (flatten (flatten middles) ++ flatten last_leaves) → new_leaves ≡ leaf ∷ more → taken ≡ leaf → walk_rows taken more new_middles new_last_leaves new_last ≡ walk_rows rest leaves middles last_leaves last
   next_leaf new_leaves new_middles new_last_leaves new_last leaf taken more none same_last same is same_leaf =
       ap (λ l. walk_rows l more new_middles new_last_leaves new_last) same_leaf

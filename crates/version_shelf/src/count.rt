@@ -7,8 +7,8 @@ use crate::bound::Bound;
 use std::cmp::Ordering;
 use std::marker::Model;
 
-/// How much work calls made: how many keys they compared, or how many rows and pages they put into new pages. It only
-/// rises; a contract sees the number.
+/// A counter of the work of calls: of comparisons of keys, or of rows and pages put into new pages. It never
+/// decreases; a contract sees the number.
 #[derive(Drop)]
 pub struct Count {
     number: u64,
@@ -23,7 +23,7 @@ impl Model for Count {
 }
 
 impl Count {
-    /// A count of no work.
+    /// Returns a counter at 0.
     pub fn new() -> Count
         ensures { result ≡ 0 }
     {
@@ -44,7 +44,8 @@ impl Count {
     }
 }
 
-/// Is the key below the bound? Every comparison of keys is made here, or by `compared`.
+/// Returns true if the key is below the bound, and adds 1 to the count. All comparisons of keys are made here or in
+/// `compared`.
 pub(crate) fn is_below<K: Ord, B: Bound<K>>(key: &K, bound: &B, count: &mut Count) -> bool
     requires { count.old + 1 < 2 ^ 64 }
     ensures below { result ≡ is_lt (K.cmp key.now (B.place bound.now)) }
@@ -54,7 +55,7 @@ pub(crate) fn is_below<K: Ord, B: Bound<K>>(key: &K, bound: &B, count: &mut Coun
     bound.is_above(key)
 }
 
-/// How one key stands to the other.
+/// Compares two keys, and adds 1 to the count.
 pub(crate) fn compared<K: Ord>(one: &K, other: &K, count: &mut Count) -> Ordering
     requires { count.old + 1 < 2 ^ 64 }
     ensures order { result ≡ K.cmp one.now other.now }

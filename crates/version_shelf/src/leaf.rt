@@ -1,4 +1,4 @@
-//! How are the rows of one leaf found and changed?
+//! How are the rows of one leaf searched and changed?
 
 ghost use Rattle.std.specs.Prelude.{◌≡◌, ◌++◌, ◌∷◌, ◌+◌, ◌<◌, ◌≤◌, ◌^◌, IfOk, length};
 ghost use Rattle.std.specs.Option.{option_copied};
@@ -11,7 +11,7 @@ use crate::search::{place, place_near};
 use crate::shared_row::SharedRow;
 use std::alloc::{AllocError, Global};
 
-/// The rows below a key, the value at the key, and the rows above it.
+/// The rows of a leaf relative to a key: those below it, the value at it, if there is one, and those above it.
 #[derive(Drop)]
 pub(crate) struct Parts<'a, K, V> {
     pub(crate) below: &'a [SharedRow<K, V>],
@@ -19,7 +19,7 @@ pub(crate) struct Parts<'a, K, V> {
     pub(crate) above: &'a [SharedRow<K, V>],
 }
 
-/// The rows below a bound, and the others.
+/// Splits the rows at a bound, by binary search: returns those below it, and the others.
 pub(crate) fn split<'a, K: Ord, V, B: Bound<K>>(
     rows: &'a [SharedRow<K, V>],
     bound: &B,
@@ -35,7 +35,7 @@ pub(crate) fn split<'a, K: Ord, V, B: Bound<K>>(
     rows.split_at(place(rows, bound, count))
 }
 
-/// As [`split`], where the bound's place is most often the first one.
+/// As [`split`], for a bound that most often is not above the first row, which is compared first.
 fn split_near<'a, K: Ord, V, B: Bound<K>>(
     rows: &'a [SharedRow<K, V>],
     bound: &B,
@@ -51,7 +51,7 @@ fn split_near<'a, K: Ord, V, B: Bound<K>>(
     rows.split_at(place_near(rows, bound, count))
 }
 
-/// Cuts the rows at a key.
+/// Splits the rows at a key.
 pub(crate) fn part<'a, K: Ord, V>(
     rows: &'a [SharedRow<K, V>],
     key: &K,
@@ -80,7 +80,7 @@ pub(crate) fn part<'a, K: Ord, V>(
     }
 }
 
-/// The rows with `lo <= key < hi`.
+/// Returns the rows with `lo <= key < hi`.
 pub(crate) fn between<'a, K: Ord, V, L: Bound<K>, H: Bound<K>>(
     rows: &'a [SharedRow<K, V>],
     lo: &L,
@@ -97,7 +97,8 @@ pub(crate) fn between<'a, K: Ord, V, L: Bound<K>, H: Bound<K>>(
     split_near(from, hi, count).0
 }
 
-/// The rows below a row, the row, and the rows above it.
+/// Returns a new list of the rows below, the row, and the rows above. Adds the number of rows put into it to the count. The
+/// error is out of memory, or a reference count at its maximum.
 pub(crate) fn rows_with<K: Drop, V: Drop>(
     alloc: Global,
     below: &[SharedRow<K, V>],
@@ -117,7 +118,8 @@ pub(crate) fn rows_with<K: Drop, V: Drop>(
     Ok(all)
 }
 
-/// The rows below a key, and those above it.
+/// Returns a new list of the rows below and the rows above. Adds the number of rows put into it to the count. The error is
+/// out of memory, or a reference count at its maximum.
 pub(crate) fn rows_without<K: Drop, V: Drop>(
     alloc: Global,
     below: &[SharedRow<K, V>],

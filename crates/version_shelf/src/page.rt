@@ -1,4 +1,4 @@
-//! How are parts kept in pages that several shelves hold?
+//! How are the nodes stored that several shelves share?
 
 ghost use Rattle.std.specs.Prelude.{◌≡◌, ◌+◌, ◌<◌, ◌^◌, ◌≤◌, ◌++◌, ◌∷◌, [], IfOk, OnOk, length};
 ghost use Rattle.version_shelf.specs.Shelf.{ClonesEqual};
@@ -9,8 +9,8 @@ use std::alloc::{AllocError, Global};
 use std::marker::Model;
 use std::sync::Arc;
 
-/// Rows in order, or pages in order. A copy is one more owner of the page, and copies none of its parts. A contract sees
-/// the list of the parts.
+/// A node of the tree: a list of parts, which are rows or other pages. Cloning increments the page's reference count and
+/// copies no part. A contract sees the list of the parts.
 #[derive(Drop)]
 pub(crate) struct Page<T> {
     parts: Arc<Vec<T>>,
@@ -25,14 +25,14 @@ impl<T> Model for Page<T> {
     ghost view = { λ page. (arc_value page.parts).items };
 }
 
-/// A page of rows.
+/// A leaf node: a page of rows.
 pub(crate) type Leaf<K, V> = Page<SharedRow<K, V>>;
 
-/// A page of leaves.
+/// An inner node: a page of leaves.
 pub(crate) type Middle<K, V> = Page<Leaf<K, V>>;
 
 impl<T> Page<T> {
-    /// The page with its first owner. The error is want of memory.
+    /// Makes a page of these parts, with a reference count of 1. The only error is out of memory.
     pub(crate) fn of(alloc: Global, parts: Vec<T>) -> Result<Page<T>, AllocError>
     where
         T: Drop,
@@ -50,7 +50,7 @@ impl<T> Page<T> {
     }
 }
 
-/// The error is that no more owners can be counted.
+/// Increments the reference count. The only error is that the count is at its maximum.
 impl<T: Drop> Clone for Page<T> {
     ghost is_clone = { λ original copy. copy ≡ original };
 
@@ -61,7 +61,7 @@ impl<T: Drop> Clone for Page<T> {
     }
 }
 
-/// Adds this part, which is counted. The error is want of memory.
+/// Appends the part, and adds 1 to the count, also if it fails. The only error is out of memory.
 pub(crate) fn put<T: Drop>(all: &mut Vec<T>, part: T, count: &mut Count) -> Result<(), AllocError>
     requires room { count.old + 1 < 2 ^ 64 }
     ensures parts { OnOk result (all.new.items ≡ all.old.items ++ part ∷ []) }
@@ -71,7 +71,8 @@ pub(crate) fn put<T: Drop>(all: &mut Vec<T>, part: T, count: &mut Count) -> Resu
     Ok(all.push(part)?)
 }
 
-/// Adds these parts, each with one more owner, and each counted. The error is want of memory.
+/// Appends a clone of each part, and adds their number to the count, also if it fails. The error is out of memory, or
+/// that of a clone.
 pub(crate) fn append<T: Clone>(
     all: &mut Vec<T>,
     parts: &[T],

@@ -1,4 +1,4 @@
-//! Where in a shelf does a key belong, and what stands on both sides?
+//! Where in a shelf does a key belong, and what is on both sides of it?
 
 ghost use Rattle.std.specs.Prelude.{◌≡◌, ◌++◌, ◌+◌, ◌<◌, ◌≤◌, ◌^◌, IfOk, List, length};
 ghost use Rattle.std.specs.Option.{option_copied};
@@ -17,8 +17,8 @@ const LEAST_ROWS: usize = 16;
 
 const LEAST_LEAVES: usize = 32;
 
-/// The way down to a key: the middles of a shelf cut at the key, the leaves of the middle there, and the rows of the leaf
-/// there.
+/// The path from the root to a key: the middles (inner nodes) of a shelf, the leaves of one middle, and the rows of one
+/// leaf. Each list is cut at the key.
 #[derive(Drop)]
 pub(crate) struct Path<'a, K, V> {
     pub(crate) middles: Cut<'a, Leaf<K, V>>,
@@ -54,8 +54,8 @@ pub(crate) fn path_to<'a, K: Ord, V>(
     }
 }
 
-/// The middles of a shelf that has these rows in the place of those of the leaf to which the path leads. The error is
-/// want of memory.
+/// Returns the middles of a shelf in which these rows replace those of the leaf at the end of the path. The error is out
+/// of memory, or a reference count at its maximum.
 pub(crate) fn middles_with<K: Drop, V: Drop>(
     alloc: Global,
     path: &Path<'_, K, V>,

@@ -1,4 +1,4 @@
-//! What does a walk over the rows from a bound on, or between two, give?
+//! What does an iterator over the rows from a bound on, or between two, return?
 
 ghost use Rattle.std.specs.Prelude.{◌≡◌, ◌++◌};
 ghost use Rattle.std.specs.Iterator.{YieldsFirstBy, item_count};
@@ -6,8 +6,8 @@ ghost use Rattle.std.specs.Iterator.{YieldsFirstBy, item_count};
 use crate::walk::{Walk, refill};
 use std::marker::Model;
 
-/// The rows of a shelf from a bound on, or between two, in ascending order of keys: an iterator that a contract sees as the
-/// list of the rows that are left. Each call of `next` gives the first of them, and no call takes memory.
+/// An iterator over rows of a shelf in ascending order of keys: all rows, those from a bound on, or those between two. A
+/// contract sees it as the list of the remaining rows. `next` returns the first of them; no call allocates memory.
 #[derive(Drop)]
 pub struct Range<'a, K: Ord + 'a, V: 'a> {
     walk: Walk<'a, K, V>,

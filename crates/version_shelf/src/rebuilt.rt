@@ -1,4 +1,4 @@
-//! How are pages made anew where one of them has other parts than before?
+//! How is a list of pages rebuilt after the parts of one of them changed?
 
 ghost use Rattle.std.specs.Prelude.{◌≡◌, ◌++◌, ◌+◌, ◌-◌, ◌/◌, ◌<◌, ◌≤◌, ◌^◌, OnOk, IfOk, length, take, drop};
 ghost use Rattle.version_shelf.specs.Shelf.{ClonesEqual};
@@ -8,9 +8,9 @@ use crate::count::Count;
 use crate::page::{Page, append, put};
 use std::alloc::{AllocError, Global};
 
-/// The pages below, the pages of these parts, and the pages above. A page that has neighbours has so many parts at least,
-/// and no page more than twice as many. Where these parts are too few, they are put together with those of a neighbour. The
-/// error is want of memory.
+/// Returns the pages below, one or two pages of these parts, and the pages above. If the result has several pages, each
+/// has at least `least` parts; no page has more than twice as many. If these parts are fewer than `least`, they are merged
+/// with those of a neighbour, if there is one. The error is out of memory, or a reference count at its maximum.
 pub(crate) fn rebuilt<T: Clone>(
     alloc: Global,
     least: usize,
@@ -48,7 +48,7 @@ pub(crate) fn rebuilt<T: Clone>(
     joined(alloc, least, below, parts, above, count)
 }
 
-/// These parts, and those after them.
+/// Returns a new list of the parts, followed by the others.
 fn put_together<T: Clone>(
     alloc: Global,
     parts: &[T],
@@ -67,7 +67,7 @@ fn put_together<T: Clone>(
     Ok(all)
 }
 
-/// The pages below, the pages of these parts, and the pages above.
+/// Returns the pages below, one or two pages of these parts, and the pages above.
 fn joined<T: Clone>(
     alloc: Global,
     least: usize,
@@ -90,7 +90,7 @@ fn joined<T: Clone>(
     Ok(pages)
 }
 
-/// Adds these parts as one page, or as two halves where they are too many for one.
+/// Appends these parts as one page, or as two halves if there are more than `2 * least`.
 fn put_pages<T: Drop>(
     alloc: Global,
     least: usize,
@@ -113,8 +113,8 @@ fn put_pages<T: Drop>(
     }
 }
 
-/// Cuts parts into two halves, of which the second one is put into a list of its own: its parts are counted. The error is
-/// want of memory.
+/// Splits the parts into two halves. The second half moves to a new list, and its length is added to the count. The only
+/// error is out of memory.
 fn in_halves<T: Drop>(parts: Vec<T>, count: &mut Count) -> Result<(Vec<T>, Vec<T>), AllocError>
     requires { count.old + (length parts.items - length parts.items / 2) < 2 ^ 64 }
     ensures first { IfOk result (λ halves. halves.0.items ≡ take (length parts.items / 2) parts.items) }

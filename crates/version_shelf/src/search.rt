@@ -1,4 +1,4 @@
-//! Where among parts in order does a bound belong?
+//! Where in an ordered list of parts does a bound belong?
 
 ghost use Rattle.std.specs.Prelude.{◌≡◌, ◌+◌, ◌-◌, ◌<◌, ◌≤◌, ◌^◌, Bool, ℕ, length, take};
 ghost use Rattle.version_shelf.specs.Pages.{ArePages, Cuts, CutsAt, IsPlace, ends};
@@ -8,12 +8,12 @@ use crate::count::{Count, is_below};
 use crate::page::Page;
 use crate::shared_row::SharedRow;
 
-/// A row, or a page: a part that stands in the order of keys.
+/// A part that can be compared with a bound: a row, or a page, which counts as its last row.
 pub(crate) trait Sought<K: Ord> {
-    // the last of the part's keys is below the key
+    // the part's last key is below the key
     ghost below: { K → Self → Bool };
 
-    // how many of them a page with neighbours has at least
+    // the least number of these parts in a page that has neighbours
     ghost least: { ℕ };
 
     fn is_below<B: Bound<K>>(&self, bound: &B, count: &mut Count) -> bool
@@ -50,7 +50,8 @@ impl<K: Ord, T: Sought<K>> Sought<K> for Page<T> {
     }
 }
 
-/// How many of the parts come before the bound's place, by a search by halves.
+/// Returns the index of the bound, by binary search: the part before it is below the bound, and the part at it isn't. Makes
+/// at most 9 comparisons.
 pub(crate) fn place<K: Ord, T: Sought<K>, B: Bound<K>>(
     parts: &[T],
     bound: &B,
@@ -74,7 +75,8 @@ pub(crate) fn place<K: Ord, T: Sought<K>, B: Bound<K>>(
     from
 }
 
-/// The place of the bound, which most often is the first one: it is looked at before the others.
+/// As [`place`], for a bound whose index most often is 0: the first part is compared before the search. Makes at most 10
+/// comparisons.
 pub(crate) fn place_near<K: Ord, T: Sought<K>, B: Bound<K>>(
     parts: &[T],
     bound: &B,
@@ -91,7 +93,7 @@ pub(crate) fn place_near<K: Ord, T: Sought<K>, B: Bound<K>>(
     place(parts, bound, count)
 }
 
-/// The parts, without the last one.
+/// Returns the parts without the last one.
 fn all_but_last<T>(parts: &[T]) -> &[T]
     ensures { result.now ≡ take (length parts.now - 1) parts.now }
 {
@@ -101,8 +103,8 @@ fn all_but_last<T>(parts: &[T]) -> &[T]
     }
 }
 
-/// Pages in order, cut at a bound: those before its place, the parts of the page at its place, which are none where
-/// there is no page, and the pages after it.
+/// An ordered list of pages cut at a bound: the pages before it, the parts of the page where it belongs, and the pages
+/// after that one. If there is no page, all three are empty.
 #[derive(Drop)]
 pub(crate) struct Cut<'a, T> {
     pub(crate) below: &'a [Page<T>],
@@ -110,7 +112,7 @@ pub(crate) struct Cut<'a, T> {
     pub(crate) above: &'a [Page<T>],
 }
 
-/// Cuts the pages at the bound's place.
+/// Cuts the pages at the first one whose last key isn't below the bound, or at the last page.
 pub(crate) fn cut_at<'a, K: Ord, T: Sought<K>, B: Bound<K>>(
     pages: &'a [Page<T>],
     bound: &B,
@@ -126,7 +128,7 @@ pub(crate) fn cut_at<'a, K: Ord, T: Sought<K>, B: Bound<K>>(
     cut_at_place(pages, bound, place(all_but_last(pages), bound, count))
 }
 
-/// As [`cut_at`], where the bound's place is most often the first one.
+/// As [`cut_at`], for a bound that most often belongs to the first page, which is compared first.
 pub(crate) fn cut_near<'a, K: Ord, T: Sought<K>, B: Bound<K>>(
     pages: &'a [Page<T>],
     bound: &B,

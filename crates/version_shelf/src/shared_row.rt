@@ -1,4 +1,4 @@
-//! How is one row held by several shelves?
+//! How is a row stored that several shelves share?
 
 ghost use Rattle.std.specs.Prelude.{◌≡◌};
 
@@ -6,8 +6,8 @@ use std::alloc::{AllocError, Global};
 use std::marker::Model;
 use std::sync::Arc;
 
-/// A key with its value, which every shelf that has the row holds. A copy is one more owner of the row, and copies
-/// neither the key nor the value. A contract sees the pair.
+/// A row: a key with its value, shared by all shelves that contain it. Cloning increments the row's reference count and
+/// copies neither the key nor the value. A contract sees the pair.
 #[derive(Drop)]
 pub(crate) struct SharedRow<K, V> {
     pair: Arc<(K, V)>,
@@ -24,7 +24,7 @@ impl<K, V> Model for SharedRow<K, V> {
 impl<K, V> SharedRow<K, V> {
     ghost use Rattle.std.specs.Prelude.{◌≡◌, IfOk};
 
-    /// The row with its first owner. The error is want of memory.
+    /// Makes a row with a reference count of 1. The only error is out of memory.
     pub(crate) fn new(alloc: Global, key: K, value: V) -> Result<SharedRow<K, V>, AllocError>
     where
         K: Drop,
@@ -49,7 +49,7 @@ impl<K, V> SharedRow<K, V> {
     }
 }
 
-/// The error is that no more owners can be counted.
+/// Increments the reference count. The only error is that the count is at its maximum.
 impl<K: Drop, V: Drop> Clone for SharedRow<K, V> {
     ghost is_clone = { λ original copy. copy ≡ original };
 

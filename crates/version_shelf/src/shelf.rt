@@ -1,4 +1,4 @@
-//! What can a shelf be asked, and how is the next one made?
+//! How is a shelf read, and how is a changed copy made?
 
 ghost use Rattle.std.specs.Prelude.{◌≡◌, ◌↔◌, ◌+◌, ◌<◌, ◌≤◌, ◌^◌, [], length, IsTrue, IfOk, Some, None, if◌then◌else◌, is_some};
 ghost use Rattle.std.specs.Option.{option_copied};
@@ -18,14 +18,14 @@ use std::marker::Model;
 
 const MOST_ROWS: usize = 262_144;
 
-/// One version of an ordered map of at most 262,144 rows, which is never changed. A reader has the same rows for as
-/// long as it keeps the shelf; a writer pays for the pages in which its row belongs, one on each of three levels, and shares
-/// all others with the shelf that it began with.
+/// A persistent (immutable) ordered map of at most 262,144 rows. A reader sees the same rows as long as it holds the
+/// shelf. A writer makes one or two leaves, one or two middles (inner nodes), and a root. It shares all other pages with
+/// the shelf that it changes.
 #[derive(Drop)]
 pub struct Shelf<K: Ord, V> {
     alloc: Global,
     len: usize,
-    // The first shelf has none.
+    // The root; `None` if no row was ever added.
     middles: Option<Page<Middle<K, V>>>,
 }
 
@@ -41,7 +41,7 @@ impl<K: Ord, V> Model for Shelf<K, V> {
 }
 
 impl<K: Ord + Clone, V: Clone> Shelf<K, V> {
-    /// A shelf of no rows. Takes no memory.
+    /// Returns a shelf without rows. Allocates no memory.
     pub fn new(alloc: Global) -> Shelf<K, V>
         ensures { result ≡ [] }
     {
@@ -52,7 +52,7 @@ impl<K: Ord + Clone, V: Clone> Shelf<K, V> {
         }
     }
 
-    /// How many rows there are. Takes no memory.
+    /// Returns the number of rows. Allocates no memory.
     pub fn len(&self) -> usize
         ensures rows { result ≡ length self.now }
         ensures most { length self.now ≤ most_rows }
@@ -61,14 +61,14 @@ impl<K: Ord + Clone, V: Clone> Shelf<K, V> {
         self.len
     }
 
-    /// Are there fewer than 262,144 rows, so that `with` may be called? Takes no memory.
+    /// Returns true if there are fewer than 262,144 rows, so that `with` may be called. Allocates no memory.
     pub fn has_room(&self) -> bool
         ensures { IsTrue result ↔ HasRoom self.now }
     {
         self.len() < MOST_ROWS
     }
 
-    /// The value at the key; none where no row has the key. Takes no memory.
+    /// Returns the value at the key, or `None` if no row has the key. Allocates no memory.
     pub fn get(&self, key: &K) -> Option<&V>
         ensures value { option_copied result ≡ get K.cmp self.now key.now }
         ensures order { IsInOrder K.cmp self.now }
@@ -76,8 +76,8 @@ impl<K: Ord + Clone, V: Clone> Shelf<K, V> {
         self.find(key, &mut Count::new())
     }
 
-    /// The value at the key, as `get` answers it; none where no row has the key. The count rises by one for each
-    /// comparison of keys, so that it must have room for 32. Takes no memory.
+    /// Returns the value at the key as `get` does. Adds the number of comparisons of keys, at most 32, to the count. The
+    /// caller ensures that the count can grow by 32. Allocates no memory.
     pub fn find(&self, key: &K, count: &mut Count) -> Option<&V>
         requires room { count.old + 32 < 2 ^ 64 }
         ensures value { option_copied result ≡ get K.cmp self.now key.now }
@@ -87,8 +87,8 @@ impl<K: Ord + Clone, V: Clone> Shelf<K, V> {
         path_to(self.middles(), key, count).rows.value
     }
 
-    /// The rows with `lo <= key < hi`, in ascending order of keys; none where `hi <= lo`. The bounds need not be keys of
-    /// the shelf. Takes no memory.
+    /// Returns the rows with `lo <= key < hi`, in ascending order of keys; none if `hi <= lo`. The bounds need not be keys
+    /// of the shelf. Allocates no memory.
     pub fn range<L: Bound<K>, H: Bound<K>>(&self, lo: &L, hi: &H) -> Range<'_, K, V>
         ensures rows { result ≡ rows_between K.cmp self.now (L.place lo.now) (H.place hi.now) }
         ensures order { IsInOrder K.cmp result }
@@ -97,7 +97,8 @@ impl<K: Ord + Clone, V: Clone> Shelf<K, V> {
         Range::of(walk_between(self.middles(), lo, hi, &mut Count::new()))
     }
 
-    /// The rows with `lo <= key`, in ascending order of keys. The bound need not be a key of the shelf. Takes no memory.
+    /// Returns the rows with `lo <= key`, in ascending order of keys. The bound need not be a key of the shelf. Allocates no
+    /// memory.
     pub fn range_from(&self, lo: &K) -> Range<'_, K, V>
         ensures rows { result ≡ rows_from K.cmp self.now lo.now }
         ensures order { IsInOrder K.cmp self.now }
@@ -105,7 +106,7 @@ impl<K: Ord + Clone, V: Clone> Shelf<K, V> {
         Range::of(walk_from(self.middles(), lo, &mut Count::new()))
     }
 
-    /// All rows, in ascending order of keys. Takes no memory.
+    /// Returns all rows, in ascending order of keys. Allocates no memory.
     pub fn rows(&self) -> Range<'_, K, V>
         ensures rows { result ≡ self.now }
         ensures order { IsInOrder K.cmp self.now }
@@ -113,9 +114,9 @@ impl<K: Ord + Clone, V: Clone> Shelf<K, V> {
         Range::of(walk_all(self.middles()))
     }
 
-    /// The shelf with this row, in the place of the row that has the key, if there is one. The caller sees to it that
-    /// there is room, also for a key that stands, and that clones of keys and of values equal them, whether rows are copied
-    /// or, as here, shared.
+    /// Returns the shelf with this row, which replaces the row that has the key, if there is one. The caller ensures that
+    /// there are fewer than 262,144 rows, even if it replaces one. It also ensures that clones of keys and of values equal
+    /// them, although rows are shared, not cloned.
     pub fn with(&self, key: K, value: V) -> Result<Shelf<K, V>, AllocError>
         requires room { HasRoom self.now }
         requires keys { ClonesEqual K.is_clone }
@@ -128,8 +129,8 @@ impl<K: Ord + Clone, V: Clone> Shelf<K, V> {
         self.with_counted(key, value, &mut Count::new())
     }
 
-    /// The shelf with this row, as `with` answers it and on the same conditions. The count rises by one for each row or
-    /// page that is put into a new page, so that it must have room for 1,024.
+    /// Returns the shelf with this row, as `with` does and under the same conditions. Adds to the count the number of rows
+    /// and pages put into new pages, at most 1,024. The caller ensures that the count can grow by 1,024.
     pub fn with_counted(
         &self,
         key: K,
@@ -154,8 +155,8 @@ impl<K: Ord + Clone, V: Clone> Shelf<K, V> {
         Shelf::of(self.alloc, middles, len)
     }
 
-    /// The shelf without the row that has the key, if there is one. The caller sees to it that clones of keys and of
-    /// values equal them.
+    /// Returns the shelf without the row that has the key; with the same rows if there is none. The caller ensures that
+    /// clones of keys and of values equal them.
     pub fn without(&self, key: &K) -> Result<Shelf<K, V>, AllocError>
         requires keys { ClonesEqual K.is_clone }
         requires values { ClonesEqual V.is_clone }
@@ -167,8 +168,9 @@ impl<K: Ord + Clone, V: Clone> Shelf<K, V> {
         self.without_counted(key, &mut Count::new())
     }
 
-    /// The shelf without the row that has the key, as `without` answers it and on the same conditions. The count rises by
-    /// one for each row or page that is put into a new page, so that it must have room for 1,024.
+    /// Returns the shelf without the row that has the key, as `without` does and under the same conditions. Adds to the
+    /// count the number of rows and pages put into new pages, at most 1,024. The caller ensures that the count can grow by
+    /// 1,024.
     pub fn without_counted(&self, key: &K, count: &mut Count) -> Result<Shelf<K, V>, AllocError>
         requires keys { ClonesEqual K.is_clone }
         requires values { ClonesEqual V.is_clone }
@@ -218,7 +220,7 @@ impl<K: Ord + Clone, V: Clone> Shelf<K, V> {
     }
 }
 
-/// How many rows there are with one more, which takes the place of the row that had its key, if there was one.
+/// Returns the number of rows after a row is added, or replaces the found row of the same key.
 fn len_with<V>(len: usize, found: Option<&V>) -> usize
     requires { len < most_rows }
     ensures { result + (if is_some found.entry then 1 else 0) ≡ len + 1 }
@@ -229,7 +231,8 @@ fn len_with<V>(len: usize, found: Option<&V>) -> usize
     }
 }
 
-/// A clone has the same rows and costs no copies of them; it is refused where no more owners can be counted.
+/// Returns a shelf with the same root: increments its reference count and copies no rows. The only error is that the count
+/// is at its maximum.
 impl<K: Ord + Clone, V: Clone> Clone for Shelf<K, V> {
     ghost is_clone = { λ original copy. copy ≡ original };
 

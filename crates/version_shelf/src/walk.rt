@@ -1,4 +1,4 @@
-//! How does a walk step from page to page?
+//! How does an iterator move from page to page?
 
 ghost use Rattle.std.specs.Prelude.{◌≡◌, ◌++◌, ◌∷◌, ◌+◌, ◌<◌, ◌≤◌, ◌^◌, [], length};
 ghost use Rattle.version_shelf.specs.Shelf.{IsInOrder, rows_between, rows_from};
@@ -11,8 +11,8 @@ use crate::page::{Leaf, Middle};
 use crate::search::{cut_at, cut_near};
 use crate::shared_row::SharedRow;
 
-/// What is left of a walk: rows, the leaves after them, the middles after these, and the leaves and rows of the page in
-/// which the walk ends.
+/// The remainder of a walk: rows, the leaves after them, and the middles after these. Then the last leaves, from the middle
+/// of the upper bound, and the last rows, from the leaf of the upper bound.
 #[derive(Drop)]
 pub(crate) struct Walk<'a, K, V> {
     pub(crate) rest: &'a [SharedRow<K, V>],
@@ -22,7 +22,7 @@ pub(crate) struct Walk<'a, K, V> {
     pub(crate) last: &'a [SharedRow<K, V>],
 }
 
-/// Steps on to the rows of the next leaf, where no row is at hand.
+/// Moves to the rows of the next leaf. May be called only if `rest` is empty; if it stays empty, the walk is over.
 pub(crate) fn refill<K, V>(walk: &mut Walk<'_, K, V>)
     requires pages { AreWalkPages walk.old.leaves.now walk.old.middles.now walk.old.last_leaves.now }
     requires none { length walk.old.rest.now ≡ 0 }
@@ -43,7 +43,7 @@ pub(crate) fn refill<K, V>(walk: &mut Walk<'_, K, V>)
     }
 }
 
-/// Steps on to the leaves of the next middle, where no leaf is at hand.
+/// Moves to the leaves of the next middle if `leaves` is empty; if it stays empty, no leaf remains.
 fn refill_leaves<K, V>(walk: &mut Walk<'_, K, V>)
     requires pages { AreWalkPages walk.old.leaves.now walk.old.middles.now walk.old.last_leaves.now }
     ensures pages { AreWalkPages walk.new.leaves.now walk.new.middles.now walk.new.last_leaves.now }
@@ -67,7 +67,7 @@ fn refill_leaves<K, V>(walk: &mut Walk<'_, K, V>)
     }
 }
 
-/// The walk over the rows of a shelf with `lo <= key < hi`.
+/// Returns the walk over the rows of a shelf with `lo <= key < hi`. Makes at most 57 comparisons.
 pub(crate) fn walk_between<'a, K: Ord, V, L: Bound<K>, H: Bound<K>>(
     middles: &'a [Middle<K, V>],
     lo: &L,
@@ -102,7 +102,7 @@ pub(crate) fn walk_between<'a, K: Ord, V, L: Bound<K>, H: Bound<K>>(
     }
 }
 
-/// The walk over the rows of a shelf with `lo <= key`.
+/// Returns the walk over the rows of a shelf with `lo <= key`. Makes at most 28 comparisons.
 pub(crate) fn walk_from<'a, K: Ord, V>(
     middles: &'a [Middle<K, V>],
     lo: &K,
@@ -128,7 +128,7 @@ pub(crate) fn walk_from<'a, K: Ord, V>(
     }
 }
 
-/// The walk over all rows of a shelf.
+/// Returns the walk over all rows of a shelf.
 pub(crate) fn walk_all<K, V>(middles: &[Middle<K, V>]) -> Walk<'_, K, V>
     requires middles { ArePages least_leaves middles.now }
     requires leaves { ArePages least_rows (flatten middles.now) }
@@ -141,7 +141,7 @@ pub(crate) fn walk_all<K, V>(middles: &[Middle<K, V>]) -> Walk<'_, K, V>
     }
 }
 
-/// The walk over the rows of these leaves, and then over those of these middles.
+/// Returns the walk over the rows of these leaves, and then over those of these middles.
 fn walk_after<'a, K, V>(leaves: &'a [Leaf<K, V>], middles: &'a [Middle<K, V>]) -> Walk<'a, K, V>
     requires leaves { ArePages least_rows (flatten (leaves.now ∷ middles.now)) }
     requires middles { AreFull least_leaves middles.now }
@@ -166,7 +166,7 @@ fn walk_after<'a, K, V>(leaves: &'a [Leaf<K, V>], middles: &'a [Middle<K, V>]) -
     }
 }
 
-/// The walk over the rows of one middle with `lo <= key < hi`.
+/// Returns the walk over the rows of one middle with `lo <= key < hi`. Makes at most 38 comparisons.
 fn walk_in_middle<'a, K: Ord, V, L: Bound<K>, H: Bound<K>>(
     leaves: &'a [Leaf<K, V>],
     lo: &L,

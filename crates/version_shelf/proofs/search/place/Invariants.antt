@@ -3,7 +3,7 @@ use Rattle.version_shelf.specs.Pages.{ends, starts}
 use Rattle.version_shelf.proofs.Ends.{Finds}
 use Rattle.version_shelf.proofs.search.place.Given as goal
 
--- the place is from here until there, and so many comparisons find it
+-- the index is between from and until; the remaining comparisons, with those made, are at most 9
 abbrev pub invariant-loop-from : goal.invariant-loop-from
 invariant-loop-from g l = record {
   inside : (l.from ≤ l.until) × (l.until ≤ length l.parts);

@@ -3,7 +3,7 @@ use Rattle.version_shelf.proofs.Around.{are_leaves_at, leaf_order, leaves_order}
 use Rattle.version_shelf.proofs.Walks.{rest_leaves, rest_rows_order, in_one_middle, in_two_middles, between_full, starts_at, ends_there}
 use Rattle.version_shelf.proofs.walk.walk_between.Goals as goal
 
--- where both bounds belong to one middle
+-- if both bounds belong to one middle
 
 pub walk_in_middle-requires-clause-order : goal.walk_in_middle-requires-clause-order
 walk_in_middle-requires-clause-order g c =
@@ -22,7 +22,7 @@ walk_in_middle-requires-clause-leaves g c =
 pub returns-in-None-clause-rows : goal.returns-in-None-clause-rows
 returns-in-None-clause-rows g c = c.walk_in_middle.ensures.rows ∙ in_one_middle g.met.K.Ord.total (g.L.Bound.place c.args.lo.now) (g.H.Bound.place c.args.hi.now) _ _ _ _ c.cut_at-start.ensures.cuts c.cut_at-start.ensures.key c.requires.order c.requires.leaves _ c.split_at.ensures.back _ _ _ c.cut_near-end.ensures.cuts c.cut_near-end.ensures.key c.in-None.ensures.cases
 
--- where they belong to two
+-- if they belong to two
 
 pub cut_at-start-requires-in-Some-clause-pages : goal.cut_at-start-requires-in-Some-clause-pages
 cut_at-start-requires-in-Some-clause-pages g c = are_leaves_at g.met.K.Ord.total (g.L.Bound.place c.args.lo.now) _ _ _ _ c.cut_at-start.ensures.cuts c.cut_at-start.ensures.key c.requires.order c.requires.leaves

@@ -2,7 +2,7 @@ use Rattle.version_shelf.proofs.Around.{leaf_order}
 use Rattle.version_shelf.proofs.Walks.{rest_order, in_one_leaf, in_two_leaves}
 use Rattle.version_shelf.proofs.walk.walk_in_middle.Goals as goal
 
--- where both bounds belong to one leaf
+-- if both bounds belong to one leaf
 
 pub between-requires-clause-order : goal.between-requires-clause-order
 between-requires-clause-order g c =
@@ -12,7 +12,7 @@ between-requires-clause-order g c =
 pub returns-in-None-clause-rows : goal.returns-in-None-clause-rows
 returns-in-None-clause-rows g c = in_one_leaf g.met.K.Ord.total (g.L.Bound.place c.args.lo.now) (g.H.Bound.place c.args.hi.now) _ _ _ _ c.cut_at-start.ensures.cuts c.cut_at-start.ensures.key c.requires.order _ c.split_at.ensures.back _ _ _ c.cut_near-end.ensures.cuts c.cut_near-end.ensures.key c.in-None.ensures.cases _ c.between.ensures.rows
 
--- where they belong to two
+-- if they belong to two
 
 pub split-requires-clause-order : goal.split-requires-clause-order
 split-requires-clause-order g c = leaf_order g.met.K.Ord.total (g.L.Bound.place c.args.lo.now) _ _ _ _ c.cut_at-start.ensures.cuts c.cut_at-start.ensures.key c.requires.order

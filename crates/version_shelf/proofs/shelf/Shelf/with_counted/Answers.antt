@@ -5,7 +5,7 @@ use Rattle.version_shelf.proofs.Changed.{changes_with, in_order_with, length_wit
 use Rattle.version_shelf.proofs.Shelves.{rows_with_key, if_same, is_some_copied, same_count}
 use Rattle.version_shelf.proofs.shelf.Shelf.with_counted.Goals as goal
 
--- the new rows are the old ones with this one, and those are lawful
+-- the new rows are the old ones with this one, and they satisfy the invariant
 
 pub of-requires-clause-order : goal.of-requires-clause-order
 of-requires-clause-order g c =

@@ -5,7 +5,7 @@ use Rattle.version_shelf.proofs.Changed.{changes_without, in_order_without, leng
 use Rattle.version_shelf.proofs.Shelves.{rows_without_key, if_same, match_same, is_some_copied, none_from, same_count}
 use Rattle.version_shelf.proofs.shelf.Shelf.without_counted.Goals as goal
 
--- the new rows are the old ones without this one, and those are lawful
+-- the new rows are the old ones without the row at the key, and they satisfy the invariant
 
 pub of-requires-clause-order : goal.of-requires-clause-order
 of-requires-clause-order g c =
@@ -35,7 +35,7 @@ returns-clause-count g c =
     let new = rows_without_key g.K.Ord.cmp c.args.key.now c.args.self.now _ _ _ _ _ _ _ _ c.in_ok-middles.ensures.rows c.in_ok-rows.ensures.rows c.path_to-path.ensures.below c.path_to-path.ensures.above c.middles.ensures.rows in
     if_same (flatten (flatten c.in_ok-middles.middles.items)) (λ new. length new + count_of g.K.Ord.cmp c.args.self.now c.args.key.now ≡ length c.args.self.now) (rw new (length_without g.met.K.Ord.total _ _ c.middles.ensures.order)) c.of.result c.of.ensures
 
--- where there is none, the rows are the same
+-- if no row has the key, the rows are the same
 
 pub returns-then-is_none-clause-rows : goal.returns-then-is_none-clause-rows
 returns-then-is_none-clause-rows g c =
