@@ -1,4 +1,4 @@
--- What the code of an operation returns where the operation is accepted.
+-- The result of the code of an accepted operation.
 use Rattle.std.proofs.Common.{◌≡◌, List, Result, Ok, ap, ◌∙◌}
 use Rattle.entry_book.specs.declared.reply.OpReply.{OpReply}
 use Rattle.entry_book.specs.declared.reply.OpRefusal.{OpRefusal}

@@ -1,4 +1,4 @@
--- Rows in blocks, and the block where a key stands.
+-- Rows in blocks, and the block to which a key belongs.
 use Rattle.std.proofs.Common.{◌≡◌, ℕ, zero, suc, ◌+◌, ◌-◌, ◌<◌, ◌≤◌, Bool, true, false, List, [], ◌∷◌, ◌++◌, length, get_or, take, drop, Option, Some, None, cond, refl, sym, ap, subst, ◌∙◌, inl, ⊎_elim, arith, append_assoc, append-nil, length-append}
 use Rattle.std.specs.Prelude.{filter, bytes_eq, option_to_list}
 use Rattle.std.specs.List.{AllByRecursion}
@@ -53,7 +53,7 @@ module _ {X : Type 0} where
       ] refl
 
   module _ (key : X → Bytes) where
-    -- a row that is put makes one row more at most
+    -- putting a row makes the list at most one row longer
     pub length-with_row : (k : Bytes) (new : Option X) (xs : List X) → length (with_row key k new xs) ≤ length xs + 1
     unfolding with_row
     length-with_row k new xs =
@@ -71,13 +71,13 @@ module _ {X : Type 0} where
     ascending_back [] ys a = a
     ascending_back (x ∷ xs) ys a = ascending_back xs ys a.1
 
-    -- ---- the rows of the blocks before a place, and of those behind it
+    -- ---- the rows of the blocks before an index, and of those after it
 
     module _ (k : Bytes) where
       above_more : (x : X) (ys : List X) → is_before k (key x) ≡ true → AllByRecursion (λ y. is_before (key x) (key y) ≡ true) ys → AllByRecursion (λ y. is_before k (key y) ≡ true) ys
       above_more x ys h a = all_with (λ y. is_before (key x) (key y) ≡ true) (λ y. is_before k (key y) ≡ true) (λ y b. before-trans k (key x) (key y) h b) ys a
 
-      -- where a block begins behind the key, so does all that follows
+      -- if a block begins after the key, all its rows and all following rows are above the key
       starts_above : (block rest : List X) → Ascending key (block ++ rest) → begins_behind key k block ≡ true → AllByRecursion (λ y. is_before k (key y) ≡ true) (block ++ rest)
       starts_above [] rest a h = absurd (false≢true h)
       starts_above (x ∷ xs) rest a h = (h, above_more x (xs ++ rest) h a.0)
@@ -88,7 +88,7 @@ module _ {X : Type 0} where
           (λ r. ⊎_elim (λ e. subst (λ t. is_before y t ≡ true) e b) (λ t. absurd (false≢true (sym h ∙ t))) r)
           (before-total x k)
 
-      -- all in front of a row that isn't above the key is below it
+      -- all rows before a row that isn't above the key are below the key
       ends_below : (front : List X) (x : X) (rest : List X) → Ascending key (front ++ x ∷ rest) → is_before k (key x) ≡ false → AllByRecursion (λ y. is_before (key y) k ≡ true) front
       ends_below [] x rest a h = tt
       ends_below (y ∷ ys) x rest a h = (
@@ -206,7 +206,7 @@ module _ {X : Type 0} where
         pub rows_ascend : Ascending key (joined blocks) → Ascending key rows
         rows_ascend a = ascending_front rows (joined behind) (ascending_back (joined before) (rows ++ joined behind) (subst (Ascending key) c.whole a))
 
--- ---- blocks that are added
+-- ---- appended blocks
 
 module _ {X : Type 0} where
   pub one_more : (out new : List (List X)) (rows : List X) → new ≡ out ++ rows ∷ [] → joined new ≡ joined out ++ rows
@@ -226,7 +226,7 @@ module _ {X : Type 0} where
       ∙ (ap (λ l. l ++ joined behind) (s ∙ ap (λ l. joined l ++ rows) (f ∙ ap (λ l. l ++ before) n))
       ∙ append_assoc (joined before) rows (joined behind)))
 
--- ---- the first row that a search of the blocks finds, block after block
+-- ---- the first row that a search finds, block by block
 
 module _ {X : Type 0} where
   first_of_front : (xs ys : List X) (x : X) → Some x ≡ first xs → Some x ≡ first (xs ++ ys)

@@ -1,4 +1,4 @@
--- Entries that are found, and others that are put among them.
+-- Entries found by a walk, and others that are put among them.
 use Rattle.std.proofs.Common.{◌≡◌, ◌+◌, suc, Bool, true, false, cond, not, ◌&&◌, ◌||◌, ◌⊎◌, List, [], ◌∷◌, Some, length, refl, sym, ap, subst, ◌∙◌, inl, inr, ⊎_elim, arith}
 use Rattle.std.specs.Prelude.{filter, bytes_eq, is_some}
 use Rattle.std.proofs.lemmas.Bool.{both_ways, cases_Bool, or_cases, or_left, or_right}
@@ -36,7 +36,7 @@ counted {X} p q (x ∷ xs) =
       | false ↦ elim (q x) as (λ c. length (cond c (x ∷ either) either) ≡ length (filter p xs) + length (cond c (x ∷ new) new)) [ true ↦ omega arith | false ↦ omega arith ]
     ]
 
--- ---- which of the entries that pass a test aren't among those that pass another
+-- ---- the entries that pass one test but not another
 
 and_swapped : (a b : Bool) → (a && b) ≡ (b && a)
 and_swapped true true = refl
@@ -54,7 +54,7 @@ new_found p q es a =
     filter_both q (is_missing (filter p es)) es
     ∙ same_filter (λ e. q e && is_missing (filter p es) e) (λ e. not (p e) && q e) es (λ e w. ap (λ b. q e && b) (missing_is p es a e w) ∙ and_swapped (q e) (not (p e)))
 
--- ---- entries that are put among others
+-- ---- entries put among others
 
 with_all_ascend : (rows found : List Entry) → Ascending entry_key found → Ascending entry_key (with_all rows found)
 with_all_ascend [] found a = a

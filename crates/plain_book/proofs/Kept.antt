@@ -16,7 +16,7 @@ use Rattle.entry_book.proofs.Histories.{batch_keeps, history_goes_on, place_with
 use Rattle.entry_book.proofs.OfVerdict.{of_verdict}
 use Rattle.plain_book.proofs.KeptBooks.{kept_lawful, kept_more, place_is, same_book}
 
--- ---- the book that is added is lawful, and there is room for its number
+-- ---- an added book is lawful, and the place before it is below 2^48
 
 abbrev IfAdds : (Book → Type 0) → Verdict → Type 0
 IfAdds P (refuses r) = ⊤
@@ -44,7 +44,7 @@ next_of state batch m s =
 pub adds_next : (state : PlainState) (batch : Batch) (replies : List OpReply) (c : Book) → batch.domain ≡ state.domain → IsMadeFor batch.domain batch → IsSound state → adds replies c ≡ verdict_of batch state → IsNext state.domain state.place c
 adds_next state batch replies c q m s e = subst (IfAdds (IsNext state.domain state.place)) (sym e) (next_of state batch (subst (λ d. IsMadeFor d batch) q m) s)
 
--- ---- the same on each list of books that the state represents
+-- ---- replies and books agree with each list of books that the state represents
 
 same_verdict : (state : PlainState) (books : List Book) (batch : Batch) → Stands state books → verdict batch (place_of books) (book_for (past_place batch.ops) books) ≡ verdict_of batch state
 same_verdict state books batch s =
@@ -70,7 +70,7 @@ books_agree state books batch s m =
     subst (λ v. Stands (state_with state v) (books_after batch books)) (same_verdict state books batch s)
     (stands_with state books (verdict batch (place_of books) (book_for (past_place batch.ops) books)) s (history_goes_on state.domain batch books s.history m))
 
--- ---- the same by the verdict on a batch
+-- ---- the same, for a given verdict
 
 pub reply_when : (state : PlainState) (books : List Book) (batch : Batch) (v : Verdict) (n : ℕ) → n ≡ state.place → v ≡ verdict_of batch state → Stands state books → reply_with n v ≡ reply_to batch books
 reply_when state books batch v n q e s = ap (λ m. reply_with m v) q ∙ (ap (reply_with state.place) e ∙ replies_agree state books batch s)

@@ -1,4 +1,4 @@
--- The books that a plain book keeps, and the one that a batch reads.
+-- The books that a plain book stores, and the one that a batch reads.
 use Rattle.std.proofs.Common.{◌≡◌, ℕ, zero, suc, ◌+◌, ◌-◌, ◌*◌, ◌<◌, ◌≤◌, Bool, true, false, cond, List, [], ◌∷◌, ◌++◌, length, drop, take, Option, Some, None, refl, sym, ap, subst, ◌∙◌, arith, append_assoc, length-append, length-drop, drop-drop}
 use Rattle.std.specs.Prelude.{◌^◌, nat_lt, slice_get}
 use Rattle.std.specs.List.{AllByRecursion}
@@ -58,7 +58,7 @@ under a b x y l = grind (arith, nat_tests, l)
 not_under : {X : Type 0} (a b : ℕ) (x y : X) → b ≤ a → cond (nat_lt a b) x y ≡ y
 not_under a b x y l = grind (arith, nat_tests, l)
 
--- ---- the book of a number, by how far it is behind the newest
+-- ---- the book of a number, by its distance from the newest
 
 module _ (n : ℕ) (state : PlainState) where
   pub kept_later : state.place < n → None ≡ among_kept n state
@@ -79,7 +79,7 @@ module _ (n : ℕ) (state : PlainState) where
       let q : n + length state.older - state.place ≡ i = omega arith in
       sym (not_under (n + length state.older) state.place _ _ m ∙ (ap (slice_get (kept_books state)) q ∙ slice_get-snoc state.older state.newest i (omega arith)))
 
--- ---- what is kept is lawful
+-- ---- stored books are lawful
 
 newest_lawful : (state : PlainState) → IsSound state → Lawful state.domain (64 * state.place) state.newest
 newest_lawful state s = all_last (Lawful state.domain (64 * state.place)) state.older state.newest s.lawful
@@ -92,13 +92,13 @@ pub kept_lawful : (state : PlainState) (asked : Option ℕ) (b : Book) → IsSou
 kept_lawful state None b s e = let q : state.newest ≡ b = cc in subst (Lawful state.domain (64 * state.place)) q (newest_lawful state s)
 kept_lawful state (Some n) b s e = among_lawful state b (nat_lt (n + length state.older) state.place) (n + length state.older - state.place) s e
 
--- with room for a batch
+-- lawful with room for a batch
 pub read_lawful : (own : Bytes) (state : PlainState) (asked : Option ℕ) (b : Book) → own ≡ state.domain → IsSound state → Some b ≡ kept_for asked state → Lawful own (2 ^ 62) b
 read_lawful own state asked b q s e =
     let room = s.room in
     subst (λ d. Lawful d (2 ^ 62) b) (sym q) (wider (2 ^ 62) (omega arith) (kept_lawful state asked b s (sym e)))
 
--- what is kept then is sound
+-- the state with one more book satisfies the invariant
 pub sound_more : (state : PlainState) (c : Book) → IsSound state → Lawful state.domain (64 * (state.place + 1)) c → state.place < 2 ^ 48 → IsSound (record state { older = last_of 63 (kept_books state); newest = c; place = state.place + 1 })
 sound_more state c s h l =
     let n = length (kept_books state) - 63 in
@@ -110,7 +110,7 @@ sound_more state c s h l =
       room = omega arith;
     }
 
--- ---- the same on each list of books that the state represents
+-- ---- place and books agree with each list of books that the state represents
 
 module _ (state : PlainState) (books : List Book) (s : Stands state books) where
   pub place_is : place_of books ≡ state.place
@@ -148,7 +148,7 @@ module _ (state : PlainState) (books : List Book) (s : Stands state books) where
   same_book None = ap Some last_is
   same_book (Some n) = among_same n (nat_lt (place_of books) (n + 64)) refl
 
-  -- one book more
+  -- the last 64 books after one more
   pub kept_more : (c : Book) → last_of 64 (books ++ c ∷ []) ≡ last_of 63 (kept_books state) ++ c ∷ []
   kept_more c =
       let d = length books - 64 in

@@ -1,10 +1,10 @@
--- A page that is listed part by part, and is full.
+-- A page that is listed part by part, until it is full.
 use Rattle.std.proofs.Common.{◌≡◌, ℕ, ◌<◌, true, List, ◌++◌, length, take, sym, ap, ◌∙◌, append_assoc, arith, length-append}
 use Rattle.std.specs.Prelude.{nat_lt}
 use Rattle.std.proofs.lemmas.Bool.Decides.{nat_tests}
 use Rattle.std.proofs.lemmas.List.{take-append-le}
 
--- Where it has no room for all of a part, the rest of the entries is not listed.
+-- If the page has no room for all of a part, it lists none of the entries after that part.
 pub is_full : {X : Type 0} (size : ℕ) (before here rest new all : List X) → new ≡ take size (before ++ here) → before ++ (here ++ rest) ≡ all → true ≡ nat_lt size (length (before ++ here)) → (new ≡ take size all) × (nat_lt size (length all) ≡ true)
 is_full size before here rest new all taken whole t =
     let over : size < length (before ++ here) = grind (arith, nat_tests, t) in

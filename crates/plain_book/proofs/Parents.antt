@@ -1,4 +1,4 @@
--- The entries by their parents, and what a change of one entry does to them.
+-- The list of all parents, and the effect of a change of one entry on it.
 use Rattle.std.proofs.Common.{◌≡◌, Bool, true, false, cond, List, [], ◌∷◌, Option, Some, None, refl, sym, ap, subst, ◌∙◌, inl, inr, ⊎_elim}
 use Rattle.std.specs.Prelude.{filter, bytes_eq}
 use Rattle.std.proofs.lemmas.Bool.{and_parts, both_ways, cases_Bool}
@@ -39,7 +39,7 @@ filter_wider q r h (x ∷ xs) =
           rw fails rest
     ] refl
 
--- a group stands among the entries of its parent
+-- the entries of a group are among those of its parent
 pub group_among : (p i : Bytes) (es : List Entry) → filter (in_group p i) (children p es) ≡ filter (in_group p i) es
 group_among p i es = filter_wider (λ e. bytes_eq e.parent p) (in_group p i) (λ e t. (and_parts (bytes_eq e.parent p) (bytes_eq e.identity i) t).0) es
 
@@ -67,7 +67,7 @@ siblings_put all new s p es a q r e = subst (λ l. ChangesAt p es all l) (sym e)
 pub siblings_gone : (all new : List Siblings) (k p : Bytes) (es : List Entry) → Ascending parent_key all → k ≡ p → es ≡ [] → new ≡ with_row parent_key k None all → ChangesAt p es all new
 siblings_gone all new k p es a q r e = subst (λ l. ChangesAt p es all l) (sym e) (subst (λ l. ChangesAt p l all (with_row parent_key k None all)) (sym r) (subst (λ t. ChangesAt t [] all (with_row parent_key k None all)) q (no_siblings all k a)))
 
--- nothing is changed at a parent that has no entries
+-- removing an entry of a parent that has none changes nothing
 pub siblings_same : (all new : List Siblings) (p id : Bytes) → Ascending parent_key all → siblings_at p all ≡ [] → new ≡ all → ChangesAt p (with_row entry_key id None (siblings_at p all)) all new
 unfolding with_row
 siblings_same all new p id a n e = subst (λ l. ChangesAt p (with_row entry_key id None (siblings_at p all)) all l) (sym e) (record {
@@ -76,7 +76,7 @@ siblings_same all new p id a n e = subst (λ l. ChangesAt p (with_row entry_key 
   others = λ q d. refl;
 })
 
--- ---- the entry of an id is taken away, or put
+-- ---- the entry of an id is removed, or put
 
 elsewhere : (id p : Bytes) (es : List Entry) → Ascending entry_key es → ((x : Entry) → Within es x → x.id ≡ id → x.parent ≡ p → ⊥) → children p es ≡ with_row entry_key id None (children p es)
 elsewhere id p es a n = sym (without_none entry_key id (children p es) (ascending_filter entry_key (λ e. bytes_eq e.parent p) es a) (λ x w e.
@@ -108,7 +108,7 @@ added es all new e a b n c = record {
       (cases_Bool (bytes_eq p e.parent));
 }
 
--- to take the row of a key away before it is put changes nothing
+-- removing the row of a key before putting another makes no difference
 pub put_twice : (k : Bytes) (e : Entry) (es : List Entry) → Ascending entry_key es → e.id ≡ k → with_row entry_key k (Some e) (with_row entry_key k None es) ≡ with_row entry_key k (Some e) es
 put_twice k e es a q =
     let rest = with_row entry_key k None es in
@@ -124,10 +124,10 @@ put_twice k e es a q =
     (λ r. within_with_row entry_key k (Some e) rest x (within_with_row entry_key k None es x r.0 r.1) r.1)
     (from_with_row entry_key k (Some e) es x w))
 
--- no row of the key is left where it was taken away
+-- after the row of a key is removed, no row has the key
 pub none_left : (k : Bytes) (es : List Entry) (x : Entry) → Within (with_row entry_key k None es) x → x.id ≡ k → ⊥
 none_left k es x w q = ⊎_elim (λ n. absurd n) (λ r. r.1 q) (from_with_row entry_key k None es x w)
 
--- taking away an id that no entry has changes nothing
+-- removing an id that no entry has changes nothing
 pub none_gone : (k : Bytes) (es : List Entry) (all new : List Siblings) → Ascending entry_key es → IsByParent es all → None ≡ first (filter (λ e. bytes_eq e.id k) es) → new ≡ all → IsByParent (with_row entry_key k None es) new
 none_gone k es all new a b h e = subst (IsByParent (with_row entry_key k None es)) (sym e) (subst (λ l. IsByParent l all) (sym (without_none entry_key k es a (no_row entry_key k es (sym h)))) b)

@@ -1,4 +1,4 @@
--- What a binary search finds in rows in order.
+-- The result of a binary search in sorted rows.
 use Rattle.std.proofs.Common.{◌≡◌, ℕ, zero, suc, ◌+◌, ◌<◌, ◌≤◌, Bool, true, false, List, [], ◌∷◌, ◌++◌, length, get_or, set, take, drop, Some, None, Result, Ok, Err, refl, sym, ap, subst, ◌∙◌, inl, inr, ⊎_elim, arith}
 use Rattle.std.specs.Prelude.{filter, bytes_eq}
 use Rattle.std.specs.List.{AllByRecursion, HoldsAt, insert}
@@ -17,7 +17,7 @@ use Rattle.entry_book.proofs.Keys.{row_alone}
 use Rattle.entry_book.proofs.Sets.{All-within, before-irrefl, before-trans, from_within_append, from_within_filter, text_is}
 use Rattle.plain_book.specs.Places.{IsPlace}
 
--- ---- what passes a test in front, and what fails it
+-- ---- lists of which all elements, or none, pass a test
 
 pub none_pass : {X : Type 0} (p : X → Bool) (xs : List X) → AllByRecursion (λ x. p x ≡ false) xs → filter p xs ≡ []
 none_pass p [] h = refl
@@ -44,7 +44,7 @@ not_before x y h = ⊎_elim (λ t. absurd (before-irrefl x (before-trans x y x h
 not_itself : (x : Bytes) → is_before x x ≡ false
 not_itself x = ⊎_elim (λ t. absurd (before-irrefl x t)) (λ f. f) (cases_Bool (is_before x x))
 
--- ---- the order of a search's answers
+-- ---- the order of the results of comparisons
 
 less : (x y : Bytes) → slice_cmp nat_cmp x y ≡ Less → is_before x y ≡ true
 unfolding is_before
@@ -73,7 +73,7 @@ module _ {X : Type 0} (key : X → Bytes) where
   rises xs k a = searchable_from_sorted nat_list_cmp_total key xs k (λ n d l h. rw (ap (λ m. is_lt (slice_cmp nat_cmp (key (get_or xs m d)) (key (get_or xs n d)))) (next n)) (adjacent xs a n d (omega arith)))
 
   module _ (k : Bytes) where
-    -- the rows below the key, and those above it, by their places
+    -- the rows before an index are below the key; the rows from an index on are above it
     abbrev LowBelow : List X → ℕ → Type 0
     LowBelow xs n = (i : ℕ) (d : X) → i < n → is_before (key (get_or xs i d)) k ≡ true
 
@@ -114,7 +114,7 @@ module _ {X : Type 0} (key : X → Bytes) where
         let f : is_before k (key x) ≡ false = not_before (key x) k b in
         (rw b (ap (λ l. x ∷ l) r.0), rw f r.1)
 
-    -- what a binary search answers is the key's place
+    -- the result of a binary search is the key's index
     pub searched : (xs : List X) (r : Result ℕ ℕ) → Ascending key xs → IsSearchInRange r (length xs) → IsBinarySearchResult (λ y. slice_cmp nat_cmp (key y) k) xs r → IsPlace key xs k r
     searched xs (Ok n) a h p =
         let e : HoldsAt (λ x. key x ≡ k) xs n = λ d. equal (key (get_or xs n d)) k (p d) in
@@ -141,7 +141,7 @@ module _ {X : Type 0} (key : X → Bytes) where
         (λ r. before-irrefl k (subst (λ t. is_before k t ≡ true) e (from_within_filter (λ x. is_before k (key x)) xs y (subst (λ l. Within l y) p.2 r)).1))
         (from_within_append (take n xs) (drop n xs) y v))))
 
-    -- ---- a row that is put at the place
+    -- ---- a row put at the index
 
     pub put_at : (xs : List X) (n : ℕ) (x : X) → IsPlace key xs k (Ok n) → set xs n x ≡ with_row key k (Some x) xs
     unfolding with_row

@@ -1,4 +1,4 @@
--- A walk from the entries that start a chain, along identities, to all in which a chain ends.
+-- A walk from the entries that start a chain, from identities to children, reaches all entries in which a chain ends.
 use Rattle.std.proofs.Common.{◌≡◌, ℕ, zero, suc, ◌+◌, ◌-◌, ◌<◌, Bool, true, false, not, ◌&&◌, ◌||◌, ◌⊎◌, List, [], ◌∷◌, ◌++◌, length, length-append, refl, sym, ap, subst, ◌∙◌, inl, inr, ⊎_elim, arith}
 use Rattle.std.specs.Prelude.{filter, bytes_eq}
 use Rattle.std.proofs.lemmas.Bool.{or_cases, or_left, or_right, and_from, and_parts, not_from_false, cases_Bool, false≢true}
@@ -17,18 +17,19 @@ abbrev pub reached : Bytes → Agent → List Bytes → Entry → Bool
 reached s a [] e = starts s a e
 reached s a (i ∷ is) e = reached s a is e || bytes_eq e.parent i
 
--- the entries not reached before whose parent this is
+-- the entries of this parent that were not reached before
 abbrev pub new_children : Bytes → Agent → List Bytes → Bytes → List Entry → List Entry
 new_children s a is i es = filter (λ e. not (reached s a is e) && bytes_eq e.parent i) es
 
--- The children of these identities are reached, and those of the entries that wait are not read yet.
+-- The invariant of the walk. Each identity visited is that of an entry in which a chain ends. Each waiting entry is reached. Each entry
+-- reached is waiting, or its identity is visited.
 pub record Walked (s : Bytes) (a : Agent) (es : List Entry) (is : List Bytes) (waiting : List Entry) : Type 0 where
   pub known : (i : Bytes) → Within is i → (c : Entry) × Within es c × (c.identity ≡ i) × (ends_within s a es (length es) c ≡ true)
   pub inside : (c : Entry) → Within waiting c → Within es c × (reached s a is c ≡ true)
   pub closed : (c : Entry) → Within es c → reached s a is c ≡ true → Within waiting c ⊎ Within is c.identity
 
 module _ (s : Bytes) (a : Agent) (es : List Entry) where
-  -- the agent's children that it doesn't hold
+  -- the agent's children, except the aliases that it holds
   abbrev pub own_children : Entry → Bool
   own_children e = not (holds s a e) && bytes_eq e.parent a.id
 
@@ -48,7 +49,7 @@ module _ (s : Bytes) (a : Agent) (es : List Entry) where
         (or_cases (holds s a c) _ t));
   }
 
-  -- what is reached ends a chain
+  -- a chain ends in each entry reached
   ends : (is : List Bytes) → ((i : Bytes) → Within is i → (c : Entry) × Within es c × (c.identity ≡ i) × (ends_within s a es (length es) c ≡ true)) → (e : Entry) → Within es e → reached s a is e ≡ true → ends_within s a es (length es) e ≡ true
   ends [] known e w t = start s a es (length es) e t
   ends (i ∷ is) known e w t = ⊎_elim
@@ -56,7 +57,7 @@ module _ (s : Bytes) (a : Agent) (es : List Entry) where
       (λ new. let c = known i (inl refl) in bounded s a es e (suc (length es)) w (more s a es (length es) e c.0 c.1 (text_is e.parent i new ∙ sym c.2) c.3))
       (or_cases (reached s a is e) _ t)
 
-  -- the children of one entry more
+  -- the invariant after the children of one more entry
   pub further : (is : List Bytes) (waiting : List Entry) (c : Entry) → Walked s a es is (waiting ++ c ∷ []) → Walked s a es (c.identity ∷ is) (waiting ++ new_children s a is c.identity es)
   further is waiting c h =
       let new : List Entry = new_children s a is c.identity es in
@@ -93,18 +94,18 @@ module _ (s : Bytes) (a : Agent) (es : List Entry) where
       (λ r. ⊎_elim (λ v. absurd v) (λ v. from_read is (r.0).identity e v r.2) (h.closed r.0 r.1 (all_reached is h n r.0 r.1 r.3)))
       (less s a es n e t)
 
--- ---- tests that agree
+-- ---- tests with the same result
 
 same_test : (b c : Bool) → (b ≡ true → c ≡ true) → (c ≡ true → b ≡ true) → b ≡ c
 same_test true c f g = sym (f refl)
 same_test false true f g = g refl
 same_test false false f g = refl
 
--- at the end those reached are those in which a chain ends
+-- at the end, the entries reached are those in which a chain ends
 pub at_end : (s : Bytes) (a : Agent) (es : List Entry) (is : List Bytes) → Walked s a es is [] → filter (reached s a is) es ≡ filter (ends_within s a es (length es)) es
 at_end s a es is h = same_filter (reached s a is) (ends_within s a es (length es)) es (λ e w. same_test _ _ (ends s a es is h.known e w) (all_reached s a es is h (length es) e w))
 
--- ---- the first entries found, and one turn
+-- ---- the first entries found, and one iteration
 
 module _ (s : Bytes) (a : Agent) (es : List Entry) (order : Ascending entry_key es) where
   pub first_found : (starts none first : List Entry) → starts ≡ filter (holds s a) es → none ≡ [] → first ≡ with_all starts none → first ≡ filter (holds s a) es
@@ -128,7 +129,7 @@ module _ (s : Bytes) (a : Agent) (es : List Entry) (order : Ascending entry_key 
       ap (filter (is_missing first)) o ∙ (ap (λ l. filter (is_missing l) (filter (λ e. bytes_eq e.parent a.id) es)) f ∙ new_found (holds s a) (λ e. bytes_eq e.parent a.id) es order) in
       subst (Walked s a es []) (sym (w ∙ (ap (λ l. l ++ filter (is_missing first) own) all_new ∙ ap (λ l. filter (holds s a) es ++ l) others))) (at_start s a es)
 
-  -- The children of the entry c are found, and those not found before wait.
+  -- One iteration: the children of the entry c are put among those found, and those not found before are appended to the waiting ones.
   pub record Turn (is : List Bytes) (i : Bytes) (c : Entry) (children old new before after : List Entry) : Type 0 where
     pub identity : i ≡ c.identity
     pub read : children ≡ filter (λ e. bytes_eq e.parent i) es

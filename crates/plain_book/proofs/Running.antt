@@ -1,4 +1,4 @@
--- A run that goes on, operation by operation.
+-- A run, operation by operation.
 use Rattle.std.proofs.Common.{◌≡◌, Bool, true, false, ℕ, zero, suc, ◌+◌, ◌<◌, List, [], ◌∷◌, ◌++◌, length, get_or, drop, None, Result, Ok, Err, IfOk, refl, sym, ap, subst, ◌∙◌, append_assoc, arith}
 use Rattle.std.specs.List.{AllByRecursion}
 use Rattle.std.proofs.lemmas.List.{at_drop_more}
@@ -38,7 +38,7 @@ accepted_is : (own : Bytes) (m : ℕ) (o : OpResult) (reply : OpReply) (b c : Bo
 accepted_is own m (Ok d) reply b c h e = let q = ok_is (reply, c) (d.reply, after d.writes b) e in subst (Lawful own m) (sym (ap (λ t. t.1) q)) h
 accepted_is own m (Err r) reply b c h e = cc
 
--- an operation that is accepted leaves a lawful book
+-- the book after an accepted operation is lawful
 pub keeps_at : (batch : Batch) (m n : ℕ) (op : Op) (reply : OpReply) (b c : Book) → IsMadeFor batch.domain batch → Lawful batch.domain (m + n) b → n < length batch.ops → op ≡ get_or batch.ops n op → Ok (reply, c) ≡ performed (op_of batch.domain op b) b → Lawful batch.domain (m + (n + 1)) c
 keeps_at batch m n op reply b c made l k e h =
     let proper = all_at IsProperOp batch.ops n op made.proper k e in
@@ -49,7 +49,7 @@ keeps_at batch m n op reply b c made l k e h =
 
 -- ---- the outcome of the run
 
--- an accepted operation more
+-- after one more accepted operation
 onto_more : (n : ℕ) (replies : List OpReply) (b : Book) (d : OpEffect) (r : RunResult) → resumed n replies b (onto d r) ≡ resumed (n + 1) (replies ++ d.reply ∷ []) (after d.writes b) r
 onto_more n replies b d (Ok t) = ap (λ l. Accepted l (after (d.writes ++ t.writes) b)) (sym (append_assoc replies (d.reply ∷ []) t.replies)) ∙ ap (Accepted ((replies ++ d.reply ∷ []) ++ t.replies)) (after-append d.writes t.writes b)
 onto_more n replies b d (Err s) = let q : n + (s.op + 1) ≡ n + 1 + s.op = omega arith in ap (λ m. RefusedAt m s.reason) q
@@ -68,7 +68,7 @@ goes_on domain ops n op replies reply b c l e h =
     ∙ (ap (λ x. resumed n replies b (run domain (x ∷ drop (n + 1) ops) b)) (sym e)
     ∙ then_more n replies b c (op_of domain op b) (λ d. run domain (drop (n + 1) ops) (after d.writes b)) reply (λ x. run domain (drop (n + 1) ops) x) (λ d. refl) h)
 
--- a refused operation
+-- after a refused operation
 then_stop : (n : ℕ) (replies : List OpReply) (b : Book) (o : OpResult) (f : OpEffect → RunResult) (r : OpRefusal) → Err r ≡ performed o b → resumed n replies b (then_run o f) ≡ RefusedAt n r
 then_stop n replies b (Ok d) f r e = cc
 then_stop n replies b (Err s) f r e = let q : n + 0 ≡ n = omega arith in let k : s ≡ r = cc in ap (λ m. RefusedAt m s) q ∙ ap (RefusedAt n) k

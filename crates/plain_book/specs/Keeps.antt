@@ -1,10 +1,11 @@
--- What holds of all that a plain book keeps.
+-- The invariant of the state of a plain book.
 use Rattle.std.specs.Prelude.{◌*◌, ◌^◌, ◌≤◌, length}
 use Rattle.std.specs.List.{AllByRecursion}
 use Rattle.entry_book.specs.History.{PlainState, kept_books}
 use Rattle.entry_book.specs.Lawful.{Lawful}
 
--- All its books are lawful, and no more are kept than are read.
+-- All stored books are lawful, with 64 times the place as the bound. At most 63 are older than the newest. The place is at most
+-- 2^48.
 pub record IsSound (state : PlainState) : Type 0 where
   pub lawful : AllByRecursion (Lawful state.domain (64 * state.place)) (kept_books state)
   pub few : length state.older ≤ 63

@@ -1,4 +1,5 @@
--- What the code of an operation, of a batch's run and of its verdict returns: the defined result of the operation and of the run, with the book after the writes in the place of the writes, and the defined verdict.
+-- What the code returns for an operation, the run of a batch, and its verdict. For the first two it is the defined result, with the book
+-- after the writes instead of the writes. For the third it is the defined verdict.
 use Rattle.std.specs.Prelude.{Bool, true, false, ℕ, ◌+◌, List, ◌++◌, Result, Ok, Err}
 use Rattle.entry_book.specs.declared.reply.OpReply.{OpReply}
 use Rattle.entry_book.specs.declared.reply.OpRefusal.{OpRefusal}
@@ -18,7 +19,7 @@ abbrev pub performed : OpResult → Book → Result (OpReply × Book) OpRefusal
 performed (Ok d) b = Ok (d.reply, after d.writes b)
 performed (Err r) b = Err r
 
--- a run that goes on after n operations with these replies
+-- the outcome of a batch: its first n operations have these replies, and its others have this result on this book
 abbrev pub resumed : ℕ → List OpReply → Book → RunResult → BatchRun
 resumed n replies b (Ok t) = Accepted (replies ++ t.replies) (after t.writes b)
 resumed n replies b (Err s) = RefusedAt (n + s.op) s.reason
@@ -33,7 +34,7 @@ told (Answers replies) = answers replies
 told (Adds replies b) = adds replies b
 told (Repeats n replies) = repeats n replies
 
--- the verdict on a batch, a query or not, whose run is accepted with these replies and this book after it
+-- the verdict on a batch whose operations are accepted, with these replies and this book after them; the flag is true for a query
 abbrev pub verdict_accepted : Bool → Batch → ℕ → List OpReply → Book → Verdict
 verdict_accepted true batch place replies b = answers replies
 verdict_accepted false batch place replies b = adds_within (limit_passed place (after (token_writes batch.token batch.ops (place + 1) replies) b)) replies (after (token_writes batch.token batch.ops (place + 1) replies) b)

@@ -1,10 +1,11 @@
--- The place of a key's row among rows in order, or the place where it is missing. For this crate's own contracts.
+-- The index of a key's row in a list of rows, or where it would be inserted. Used by the contracts within this crate only.
 use Rattle.std.specs.Prelude.{◌≡◌, ◌<◌, ◌≤◌, ℕ, suc, List, filter, take, drop, length, Result, Ok, Err}
 use Rattle.std.specs.List.{HoldsAt}
 use Rattle.entry_book.specs.Rows.{Bytes}
 use Rattle.entry_book.specs.Order.{is_before}
 
--- the row of the key is there, between the rows below it and those above it; or it is missing there
+-- The rows before this index are exactly those below the key. Ok: the row at it has the key, and the rows after it are exactly
+-- those above the key. Err: the rows from it on are exactly those above the key.
 abbrev pub IsPlace : {X : Type 0} → (X → Bytes) → List X → Bytes → Result ℕ ℕ → Type 0
 IsPlace key rows k (Ok at) = (at < length rows) × HoldsAt (λ x. key x ≡ k) rows at × (take at rows ≡ filter (λ x. is_before (key x) k) rows) × (drop (suc at) rows ≡ filter (λ x. is_before k (key x)) rows)
 IsPlace key rows k (Err at) = (at ≤ length rows) × (take at rows ≡ filter (λ x. is_before (key x) k) rows) × (drop at rows ≡ filter (λ x. is_before k (key x)) rows)

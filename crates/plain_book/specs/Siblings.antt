@@ -1,4 +1,4 @@
--- The entries of a book by their parents: a second list of the entries. For this crate's own contracts.
+-- The list of all parents with their entries, an index of the entries of a book. Used by the contracts within this crate only.
 use Rattle.std.specs.Prelude.{◌≡◌, Bool, List, [], ◌∷◌, filter, not, Option, Some, None, bytes_eq, is_some}
 use Rattle.plain_book.specs.declared.siblings.Siblings.{Siblings}
 use Rattle.entry_book.specs.Rows.{Bytes, Entry, entry_key}
@@ -11,16 +11,16 @@ abbrev pub entries_of : Option Siblings → List Entry
 entries_of None = []
 entries_of (Some s) = s.entries
 
--- the entries that the list has of a parent
+-- the entries in the first row of this parent; none if it has no row
 abbrev pub siblings_at : Bytes → List Siblings → List Entry
 siblings_at p all = entries_of (first (filter (λ s. bytes_eq s.parent p) all))
 
--- The list has the entries of each parent.
+-- The list is in the order of parents, and has for each parent its entries, in the order of the entries.
 pub record IsByParent (entries : List Entry) (all : List Siblings) : Type 0 where
   pub order : Ascending parent_key all
   pub each : (p : Bytes) → siblings_at p all ≡ filter (λ e. bytes_eq e.parent p) entries
 
--- The new list has these entries of one parent, and those of the old one of each other parent.
+-- The new list is in the order of parents. It has these entries for this parent, and those of the old list for each other parent.
 pub record ChangesAt (parent : Bytes) (entries : List Entry) (old new : List Siblings) : Type 0 where
   pub order : Ascending parent_key new
   pub here : siblings_at parent new ≡ entries

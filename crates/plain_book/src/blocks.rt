@@ -1,4 +1,4 @@
-//! Where in blocks of rows does a key stand, and how is the block of a key replaced?
+//! Where in blocks of rows does a key belong, and how is the block of a key replaced?
 
 ghost use Rattle.std.specs.Prelude.{◌≡◌, ◌≤◌, ◌<◌, ◌++◌, ◌∷◌, [], OnOk, IfOk, length};
 ghost use Rattle.std.specs.List.{AllByRecursion};
@@ -12,10 +12,10 @@ use std::alloc::{AllocError, Global};
 /// The largest number of rows in a block.
 const MOST: usize = 256;
 
-/// A few rows that are next to each other. Books share it.
+/// Consecutive rows of a list, shared by books through a reference count.
 pub(crate) type Block<T> = Shared<Sequence<T>>;
 
-/// Are these bytes before the others?
+/// Returns true if the bytes are before the others in lexicographic order.
 #[tactic(auto, unfolding(entry_book::specs::Order::is_before))]
 fn is_before(bytes: &[u8], others: &[u8]) -> bool
     ensures { result ≡ is_before bytes.now others.now }
@@ -23,7 +23,7 @@ fn is_before(bytes: &[u8], others: &[u8]) -> bool
     bytes.cmp(others).is_lt()
 }
 
-/// Does the block begin behind the key?
+/// Returns true if the block has a first row and its key is after this key.
 fn begins_behind<T: BookRow>(block: &[T], key: &[u8]) -> bool
     ensures { result ≡ begins_behind T.key key.now block.now }
 {
@@ -33,7 +33,7 @@ fn begins_behind<T: BookRow>(block: &[T], key: &[u8]) -> bool
     }
 }
 
-/// How many of the blocks don't begin behind the key, by binary search.
+/// Returns the number of blocks that don't begin after the key, by binary search.
 fn block_place<T: BookRow>(blocks: &[Block<T>], key: &[u8]) -> usize
     ensures { IsBlockPlace T.key key.now blocks.now result }
 {
@@ -50,8 +50,8 @@ fn block_place<T: BookRow>(blocks: &[Block<T>], key: &[u8]) -> usize
     from
 }
 
-/// Blocks, cut at a key: those whose rows are below it, the rows of the block that has it or would have it, and the blocks
-/// whose rows are above it.
+/// Blocks cut at a key: the blocks whose rows are below it, the rows of the block to which it belongs, and the blocks whose
+/// rows are above it.
 #[derive(Drop)]
 pub(crate) struct Cut<'a, T> {
     pub(crate) before: &'a [Block<T>],
@@ -59,7 +59,7 @@ pub(crate) struct Cut<'a, T> {
     pub(crate) behind: &'a [Block<T>],
 }
 
-/// Cuts the blocks at a key.
+/// Cuts the blocks at a key, by binary search.
 pub(crate) fn cut_at<'a, T: BookRow>(blocks: &'a [Block<T>], key: &[u8]) -> Cut<'a, T>
     requires order { Ascending T.key (joined blocks.now) }
     requires filled { AllByRecursion IsBlock blocks.now }
@@ -81,7 +81,7 @@ pub(crate) fn cut_at<'a, T: BookRow>(blocks: &'a [Block<T>], key: &[u8]) -> Cut<
     }
 }
 
-/// Adds the blocks, which are then shared. The error, here and below, is out of memory.
+/// Appends the blocks, and increments their reference counts. The error, here and below, is out of memory.
 fn push_shared<T: Drop>(blocks: &[Block<T>], out: &mut Vec<Block<T>>) -> Result<(), AllocError>
     ensures { OnOk result (out.new.items ≡ out.old.items ++ blocks.now) }
 {
@@ -91,7 +91,7 @@ fn push_shared<T: Drop>(blocks: &[Block<T>], out: &mut Vec<Block<T>>) -> Result<
     Ok(())
 }
 
-/// Adds the rows as one block.
+/// Appends the rows as one block.
 fn push_block<T: Drop>(
     alloc: Global,
     rows: Vec<T>,
@@ -103,7 +103,7 @@ fn push_block<T: Drop>(
     Ok(())
 }
 
-/// Adds the rows as one block, or as two halves where they are too many for one. No rows are no block.
+/// Appends the rows as one block, or as two halves if there are more than 256; appends nothing if there are none.
 fn push_rows<T: Drop>(
     alloc: Global,
     rows: Vec<T>,
@@ -128,7 +128,7 @@ fn push_rows<T: Drop>(
     Ok(())
 }
 
-/// The blocks with other rows in the place of those at the cut.
+/// Returns the blocks in which these rows replace those at the cut.
 pub(crate) fn mended<T: Drop>(
     alloc: Global,
     cut: &Cut<T>,

@@ -1,4 +1,4 @@
-//! How is a book kept?
+//! How is a book stored?
 
 ghost use Rattle.std.specs.Prelude.{◌≡◌};
 
@@ -18,8 +18,8 @@ use std::alloc::{AllocError, Global};
 use std::marker::Model;
 use uuid::Uuid;
 
-/// A book: its entries, agents, bundles and kept batches, each a list of rows in the order of their keys. Books share the
-/// lists that they have in common, and the rows. A contract sees it as the record of the four lists.
+/// A book: its entries, agents, bundles and batches with tokens, each a list of rows in the order of their keys. Books share
+/// by reference counts the lists, blocks and rows that they have in common. A contract sees it as the record of the four lists.
 #[derive(Drop)]
 pub(crate) struct Book {
     entries: Entries,
@@ -48,7 +48,7 @@ impl Model for Book {
     }) };
 }
 
-/// The rows that operations ask for.
+/// Reading rows.
 impl Book {
     ghost use Rattle.std.specs.Prelude.{◌≡◌, IfOk};
     ghost use Rattle.std.specs.Option.{option_copied};
@@ -60,28 +60,28 @@ impl Book {
     ghost use Rattle.entry_book.specs.Ops.{bundles_of, lacking, similar};
     ghost use Rattle.entry_book.specs.Pages.{listed, next_of};
 
-    /// The entry of an id.
+    /// Returns the entry with an id, if there is one.
     pub(crate) fn entry(&self, id: &Uuid) -> Option<&Entry>
         ensures { option_copied result ≡ entry_at id.now self.now }
     {
         self.entries.entry(id)
     }
 
-    /// The agent of an id.
+    /// Returns the agent with an id, if there is one.
     pub(crate) fn agent(&self, id: &SpiffeId) -> Option<&Agent>
         ensures { option_copied result ≡ agent_at id.now self.now }
     {
         self.agents.row(id.as_str().as_bytes())
     }
 
-    /// The bundle of a domain.
+    /// Returns the bundle of a domain, if there is one.
     pub(crate) fn bundle(&self, domain: &TrustDomain) -> Option<&Bundle>
         ensures { option_copied result ≡ bundle_at domain.now self.now }
     {
         self.bundles.row(domain.as_str().as_bytes())
     }
 
-    /// The batch that is kept under a token.
+    /// Returns the batch stored under a token, if there is one.
     pub(crate) fn kept(&self, token: &Uuid) -> Option<&KeptBatch>
         ensures { option_copied result ≡ token_at token.now self.now }
     {
@@ -91,14 +91,14 @@ impl Book {
         }
     }
 
-    /// Another entry with the same parent, identity and selectors.
+    /// Returns the first other entry with the same parent, identity and selectors, if there is one.
     pub(crate) fn similar(&self, new: &NewEntry) -> Option<&Entry>
         ensures { option_copied result ≡ similar (at_revision 0 new.now) self.now }
     {
         self.entries.similar(new)
     }
 
-    /// The first of these domains that has no bundle.
+    /// Returns the first of these domains that has no bundle, if there is one.
     pub(crate) fn lacking<'a>(&self, domains: &'a DomainSet) -> Option<&'a Shared<TrustDomain>>
         ensures { option_copied result ≡ lacking domains.now self.now }
     {
@@ -110,14 +110,14 @@ impl Book {
         None
     }
 
-    /// The first entry that names a domain.
+    /// Returns the first entry that names a domain, if there is one.
     pub(crate) fn user(&self, domain: &TrustDomain) -> Option<&Entry>
         ensures { option_copied result ≡ first (users_of domain.now self.now) }
     {
         first_user(self.entries.blocks(), domain)
     }
 
-    /// The entries that name a domain, in the order of their ids. The error, here and below, is out of memory.
+    /// Returns the entries that name a domain, in the order of their ids. The error, here and below, is out of memory.
     pub(crate) fn users(
         &self,
         alloc: Global,
@@ -129,7 +129,7 @@ impl Book {
         users_among(alloc, all.as_slice(), domain)
     }
 
-    /// The entries that expire before a moment, in the order of their ids.
+    /// Returns the entries that expire before a moment, in seconds since the epoch, in the order of their ids.
     pub(crate) fn expired(&self, alloc: Global, moment: u64) -> Result<Vec<Entry>, AllocError>
         ensures { IfOk result (λ expired. expired.items ≡ expired_before moment self.now) }
     {
@@ -137,7 +137,7 @@ impl Book {
         expired_among(alloc, all.as_slice(), moment)
     }
 
-    /// The entries of a parent, in the order of their ids.
+    /// Returns the entries of a parent, in the order of their ids.
     pub(crate) fn children(
         &self,
         alloc: Global,
@@ -149,8 +149,8 @@ impl Book {
         Ok(Sequence::of(found))
     }
 
-    /// The entries that a page lists, in the order of their ids, and the id after which the next page begins, where there is
-    /// one.
+    /// Returns the entries that a page lists, in the order of their ids. If more entries follow, it also returns the id after
+    /// which the next page begins.
     pub(crate) fn page(
         &self,
         alloc: Global,
@@ -162,7 +162,7 @@ impl Book {
         Ok((Sequence::of(found), next))
     }
 
-    /// The entries that an agent may hand out, in the order of their ids, in the book of a trust domain.
+    /// Returns the entries that an agent may hand out in the book of this trust domain, in the order of their ids.
     #[tactic(auto, unfolding(entry_book::specs::Authorised::authorised))]
     pub(crate) fn authorised(
         &self,
@@ -176,7 +176,7 @@ impl Book {
         Ok(Sequence::of(found))
     }
 
-    /// The bundles that these entries name, in the order of their domains.
+    /// Returns the bundles of the domains that these entries name, in the order of domains.
     pub(crate) fn bundles_of(
         &self,
         alloc: Global,
@@ -190,7 +190,7 @@ impl Book {
     }
 }
 
-/// The books that operations make. The error is out of memory.
+/// Making changed books. The error is out of memory.
 impl Book {
     ghost use Rattle.std.specs.Prelude.{◌≡◌, ◌≤◌, ◌^◌, IfOk, None, Some, map};
     ghost use Rattle.entry_book.specs.Rows.{Entry as EntryRow, agent_key, bundle_key, entry_key};
@@ -200,7 +200,7 @@ impl Book {
     ghost use Rattle.entry_book.specs.Writes.{after};
     ghost use Rattle.entry_book.specs.Ops.{freed, removed};
 
-    /// The book with no rows.
+    /// Returns the book with no rows.
     pub(crate) fn empty(alloc: Global) -> Result<Book, AllocError>
         ensures { IfOk result (λ book. book ≡ empty_book) }
     {
@@ -292,7 +292,7 @@ impl Book {
         })
     }
 
-    /// The book with this entry in the place of the one of its id.
+    /// Returns the book with this entry, which replaces the one with its id, if there is one.
     pub(crate) fn with_entry(&self, alloc: Global, entry: Entry) -> Result<Book, AllocError>
         ensures { IfOk result (λ book. book ≡ record self.now {
           entries = with_row entry_key entry.id (Some entry) self.now.entries;
@@ -302,7 +302,7 @@ impl Book {
         self.with_entries(entries)
     }
 
-    /// The book without the entry of this one's id.
+    /// Returns the book without the entry that has this one's id, if there is one.
     pub(crate) fn without_entry(&self, alloc: Global, entry: &Entry) -> Result<Book, AllocError>
         ensures { IfOk result (λ book. book ≡ record self.now {
           entries = with_row entry_key entry.now.id None self.now.entries;
@@ -312,7 +312,7 @@ impl Book {
         self.with_entries(entries)
     }
 
-    /// The book without these entries, which are taken away one after another.
+    /// Returns the book without the entries of these ids, removed one after another.
     pub(crate) fn without_all(&self, alloc: Global, gone: &[Entry]) -> Result<Book, AllocError>
         ensures { IfOk result (λ book. book ≡ after (map removed gone.now) self.now) }
     {
@@ -323,7 +323,7 @@ impl Book {
         Ok(rest)
     }
 
-    /// The book with each of these entries dissociated from a domain, one after another.
+    /// Returns the book with each of these entries without a domain and at its next revision, put there one after another.
     pub(crate) fn with_freed(
         &self,
         alloc: Global,
@@ -341,7 +341,7 @@ impl Book {
         Ok(changed)
     }
 
-    /// The book with this agent in the place of the one of its id.
+    /// Returns the book with this agent, which replaces the one with its id, if there is one.
     pub(crate) fn with_agent(&self, alloc: Global, agent: Agent) -> Result<Book, AllocError>
         ensures { IfOk result (λ book. book ≡ record self.now {
           agents = with_row agent_key agent.id (Some agent) self.now.agents;
@@ -351,7 +351,7 @@ impl Book {
         self.with_agents(agents)
     }
 
-    /// The book without the agent of this one's id.
+    /// Returns the book without the agent that has this one's id, if there is one.
     pub(crate) fn without_agent(&self, alloc: Global, agent: &Agent) -> Result<Book, AllocError>
         ensures { IfOk result (λ book. book ≡ record self.now {
           agents = with_row agent_key agent.now.id None self.now.agents;
@@ -363,7 +363,7 @@ impl Book {
         self.with_agents(agents)
     }
 
-    /// The book with this bundle in the place of the one of its domain.
+    /// Returns the book with this bundle, which replaces the one of its domain, if there is one.
     pub(crate) fn with_bundle(&self, alloc: Global, bundle: Bundle) -> Result<Book, AllocError>
         ensures { IfOk result (λ book. book ≡ record self.now {
           bundles = with_row bundle_key bundle.domain (Some bundle) self.now.bundles;
@@ -373,7 +373,7 @@ impl Book {
         self.with_bundles(bundles)
     }
 
-    /// The book without the bundle of this one's domain.
+    /// Returns the book without the bundle of this one's domain, if there is one.
     pub(crate) fn without_bundle(&self, alloc: Global, bundle: &Bundle) -> Result<Book, AllocError>
         ensures { IfOk result (λ book. book ≡ record self.now {
           bundles = with_row bundle_key bundle.now.domain None self.now.bundles;
@@ -385,7 +385,7 @@ impl Book {
         self.with_bundles(bundles)
     }
 
-    /// The book with this kept batch in the place of the one of its token.
+    /// Returns the book with this batch stored under its token, which replaces the one there, if there is one.
     pub(crate) fn with_token(
         &self,
         alloc: Global,

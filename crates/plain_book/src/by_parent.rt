@@ -1,4 +1,4 @@
-//! How are the entries by their parents changed?
+//! How is the list of all parents changed?
 
 ghost use Rattle.std.specs.Prelude.{◌≡◌, IfOk, None, Some};
 ghost use Rattle.entry_book.specs.Order.{Ascending, with_row};
@@ -11,7 +11,8 @@ use entry_book::{Entry, Shared, beside};
 use spiffe_name::SpiffeId;
 use std::alloc::{AllocError, Global};
 
-/// The list with these entries of a parent; a parent with none has no row there. The error, here and below, is out of memory.
+/// Returns the list with these entries for a parent; without a row for it if there are none. The error, here and below, is out of
+/// memory.
 fn with_siblings(
     alloc: Global,
     all: &Rows<Siblings>,
@@ -28,7 +29,7 @@ fn with_siblings(
     all.with(alloc, Siblings { parent, entries })
 }
 
-/// The entries of the parent, with this one in the place of the one of its id.
+/// Returns the entries of this one's parent with this one, which replaces the one with its id, if there is one.
 fn siblings_with(
     alloc: Global,
     all: &Rows<Siblings>,
@@ -46,7 +47,7 @@ fn siblings_with(
     }
 }
 
-/// The list with this entry among those of its parent, in the place of the one of its id.
+/// Returns the list with this entry among those of its parent; it replaces the one with its id there, if there is one.
 pub(crate) fn with_sibling(
     alloc: Global,
     all: &Rows<Siblings>,
@@ -61,7 +62,7 @@ pub(crate) fn with_sibling(
     with_siblings(alloc, all, entry.parent(), entries)
 }
 
-/// The list without this entry among those of its parent.
+/// Returns the list in which the entries of this one's parent lack the one with its id.
 pub(crate) fn without_sibling(
     alloc: Global,
     all: &Rows<Siblings>,

@@ -1,7 +1,7 @@
-//! How are the entries of a book kept?
+//! How are the entries of a book stored?
 //!
-//! Twice: in the order of their ids, and by their parents. Finding an entry, or the entries of a parent, takes some log n
-//! comparisons. A similar entry is searched among those of its parent alone.
+//! In two lists: one in the order of ids, and one that groups them by parent. Finding an entry, or the entries of a parent,
+//! takes about log2 n comparisons. A search for a similar entry reads only the entries of its parent.
 
 ghost use Rattle.std.specs.Prelude.{◌≡◌, IfOk};
 
@@ -47,7 +47,7 @@ impl Entries {
     ghost use Rattle.plain_book.specs.Blocks.{joined};
     ghost use Rattle.plain_book.specs.Siblings.{IsByParent};
 
-    /// No entries. The error, here and below, is out of memory.
+    /// Returns an empty list. The error, here and below, is out of memory.
     pub(crate) fn empty(alloc: Global) -> Result<Entries, AllocError>
         ensures { IfOk result (λ entries. entries ≡ []) }
     {
@@ -57,35 +57,35 @@ impl Entries {
         })
     }
 
-    /// How many there are.
+    /// Returns the number of entries.
     pub(crate) fn len(&self) -> usize
         ensures { result ≡ length self.now }
     {
         self.by_id.len()
     }
 
-    /// The blocks of the entries, in order.
+    /// Returns the blocks of the list in the order of ids.
     pub(crate) fn blocks(&self) -> &[Block<Entry>]
         ensures { joined result.now ≡ self.now }
     {
         self.by_id.blocks()
     }
 
-    /// All entries. Each one's reference count is incremented.
+    /// Returns a vector of all entries, and increments the reference count of each.
     pub(crate) fn to_vec(&self, alloc: Global) -> Result<Vec<Entry>, AllocError>
         ensures { IfOk result (λ all. all.items ≡ self.now) }
     {
         self.by_id.to_vec(alloc)
     }
 
-    /// The entry of an id.
+    /// Returns the entry with an id, if there is one.
     pub(crate) fn entry(&self, id: &Uuid) -> Option<&Entry>
         ensures { option_copied result ≡ first (filter (λ entry. bytes_eq entry.id id.now) self.now) }
     {
         self.by_id.row(id.as_bytes().as_slice())
     }
 
-    /// The entries of a parent.
+    /// Returns the entries of a parent, in the order of their ids.
     pub(crate) fn children(
         &self,
         alloc: Global,
@@ -101,7 +101,7 @@ impl Entries {
         }
     }
 
-    /// Another entry with the same parent, identity and selectors: the first one.
+    /// Returns the first other entry with the same parent, identity and selectors, if there is one.
     pub(crate) fn similar(&self, new: &NewEntry) -> Option<&Entry>
         ensures { option_copied result ≡ first (filter
             (λ entry. set_eq entry.selectors new.now.selectors && not (bytes_eq entry.id new.now.id))
@@ -113,7 +113,7 @@ impl Entries {
         }
     }
 
-    /// The entries with this one in the place of the one of its id.
+    /// Returns the entries with this one, which replaces the one with its id, if there is one.
     pub(crate) fn with(&self, alloc: Global, entry: Entry) -> Result<Entries, AllocError>
         ensures rows { IfOk result (λ new. new ≡ with_row entry_key entry.id (Some entry) self.now) }
         ensures order { IfOk result (λ new. Ascending entry_key new) }
@@ -123,7 +123,7 @@ impl Entries {
         Ok(Entries { by_id, by_parent })
     }
 
-    /// The entries without the one of this id.
+    /// Returns the entries without the one with this id, if there is one.
     pub(crate) fn without(&self, alloc: Global, id: &Uuid) -> Result<Entries, AllocError>
         ensures rows { IfOk result (λ new. new ≡ with_row entry_key id.now None self.now) }
         ensures order { IfOk result (λ new. Ascending entry_key new) }
@@ -134,7 +134,7 @@ impl Entries {
         Ok(Entries { by_id, by_parent })
     }
 
-    /// The entries by their parents, with this one in the place of the one of its id.
+    /// Returns the list by parents with this entry, which replaces the one with its id, if there is one.
     fn by_parent_with(&self, alloc: Global, entry: &Entry) -> Result<Rows<Siblings>, AllocError>
         ensures { IfOk result
             (λ new. IsByParent (with_row entry_key entry.now.id (Some entry.now) self.now) new) }
@@ -143,7 +143,7 @@ impl Entries {
         with_sibling(alloc, &others, entry)
     }
 
-    /// The entries by their parents, without the one of this id.
+    /// Returns the list by parents without the entry with this id, if there is one.
     fn by_parent_without(&self, alloc: Global, id: &Uuid) -> Result<Rows<Siblings>, AllocError>
         ensures by_parent { IfOk result (λ new. IsByParent (with_row entry_key id.now None self.now) new) }
         ensures order { Ascending entry_key self.now }

@@ -6,7 +6,7 @@ ghost use Rattle.entry_book.specs.Book.{expires_before};
 use entry_book::Entry;
 use std::alloc::{AllocError, Global};
 
-/// Those of the entries that expire before a moment, in seconds since the epoch. The error is out of memory.
+/// Returns the entries that expire before a moment, in seconds since the epoch. The error is out of memory.
 pub(crate) fn expired_among(
     alloc: Global,
     entries: &[Entry],

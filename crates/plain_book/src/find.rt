@@ -23,7 +23,7 @@ fn is_another_with_its_selectors(entry: &Entry, new: &NewEntry) -> bool
     entry.selectors().get() == new.selectors.get() && entry.id() != &new.id
 }
 
-/// Another entry with the same parent, identity and selectors: the first one.
+/// Returns the first entry with the same parent, identity and selectors, but another id, if there is one.
 fn similar_to<'a>(entries: &'a [Entry], new: &NewEntry) -> Option<&'a Entry>
     ensures { option_copied result ≡ first (filter
         (λ entry. set_eq entry.selectors new.now.selectors && not (bytes_eq entry.id new.now.id))
@@ -37,7 +37,7 @@ fn similar_to<'a>(entries: &'a [Entry], new: &NewEntry) -> Option<&'a Entry>
     None
 }
 
-/// Another entry with the same parent, identity and selectors: the first one of the blocks.
+/// Returns the first such entry of the blocks. Reads entries up to the one found.
 pub(crate) fn first_similar<'a>(blocks: &'a [Block<Entry>], new: &NewEntry) -> Option<&'a Entry>
     ensures { option_copied result ≡ first (filter
         (λ entry. set_eq entry.selectors new.now.selectors && not (bytes_eq entry.id new.now.id))

@@ -9,8 +9,8 @@ use entry_book::{Entry, PageQuery};
 use std::alloc::{AllocError, Global};
 use uuid::Uuid;
 
-/// The first entries of the blocks that the page lists, as many as it has room for, and the id after which the next page
-/// begins, where there is one. The error, here and below, is out of memory.
+/// Returns the first entries of the blocks that the page lists, at most its size. If more entries follow, it also returns
+/// the id of the last one listed, after which the next page begins. The error, here and below, is out of memory.
 pub(crate) fn page_among(
     alloc: Global,
     query: &PageQuery,
@@ -33,7 +33,7 @@ pub(crate) fn page_among(
     Ok((listed, None))
 }
 
-/// Adds the entries that the page lists, until it has no more room. Returns whether it would list another one.
+/// Appends the entries that the page lists, until it is full. Returns true if it would list another one.
 fn add_listed(
     query: &PageQuery,
     entries: &[Entry],
@@ -56,7 +56,7 @@ fn add_listed(
     Ok(false)
 }
 
-/// The id of the last of these entries.
+/// Returns the id of the last entry, if there is one.
 fn last_id(entries: &[Entry]) -> Option<Uuid>
     ensures { result ≡ last_id entries.now }
 {

@@ -1,4 +1,4 @@
-//! Which earlier books are still kept?
+//! Which earlier books are still stored?
 
 ghost use Rattle.std.specs.Prelude.{◌≡◌, ◌∷◌, ◌++◌, ◌≤◌, [], List, length, OnErr, OnOk, ℕ};
 ghost use Rattle.std.specs.Option.{option_copied};
@@ -7,7 +7,7 @@ ghost use Rattle.entry_book.specs.History.{among_kept, last_of};
 use crate::book::Book;
 use std::alloc::AllocError;
 
-/// Adds a book behind the older ones, of which the last 63 stay. The error is out of memory, and then they are unchanged.
+/// Appends a book, and drops all but the last 63. The error is out of memory; it leaves the books unchanged.
 pub(crate) fn push_older(older: &mut Vec<Book>, book: Book) -> Result<(), AllocError>
     requires few { length older.old.items ≤ 63 }
     ensures ok { OnOk result (older.new.items ≡ last_of 63 (older.old.items ++ book ∷ [])) }
@@ -20,7 +20,7 @@ pub(crate) fn push_older(older: &mut Vec<Book>, book: Book) -> Result<(), AllocE
     Ok(())
 }
 
-/// The book of this number, where it is kept: the newest one, which is that of the place, or one of the older ones.
+/// Returns the book with this number, if it is stored: the newest one, whose number is the place, or an older one.
 pub(crate) fn among_kept<'a>(
     number: u64,
     older: &'a [Book],

@@ -1,4 +1,4 @@
-//! What does one operation do to the book that it finds?
+//! What does one operation reply, and how does it change the book?
 
 ghost use Rattle.std.specs.Prelude.{◌≡◌, IfOk};
 ghost use Rattle.entry_book.specs.Lawful.{CanGrow};
@@ -42,8 +42,8 @@ use std::alloc::{AllocError, Global};
 use trust::trust;
 use update::update;
 
-/// The operation's reply and the book after it, or why it is refused, in the book of a trust domain. The outer error
-/// is out of memory.
+/// Runs an operation on the book of a trust domain. Returns its reply and the book after it, or the reason for which it is
+/// refused. The outer error is out of memory.
 pub(crate) fn perform(
     alloc: Global,
     own: &TrustDomain,

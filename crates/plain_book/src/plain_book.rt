@@ -1,4 +1,4 @@
-//! What does a plain book keep from batch to batch, and what does it answer?
+//! What does a plain book store between batches, and what does it reply?
 
 ghost use Rattle.std.specs.Prelude.{◌≡◌};
 
@@ -11,9 +11,9 @@ use std::alloc::{AllocError, Global};
 use std::marker::Model;
 use std::mem::replace;
 
-/// A registration book for one thread. It represents the list of all its books so far, the first one empty: a batch
-/// that is committed adds the next one, and every other batch leaves the list unchanged. It keeps the last book, whose
-/// number is the place, and up to 63 before it.
+/// A registration book for one thread. It represents the list of all its books so far, the first one empty. A committed
+/// batch appends the next one, and every other batch leaves the list unchanged. It stores the last book, whose number is
+/// the place, and up to 63 before it.
 #[derive(Drop)]
 pub struct PlainBook {
     alloc: Global,
@@ -50,7 +50,7 @@ impl PlainBook {
     ghost use Rattle.entry_book.specs.History.{Stands, books_after, first_books, reply_on, reply_to, state_after};
     ghost use Rattle.entry_book.specs.Lawful.{Lawful};
 
-    /// The book of a trust domain's server, with no rows, at place 0. The error is out of memory.
+    /// Returns an empty book of a trust domain's server, at place 0. The error is out of memory.
     pub fn new(alloc: Global, domain: TrustDomain) -> Result<PlainBook, AllocError>
         ensures domain { IfOk result (λ book. book.domain ≡ domain) }
         ensures stands { IfOk result (λ book. Stands book first_books) }
@@ -64,8 +64,9 @@ impl PlainBook {
         })
     }
 
-    /// Runs a batch that was made for this book's trust domain. The reply and the new state depend on the state alone, and
-    /// agree with every list of books that it represents. The error is out of memory, and then nothing has changed.
+    /// Runs a batch that was made for this book's trust domain. The reply and the new state are functions of the batch and
+    /// the state. They agree with every list of books that the state represents. The error is out of memory; it leaves the
+    /// book unchanged.
     pub fn run(&mut self, batch: &Batch) -> Result<Reply, AllocError>
         requires made_for { batch.now.domain ≡ self.old.domain }
         ensures answered { IfOk result (λ reply. reply ≡ reply_on batch.now self.old) }
@@ -100,7 +101,7 @@ impl PlainBook {
         }
     }
 
-    /// The number of the last book, which is the count of committed batches.
+    /// Returns the number of the last book, which is the number of committed batches.
     pub fn place(&self) -> u64
         ensures place { result ≡ self.now.place }
         ensures most { self.now.place ≤ 2 ^ 48 }
@@ -111,7 +112,7 @@ impl PlainBook {
         *place
     }
 
-    /// The trust domain of the book's server.
+    /// Returns the trust domain of the book's server.
     pub fn domain(&self) -> &TrustDomain
         ensures { result.now ≡ self.now.domain }
     {
@@ -127,7 +128,7 @@ impl PlainBook {
     ghost use Rattle.entry_book.specs.Lawful.{Lawful};
     ghost use Rattle.plain_book.specs.Performed.{told};
 
-    /// The verdict on a batch.
+    /// Returns the outcome of a batch. The error is out of memory.
     fn verdict(&self, batch: &Batch) -> Result<Verdict, AllocError>
         requires made_for { batch.now.domain ≡ self.now.domain }
         ensures comes_to { IfOk result (λ verdict. told verdict ≡ verdict_of batch.now self.now) }
@@ -143,7 +144,7 @@ impl PlainBook {
         }
     }
 
-    /// The book that a batch reads: the last one, or the one that it asks for, where it is kept.
+    /// Returns the book that a batch reads: the last one, or the one whose number it gives, if that one is stored.
     fn kept_for(&self, asked: Option<u64>) -> Option<&Book>
         ensures { option_copied result ≡ kept_for asked self.now }
     {
@@ -153,7 +154,7 @@ impl PlainBook {
         }
     }
 
-    /// Adds a book. Of those before it the last 63 stay.
+    /// Appends a book, and drops all but the last 63 before it. The error is out of memory; it leaves the book unchanged.
     fn add(&mut self, book: Book) -> Result<(), AllocError>
         requires lawful { Lawful self.old.domain (64 * (self.old.place + 1)) book }
         requires room { self.old.place < 2 ^ 48 }

@@ -1,4 +1,4 @@
-//! What is a row of a book, and where does it stand among others in order?
+//! What is a row of a book, and where in a sorted list of rows is it?
 
 ghost use Rattle.std.specs.Prelude.{◌≡◌, ◌++◌, ◌∷◌, [], None, Some, OnOk, IfOk, List, ℕ, bytes_eq, filter};
 ghost use Rattle.std.specs.Cmp.Lexicographic.{slice_cmp};
@@ -11,15 +11,15 @@ use entry_book::{Agent, Bundle, Entry, KeptBatch, Shared};
 use std::alloc::{AllocError, Global};
 use std::cmp::Ordering;
 
-/// A row of a book: it has a key, by whose bytes rows are ordered.
+/// A row of a book. It has a key, and rows are ordered by the bytes of their keys.
 pub(crate) trait BookRow: Drop {
     ghost key: { Self → List ℕ };
 
-    /// The bytes of its key.
+    /// Returns the bytes of the key.
     fn key(&self) -> &[u8]
         ensures { result.now ≡ key self.now };
 
-    /// A copy, which increments the row's reference count. The error is out of memory.
+    /// Returns a copy that shares the row's data by reference counts. The error is out of memory.
     fn again(&self) -> Result<Self, AllocError>
         ensures { IfOk result (λ copy. copy ≡ self.now) };
 }
@@ -72,14 +72,14 @@ impl BookRow for Shared<KeptBatch> {
     }
 }
 
-/// How the row's key compares with another.
+/// Compares the row's key with another.
 fn compared<T: BookRow>(row: &T, key: &[u8]) -> Ordering
     ensures { result ≡ slice_cmp nat_cmp (T.key row.now) key.now }
 {
     row.key().cmp(key)
 }
 
-/// Where the row of a key stands, or where it would stand, by binary search.
+/// Returns the index of the row with the key, or where it would be inserted, by binary search.
 fn place_of<T: BookRow>(rows: &[T], key: &[u8]) -> Result<usize, usize>
     requires order { Ascending T.key rows.now }
     ensures { IsPlace T.key rows.now key.now result }
@@ -87,7 +87,7 @@ fn place_of<T: BookRow>(rows: &[T], key: &[u8]) -> Result<usize, usize>
     rows.binary_search_by(|row| compared(row, key))
 }
 
-/// The row of a key.
+/// Returns the row with the key, if there is one, by binary search.
 pub(crate) fn row_of<'a, T: BookRow>(rows: &'a [T], key: &[u8]) -> Option<&'a T>
     requires order { Ascending T.key rows.now }
     ensures { option_copied result ≡ first (filter (λ row. bytes_eq (T.key row) key.now) rows.now) }
@@ -98,7 +98,7 @@ pub(crate) fn row_of<'a, T: BookRow>(rows: &'a [T], key: &[u8]) -> Option<&'a T>
     }
 }
 
-/// The rows before a key, and those behind it.
+/// Returns the rows before a key, and those after it.
 fn around<'a, T: BookRow>(rows: &'a [T], key: &[u8]) -> (&'a [T], &'a [T])
     requires order { Ascending T.key rows.now }
     ensures before { result.0.now ≡ filter (λ row. is_before (T.key row) key.now) rows.now }
@@ -110,7 +110,7 @@ fn around<'a, T: BookRow>(rows: &'a [T], key: &[u8]) -> (&'a [T], &'a [T])
     }
 }
 
-/// Copies the rows to the end of others. The error is out of memory.
+/// Appends copies of the rows. The error is out of memory.
 pub(crate) fn push_all<T: BookRow>(rows: &[T], out: &mut Vec<T>) -> Result<(), AllocError>
     ensures { OnOk result (out.new.items ≡ out.old.items ++ rows.now) }
 {
@@ -120,7 +120,7 @@ pub(crate) fn push_all<T: BookRow>(rows: &[T], out: &mut Vec<T>) -> Result<(), A
     Ok(())
 }
 
-/// The rows with this one in the place of the one of its key. The error is out of memory.
+/// Returns the rows with this one, which replaces the one with its key, if there is one. The error is out of memory.
 pub(crate) fn with_row<T: BookRow>(alloc: Global, rows: &[T], row: T) -> Result<Vec<T>, AllocError>
     requires order { Ascending T.key rows.now }
     ensures { IfOk result (λ new. new.items ≡ with_row T.key (T.key row) (Some row) rows.now) }
@@ -133,7 +133,7 @@ pub(crate) fn with_row<T: BookRow>(alloc: Global, rows: &[T], row: T) -> Result<
     Ok(out)
 }
 
-/// The rows without the one of this key. The error is out of memory.
+/// Returns the rows without the one with this key, if there is one. The error is out of memory.
 #[tactic(auto, unfolding(entry_book::specs::Order::with_row))]
 pub(crate) fn without_row<T: BookRow>(
     alloc: Global,
@@ -150,7 +150,7 @@ pub(crate) fn without_row<T: BookRow>(
     Ok(out)
 }
 
-/// Puts the row in the place of the one of its key. The error is out of memory.
+/// Replaces the row with the same key, or else inserts the row in order. The error is out of memory.
 pub(crate) fn put_row<T: BookRow>(rows: &mut Vec<T>, row: T) -> Result<(), AllocError>
     requires order { Ascending T.key rows.old.items }
     ensures rows { OnOk result (rows.new.items ≡ with_row T.key (T.key row) (Some row) rows.old.items) }

@@ -1,7 +1,8 @@
-//! How are the rows of one kind kept?
+//! How are the rows of one kind stored?
 //!
-//! Finding a row among n takes about log n comparisons. A change copies the list of blocks and the block that it changes: it
-//! increments the reference counts of some n / 128 blocks, where rows come in order, and of at most 256 rows.
+//! Finding a row among n takes about log2 n comparisons. A change copies the list of blocks and the block that it changes: it
+//! increments the reference counts of these blocks and of at most 256 rows. A block is split when it has 257 rows, and is never
+//! merged. So there are at most n / 128 blocks, or one, unless rows were removed.
 
 ghost use Rattle.std.specs.Prelude.{◌≡◌, ◌≤◌, ◌+◌, ◌++◌, IfOk, length};
 ghost use Rattle.std.specs.List.{AllByRecursion};
@@ -13,8 +14,8 @@ use entry_book::{Sequence, Shared};
 use std::alloc::{AllocError, Global};
 use std::marker::Model;
 
-/// Rows in the order of their keys, in blocks of at most 256. Books share the list of blocks, and the blocks: a copy
-/// increments one reference count. A contract sees the list of the rows.
+/// A list of rows in blocks of 1 to 256; operations require the order of keys. Books share the list of blocks, and the
+/// blocks. A clone increments one reference count. A contract sees the list of the rows.
 #[derive(Drop)]
 pub(crate) struct Rows<T> {
     blocks: Shared<Sequence<Block<T>>>,
@@ -37,7 +38,7 @@ impl<T> Rows<T> {
     ghost use Rattle.std.specs.List.{AllByRecursion};
     ghost use Rattle.plain_book.specs.Blocks.{IsBlock, joined};
 
-    /// No rows. The error, here and below, is out of memory.
+    /// Returns an empty list. The error, here and below, is out of memory.
     pub(crate) fn empty(alloc: Global) -> Result<Rows<T>, AllocError>
     where
         T: Drop,
@@ -49,7 +50,7 @@ impl<T> Rows<T> {
         })
     }
 
-    /// The blocks of the rows, in order.
+    /// Returns the blocks, in order.
     pub(crate) fn blocks(&self) -> &[Block<T>]
         ensures rows { joined result.now ≡ self.now }
         ensures filled { AllByRecursion IsBlock result.now }
@@ -57,7 +58,7 @@ impl<T> Rows<T> {
         self.blocks.get().as_slice()
     }
 
-    /// How many rows there are.
+    /// Returns the number of rows.
     pub(crate) fn len(&self) -> usize
         ensures { result ≡ length self.now }
     {
@@ -70,7 +71,7 @@ impl<T: BookRow> Rows<T> {
     ghost use Rattle.std.specs.Option.{option_copied};
     ghost use Rattle.entry_book.specs.Order.{Ascending, first, with_row};
 
-    /// This row alone.
+    /// Returns a list of this row only.
     pub(crate) fn only(alloc: Global, row: T) -> Result<Rows<T>, AllocError>
         ensures { IfOk result (λ rows. rows ≡ row ∷ []) }
     {
@@ -78,7 +79,7 @@ impl<T: BookRow> Rows<T> {
         none.with(alloc, row)
     }
 
-    /// The row of a key.
+    /// Returns the row of a key, if there is one.
     pub(crate) fn row(&self, key: &[u8]) -> Option<&T>
         requires order { Ascending T.key self.now }
         ensures { option_copied result ≡ first (filter (λ row. bytes_eq (T.key row) key.now) self.now) }
@@ -87,7 +88,7 @@ impl<T: BookRow> Rows<T> {
         row_of(cut.rows, key)
     }
 
-    /// The rows with this one in the place of the one of its key.
+    /// Returns the rows with this one, which replaces the one with its key, if there is one.
     pub(crate) fn with(&self, alloc: Global, row: T) -> Result<Rows<T>, AllocError>
         requires order { Ascending T.key self.now }
         ensures rows { IfOk result (λ new. new ≡ with_row T.key (T.key row) (Some row) self.now) }
@@ -98,7 +99,7 @@ impl<T: BookRow> Rows<T> {
         changed(alloc, self.len(), &cut, rows)
     }
 
-    /// The rows without the one of this key.
+    /// Returns the rows without the one with this key, if there is one.
     pub(crate) fn without(&self, alloc: Global, key: &[u8]) -> Result<Rows<T>, AllocError>
         requires order { Ascending T.key self.now }
         ensures rows { IfOk result (λ new. new ≡ with_row T.key key.now None self.now) }
@@ -109,7 +110,7 @@ impl<T: BookRow> Rows<T> {
         changed(alloc, self.len(), &cut, rows)
     }
 
-    /// All rows. Each one's reference count is incremented.
+    /// Returns a vector of all rows, and increments the reference counts of each.
     pub(crate) fn to_vec(&self, alloc: Global) -> Result<Vec<T>, AllocError>
         ensures { IfOk result (λ all. all.items ≡ self.now) }
     {
@@ -117,7 +118,7 @@ impl<T: BookRow> Rows<T> {
     }
 }
 
-/// The rows of all blocks. The error is out of memory.
+/// Returns a vector of the rows of all blocks. The error is out of memory.
 fn all_of<T: BookRow>(alloc: Global, blocks: &[Block<T>]) -> Result<Vec<T>, AllocError>
     ensures { IfOk result (λ all. all.items ≡ joined blocks.now) }
 {
@@ -128,7 +129,8 @@ fn all_of<T: BookRow>(alloc: Global, blocks: &[Block<T>]) -> Result<Vec<T>, Allo
     Ok(all)
 }
 
-/// The rows of blocks, with others in the place of those at the cut. The blocks have `count` rows. The error is out of memory.
+/// Returns the list in which these rows replace those at the cut. The list before has `count` rows. The error is out of memory, or
+/// a number of rows above `usize::MAX`.
 fn changed<T: Drop>(
     alloc: Global,
     count: usize,

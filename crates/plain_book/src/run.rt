@@ -1,4 +1,4 @@
-//! What do the operations of a batch do to a book?
+//! How does a batch run its operations on a book?
 
 ghost use Rattle.std.specs.Prelude.{◌≡◌, ◌++◌, ◌∷◌, ◌^◌, [], IfOk};
 ghost use Rattle.entry_book.specs.Lawful.{Lawful};
@@ -10,17 +10,17 @@ use crate::ops::perform;
 use entry_book::{Batch, OpRefusal, OpReply, Sequence, beside};
 use std::alloc::{AllocError, Global};
 
-/// The outcome of the operations of a batch.
+/// The outcome of running the operations of a batch.
 #[derive(Drop)]
 pub(crate) enum BatchRun {
-    /// Each was accepted: the replies in order, and the book after them.
+    /// All were accepted: the replies in order, and the book after them.
     Accepted(Sequence<OpReply>, Book),
-    /// This one, counted from 0, was refused.
+    /// The operation at this index, counted from 0, was refused.
     RefusedAt(usize, OpRefusal),
 }
 
-/// Runs the operations of a batch in order, each on the book that the earlier ones left. Revisions and sequences have room
-/// to grow. The error is out of memory.
+/// Runs the operations of a batch in order, each on the book after the earlier ones, up to the first refusal. The
+/// precondition ensures that revisions and sequences don't overflow. The error is out of memory.
 pub(crate) fn run_ops(alloc: Global, batch: &Batch, book: &Book) -> Result<BatchRun, AllocError>
     requires lawful { Lawful batch.now.domain (2 ^ 62) book.now }
     ensures { IfOk result
@@ -47,7 +47,7 @@ pub(crate) fn run_ops(alloc: Global, batch: &Batch, book: &Book) -> Result<Batch
     Ok(BatchRun::Accepted(replies, current))
 }
 
-/// The items with one more behind them.
+/// Appends an item. The error is out of memory.
 fn with_item<T: Drop>(mut items: Sequence<T>, item: T) -> Result<Sequence<T>, AllocError>
     ensures { IfOk result (λ more. more ≡ items ++ item ∷ []) }
 {

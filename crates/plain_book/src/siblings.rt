@@ -8,7 +8,7 @@ use entry_book::{Entry, Shared};
 use spiffe_name::SpiffeId;
 use std::alloc::AllocError;
 
-/// The entries of one parent, in the order of their ids: at least one.
+/// A parent and its entries: a row of the list of all parents.
 #[derive(Drop)]
 pub(crate) struct Siblings {
     pub(crate) parent: Shared<SpiffeId>,

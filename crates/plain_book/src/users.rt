@@ -15,7 +15,7 @@ use spiffe_name::TrustDomain;
 use std::alloc::{AllocError, Global};
 use uuid::Uuid;
 
-/// The first entry that names a domain.
+/// Returns the first entry that names a domain, if there is one.
 fn user_of<'a>(entries: &'a [Entry], domain: &TrustDomain) -> Option<&'a Entry>
     ensures { option_copied result ≡ first (filter (names domain.now) entries.now) }
 {
@@ -27,7 +27,7 @@ fn user_of<'a>(entries: &'a [Entry], domain: &TrustDomain) -> Option<&'a Entry>
     None
 }
 
-/// The first entry of the blocks that names a domain.
+/// Returns the first entry of the blocks that names a domain, if there is one.
 pub(crate) fn first_user<'a>(blocks: &'a [Block<Entry>], domain: &TrustDomain) -> Option<&'a Entry>
     ensures { option_copied result ≡ first (filter (names domain.now) (joined blocks.now)) }
 {
@@ -40,7 +40,7 @@ pub(crate) fn first_user<'a>(blocks: &'a [Block<Entry>], domain: &TrustDomain) -
     None
 }
 
-/// The entries that name a domain. The error, here and below, is out of memory.
+/// Returns the entries that name a domain. The error, here and below, is out of memory.
 pub(crate) fn users_among(
     alloc: Global,
     entries: &[Entry],
@@ -57,7 +57,7 @@ pub(crate) fn users_among(
     Ok(users)
 }
 
-/// The ids of the entries.
+/// Returns the ids of the entries.
 pub(crate) fn ids_of(alloc: Global, entries: &[Entry]) -> Result<Vec<Uuid>, AllocError>
     ensures { IfOk result (λ ids. ids.items ≡ map entry_key entries.now) }
 {
@@ -68,7 +68,7 @@ pub(crate) fn ids_of(alloc: Global, entries: &[Entry]) -> Result<Vec<Uuid>, Allo
     Ok(ids)
 }
 
-/// Does an entry name the domain?
+/// Returns true if an entry names the domain.
 pub(crate) fn is_named(entries: &[Entry], domain: &TrustDomain) -> bool
     ensures { result ≡ list_any (names domain.now) entries.now }
 {
@@ -80,7 +80,7 @@ pub(crate) fn is_named(entries: &[Entry], domain: &TrustDomain) -> bool
     false
 }
 
-/// The bundles whose domain an entry names.
+/// Returns the bundles whose domain an entry names.
 pub(crate) fn named_bundles(
     alloc: Global,
     bundles: &[Bundle],

@@ -21,15 +21,15 @@ use uuid::Uuid;
 pub(crate) enum Verdict {
     /// It is refused.
     Refuses(Refusal),
-    /// It is read-only.
+    /// It is a query, and has these replies.
     Answers(Shared<Sequence<OpReply>>),
-    /// It adds this book.
+    /// It is committed, and adds this book.
     Adds(Shared<Sequence<OpReply>>, Book),
     /// It was committed before, at this place.
     Repeats(u64, Shared<Sequence<OpReply>>),
 }
 
-/// The verdict on a batch at this place, on the book that it reads. Here and below, the error is out of memory.
+/// Returns the outcome of a batch at this place, on the book that it reads. The error, here and below, is out of memory.
 pub(crate) fn verdict_on(
     alloc: Global,
     batch: &Batch,
@@ -46,7 +46,7 @@ pub(crate) fn verdict_on(
     }
 }
 
-/// The batch that is kept under a token, where one is given.
+/// Returns the batch stored under the token; `None` if there is no token, or no batch under it.
 fn kept_under(token: Option<Uuid>, book: &Book) -> Option<&KeptBatch>
     ensures { option_copied result ≡ kept_under token book.now }
 {
@@ -56,7 +56,8 @@ fn kept_under(token: Option<Uuid>, book: &Book) -> Option<&KeptBatch>
     }
 }
 
-/// The verdict on a batch whose token is that of this committed one.
+/// Returns the outcome of a batch whose token is that of this committed one: repeated if the operations are equal, otherwise
+/// refused.
 fn verdict_again(batch: &Batch, kept: &KeptBatch) -> Result<Verdict, AllocError>
     ensures { IfOk result
         (λ verdict. told verdict ≡ verdict_again (ops_eq kept.now.ops batch.now.ops) kept.now) }
@@ -68,7 +69,7 @@ fn verdict_again(batch: &Batch, kept: &KeptBatch) -> Result<Verdict, AllocError>
     }
 }
 
-/// The verdict on a batch whose operations run.
+/// Returns the outcome of a batch with no token, or a new one: runs its operations.
 fn verdict_run(alloc: Global, batch: &Batch, place: u64, book: &Book) -> Result<Verdict, AllocError>
     requires room { place ≤ 2 ^ 48 }
     requires lawful { Lawful batch.now.domain (2 ^ 62) book.now }
@@ -80,7 +81,7 @@ fn verdict_run(alloc: Global, batch: &Batch, place: u64, book: &Book) -> Result<
     }
 }
 
-/// The verdict on a batch whose operations are accepted, with these replies and this book after them.
+/// Returns the outcome of a batch whose operations are accepted, with these replies and this book after them.
 fn verdict_accepted(
     alloc: Global,
     batch: &Batch,
@@ -100,7 +101,8 @@ fn verdict_accepted(
     Ok(adds_within(place, replies, book))
 }
 
-/// The book with the batch kept under its token, where it carries one, as the one that added this book.
+/// Returns the book with the batch stored under its token, with this place and these replies; the same book if it has no
+/// token.
 fn with_batch(
     alloc: Global,
     batch: &Batch,
@@ -120,7 +122,7 @@ fn with_batch(
     after
 }
 
-/// What is kept of a batch under its token.
+/// Makes the row to be stored under the token of a batch.
 fn kept_batch(
     alloc: Global,
     batch: &Batch,
@@ -145,7 +147,7 @@ fn kept_batch(
     Shared::of(alloc, kept)
 }
 
-/// A batch of changes adds its book, unless this passes a limit.
+/// Returns the outcome of a batch with changes: refused if the book exceeds a limit, otherwise committed.
 fn adds_within(place: u64, replies: Shared<Sequence<OpReply>>, book: Book) -> Verdict
     ensures { told result ≡ adds_within (limit_passed place book) replies book }
 {

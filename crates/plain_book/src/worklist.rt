@@ -1,8 +1,10 @@
 //! Which entries may an agent hand out?
 //!
-//! Those reached from the agent: first the entries that start a chain, then, for each entry reached, its children. An
-//! entry that was found before is not followed again, so a cycle of parents ends. For r entries reached among n this takes
-//! some r log n comparisons.
+//! Those reached from the agent: first the entries that start a chain, then, for each entry reached, the children of its
+//! identity. An entry that was found before is not visited again, so the walk ends even if parents form a cycle. Let n be
+//! the number of entries, and r the number reached. Each entry reached takes about log2 n comparisons to find its children, and
+//! 2 log2 r for each child. Entries of the same identity find the same children again. Inserting an entry into the sorted vector
+//! moves up to r others.
 
 ghost use Rattle.std.specs.Prelude.{◌≡◌, ◌++◌, OnOk, IfOk, filter, length};
 ghost use Rattle.spiffe_name.specs.Id.{server_text};
@@ -18,7 +20,7 @@ use entry_book::{Agent, Entry};
 use spiffe_name::{SpiffeId, TrustDomain};
 use std::alloc::{AllocError, Global};
 
-/// The entries in which a chain for this agent ends, in order. The error, here and below, is out of memory.
+/// Returns the entries in which a chain for this agent ends, in order. The error, here and below, is out of memory.
 pub(crate) fn authorised_of(
     alloc: Global,
     own: &TrustDomain,
@@ -45,7 +47,7 @@ pub(crate) fn authorised_of(
     Ok(found)
 }
 
-/// Those of the aliases whose selectors the agent has.
+/// Returns the aliases whose selectors the agent has.
 fn held(alloc: Global, agent: &Agent, aliases: &[Entry]) -> Result<Vec<Entry>, AllocError>
     ensures { IfOk result (λ held. held.items
         ≡ filter (λ entry. is_within entry.selectors agent.now.selectors) aliases.now) }
@@ -59,7 +61,8 @@ fn held(alloc: Global, agent: &Agent, aliases: &[Entry]) -> Result<Vec<Entry>, A
     Ok(held)
 }
 
-/// Puts the entries among those found. Those that weren't found before are pending: their children are to be found.
+/// Puts the entries among those found. Appends those that weren't found before to `pending`: the walk has yet to read their
+/// children.
 fn reach(
     entries: &[Entry],
     found: &mut Vec<Entry>,
@@ -75,7 +78,7 @@ fn reach(
     put_all(entries, found)
 }
 
-/// Adds those of the entries that aren't found.
+/// Appends to `pending` the entries whose ids aren't among those found.
 fn push_missing(
     found: &[Entry],
     entries: &[Entry],
@@ -93,7 +96,7 @@ fn push_missing(
     Ok(())
 }
 
-/// Puts the entries among those found, each in its place.
+/// Puts the entries among those found, in order.
 fn put_all(entries: &[Entry], found: &mut Vec<Entry>) -> Result<(), AllocError>
     requires order { Ascending entry_key found.old.items }
     ensures found { OnOk result (found.new.items ≡ with_all entries.now found.old.items) }

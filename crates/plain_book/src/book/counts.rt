@@ -1,4 +1,4 @@
-//! How many rows does a book have, and are they too many?
+//! How many rows does a book have, and do they exceed a limit?
 
 ghost use Rattle.std.specs.Prelude.{◌≡◌};
 
@@ -9,7 +9,7 @@ impl Book {
     ghost use Rattle.std.specs.Prelude.{◌≡◌, length};
     ghost use Rattle.entry_book.specs.Limits.{limit_passed};
 
-    /// The first limit that this book passes, where it is to follow the one at this place.
+    /// Returns the first limit that this book would exceed as the successor of the book at this place, if there is one.
     pub(crate) fn limit_passed(&self, place: u64) -> Option<Limit>
         ensures { result ≡ limit_passed place self.now }
     {
@@ -22,28 +22,28 @@ impl Book {
         )
     }
 
-    /// How many entries there are.
+    /// Returns the number of entries.
     fn entry_count(&self) -> usize
         ensures { result ≡ length self.now.entries }
     {
         self.entries.len()
     }
 
-    /// How many agents there are.
+    /// Returns the number of agents.
     fn agent_count(&self) -> usize
         ensures { result ≡ length self.now.agents }
     {
         self.agents.len()
     }
 
-    /// How many bundles there are.
+    /// Returns the number of bundles.
     fn bundle_count(&self) -> usize
         ensures { result ≡ length self.now.bundles }
     {
         self.bundles.len()
     }
 
-    /// How many batches are kept under their tokens.
+    /// Returns the number of batches stored under tokens.
     fn token_count(&self) -> usize
         ensures { result ≡ length self.now.tokens }
     {

@@ -1,4 +1,4 @@
-//! `authorised`: asks for the entries that an agent may hand out.
+//! `authorised`: returns the entries that an agent may hand out.
 
 ghost use Rattle.std.specs.Prelude.{◌≡◌, IfOk, []};
 ghost use Rattle.spiffe_name.specs.Id.{server_text};
@@ -12,7 +12,7 @@ use entry_book::{OpRefusal, OpReply, beside};
 use spiffe_name::{SpiffeId, TrustDomain};
 use std::alloc::{AllocError, Global};
 
-/// Refused where the agent isn't in the book.
+/// Refused if the agent isn't in the book.
 pub(crate) fn authorised(
     alloc: Global,
     own: &TrustDomain,

@@ -1,4 +1,4 @@
-//! `children`: asks for the entries of a parent.
+//! `children`: returns the entries of a parent.
 
 ghost use Rattle.std.specs.Prelude.{◌≡◌, IfOk, []};
 ghost use Rattle.entry_book.specs.Book.{children_of};

@@ -11,7 +11,7 @@ use crate::ops::put::put_beside;
 use entry_book::{NewEntry, OpRefusal, OpReply, Shared};
 use std::alloc::{AllocError, Global};
 
-/// Refused, in this order, where the id is taken, where another entry is similar, and where a domain has no bundle.
+/// Refused, in this order, if the id is taken, if another entry is similar, or if a domain has no bundle.
 pub(crate) fn create(
     alloc: Global,
     new: &Shared<NewEntry>,

@@ -10,7 +10,7 @@ use entry_book::{OpRefusal, OpReply, beside};
 use std::alloc::{AllocError, Global};
 use uuid::Uuid;
 
-/// Refused, in this order, where there is no such entry, and where another revision of it is expected.
+/// Refused, in this order, if there is no such entry, or if another revision of it is expected.
 pub(crate) fn delete(
     alloc: Global,
     id: &Uuid,

@@ -10,7 +10,7 @@ use entry_book::{OpRefusal, OpReply, beside};
 use spiffe_name::SpiffeId;
 use std::alloc::{AllocError, Global};
 
-/// Refused where there is no such agent.
+/// Refused if there is no such agent.
 pub(crate) fn drop_agent(
     alloc: Global,
     id: &SpiffeId,

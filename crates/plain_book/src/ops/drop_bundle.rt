@@ -1,4 +1,4 @@
-//! `drop_bundle`: removes the bundle of a trust domain; the mode says what happens to the entries that name it.
+//! `drop_bundle`: removes the bundle of a trust domain; the mode selects what happens to the entries that name it.
 
 ghost use Rattle.std.specs.Prelude.{◌≡◌, IfOk};
 ghost use Rattle.entry_book.specs.Book.{bundle_at, users_of};
@@ -12,7 +12,7 @@ use entry_book::{Bundle, DropMode, OpRefusal, OpReply, Sequence, Shared};
 use spiffe_name::TrustDomain;
 use std::alloc::{AllocError, Global};
 
-/// Refused where there is no such bundle, and then, as the mode says, where it is in use.
+/// Refused if there is no such bundle, or, in mode `Restrict`, if an entry names its domain.
 pub(crate) fn drop_bundle(
     alloc: Global,
     domain: &Shared<TrustDomain>,
@@ -33,7 +33,7 @@ pub(crate) fn drop_bundle(
     }
 }
 
-/// Refused where an entry names the bundle's domain.
+/// Removes the bundle. Refused if an entry names its domain.
 fn restrict(
     alloc: Global,
     bundle: &Bundle,
@@ -50,7 +50,7 @@ fn restrict(
     Ok(Ok((none, after)))
 }
 
-/// Removes the entries that name the bundle's domain too.
+/// Removes the bundle and the entries that name its domain.
 fn delete_users(
     alloc: Global,
     bundle: &Bundle,
@@ -68,7 +68,7 @@ fn delete_users(
     Ok(Ok((reply, after)))
 }
 
-/// Dissociates the entries that name the bundle's domain.
+/// Removes the bundle, and its domain from the entries that name it.
 fn free_users(
     alloc: Global,
     bundle: &Bundle,

@@ -1,4 +1,4 @@
-//! `page`: asks for a page of the entries.
+//! `page`: returns a page of the entries.
 
 ghost use Rattle.std.specs.Prelude.{◌≡◌, IfOk, []};
 ghost use Rattle.entry_book.specs.Ops.{done};

@@ -1,4 +1,4 @@
-//! An entry that is put into the book, by `create` or by `update`.
+//! Puts an entry into the book, for `create` and `update`.
 
 ghost use Rattle.std.specs.Prelude.{◌≡◌, IfOk};
 ghost use Rattle.entry_book.specs.Rows.{at_revision};
@@ -10,8 +10,8 @@ use crate::book::Book;
 use entry_book::{Entry, NewEntry, OpRefusal, OpReply, Shared, beside};
 use std::alloc::{AllocError, Global};
 
-/// Puts the entry, at this revision, in the place of the one of its id. Refused, in this order, where another entry is
-/// similar, and where a domain has no bundle.
+/// Adds the entry at this revision, or replaces the one with its id. Refused, in this order, if another entry is similar, or
+/// if a domain has no bundle.
 pub(crate) fn put_beside(
     alloc: Global,
     new: &Shared<NewEntry>,

@@ -1,4 +1,4 @@
-//! `set_agent`: adds an agent, or replaces the one of its id.
+//! `set_agent`: adds an agent, or replaces the one with its id.
 
 ghost use Rattle.std.specs.Prelude.{◌≡◌, IfOk};
 ghost use Rattle.entry_book.specs.Ops.{agent_set};

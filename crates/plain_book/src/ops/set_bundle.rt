@@ -1,4 +1,4 @@
-//! `set_bundle`: adds the bundle of a trust domain, or replaces its text at its next sequence.
+//! `set_bundle`: adds the bundle of a trust domain at sequence 0, or replaces its text at its next sequence.
 
 ghost use Rattle.std.specs.Prelude.{◌≡◌, IfOk};
 ghost use Rattle.entry_book.specs.Book.{bundle_at};

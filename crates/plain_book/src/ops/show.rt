@@ -1,4 +1,4 @@
-//! `show`: asks for an entry.
+//! `show`: returns an entry, if the book has it.
 
 ghost use Rattle.std.specs.Prelude.{◌≡◌, IfOk, []};
 ghost use Rattle.entry_book.specs.Book.{entry_at};

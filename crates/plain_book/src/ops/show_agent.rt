@@ -1,4 +1,4 @@
-//! `show_agent`: asks for an agent.
+//! `show_agent`: returns an agent, if the book has it.
 
 ghost use Rattle.std.specs.Prelude.{◌≡◌, IfOk, []};
 ghost use Rattle.entry_book.specs.Book.{agent_at};

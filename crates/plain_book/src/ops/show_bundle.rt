@@ -1,4 +1,4 @@
-//! `show_bundle`: asks for a bundle.
+//! `show_bundle`: returns a bundle, if the book has it.
 
 ghost use Rattle.std.specs.Prelude.{◌≡◌, IfOk, []};
 ghost use Rattle.entry_book.specs.Book.{bundle_at};

@@ -1,4 +1,4 @@
-//! `update`: replaces all of an entry but its id, at its next revision.
+//! `update`: replaces an entry by another with the same id, at its next revision.
 
 ghost use Rattle.std.specs.Prelude.{◌≡◌, IfOk};
 ghost use Rattle.entry_book.specs.Book.{entry_at};
@@ -11,8 +11,8 @@ use crate::ops::put::put_beside;
 use entry_book::{NewEntry, OpRefusal, OpReply, Shared};
 use std::alloc::{AllocError, Global};
 
-/// Refused, in this order, where there is no such entry, where another revision of it is expected, where another entry is
-/// similar, and where a domain has no bundle.
+/// Refused, in this order, if there is no such entry, or another revision of it is expected; then if another entry is
+/// similar, or a domain has no bundle.
 pub(crate) fn update(
     alloc: Global,
     new: &Shared<NewEntry>,

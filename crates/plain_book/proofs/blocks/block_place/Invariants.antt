@@ -3,7 +3,7 @@ use Rattle.std.specs.List.{HoldsAt}
 use Rattle.plain_book.specs.Blocks.{begins_behind}
 use Rattle.plain_book.proofs.blocks.block_place.Given as goal
 
--- the place is from here until there
+-- the index is between from and until
 abbrev pub invariant-loop-from : goal.invariant-loop-from
 invariant-loop-from g l = record {
   inside : (l.from ≤ l.until) × (l.until ≤ length l.blocks);
