@@ -1,5 +1,5 @@
 -- Journals: what their items lead to, beside the plain book.
-use Rattle.std.proofs.Common.{◌≡◌, ℕ, ◌+◌, ◌-◌, ◌≤◌, ◌^◌, List, [], ◌∷◌, ◌++◌, length, length-append, take, refl, sym, ap, subst, ◌∙◌, arith}
+use Rattle.std.proofs.Common.{◌≡◌, ℕ, ◌+◌, ◌-◌, ◌≤◌, ◌^◌, List, [], ◌∷◌, ◌++◌, length, take, refl, sym, ap, subst, ◌∙◌, arith}
 use Rattle.std.proofs.lemmas.List.{append_assoc, map-append, take-append-drop}
 use Rattle.entry_book.specs.declared.reply.Reply.{Reply}
 use Rattle.entry_book.specs.Rows.{Bytes}
@@ -16,7 +16,7 @@ use Rattle.batch_work.proofs.Windows.{window_begins, window_goes_on, window_last
 use Rattle.commit_head.specs.declared.item.Item.{Item}
 use Rattle.commit_head.specs.Heads.{Goes, HasJournal, Head, IsJournal, Prepared, last_items, newest_of}
 use Rattle.commit_head.specs.Journals.{Joins, Leads, batches_of, committed_after, first_state}
-use Rattle.commit_head.specs.Laws.{ItemsFollow, JoinsOnBooks, JournalBegins, JournalGoesOn, JournalIsLawful, JournalLast, LeadsInParts, LeadsToOne, WholeJournal}
+use Rattle.commit_head.specs.Laws.{ItemsFollow, JoinsOnBooks, JournalBegins, JournalGoesOn, JournalIsLawful, JournalLast, LeadsInParts, LeadsToOne}
 
 pub commits : (item : Item) (s : State) → Joins item s → Commits item.batch s
 commits item s j = record { made = j.made; replies = item.replies; added = j.added }
@@ -96,18 +96,6 @@ journal_begins own h w e =
       ending = ([], sym e);
       shown = subst (λ w. StandsFor w first_books) (sym w) (window_begins (first_state own) refl);
     }
-
--- ---- a whole journal
-
-front_none : (front end : List Item) → length (front ++ end) ≡ length end → front ≡ []
-front_none [] end e = refl
-front_none (i ∷ is) end e = let n = length-append (i ∷ is) end in absurd (omega arith)
-
-pub whole_journal : WholeJournal
-whole_journal items h k e =
-    let n = leads_count items (first_state h.window.newest.domain) h.window.newest k.leads in
-    let same : length (k.ending.0 ++ h.kept) ≡ length h.kept = sym (ap length k.ending.1) ∙ (let q : length items ≡ length h.kept = omega arith in q) in
-    k.ending.1 ∙ ap (λ front. front ++ h.kept) (front_none k.ending.0 h.kept same)
 
 -- ---- limits
 

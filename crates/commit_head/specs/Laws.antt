@@ -40,10 +40,6 @@ pub record IsCommittedOnBooks (items : List Item) (item : Item) (n : ℕ) : Type
 abbrev pub JoinsOnBooks : Type 0
 JoinsOnBooks = (items : List Item) (item : Item) (h : Head) → IsJournal items h → Joins item (newest_of h) → IsCommittedOnBooks items item (place_of h + 1)
 
--- a head that keeps an item for each commit keeps its whole journal
-abbrev pub WholeJournal : Type 0
-WholeJournal = (items : List Item) (h : Head) → IsJournal items h → length h.kept ≡ place_of h → items ≡ h.kept
-
 -- the newest version stands for the last of the journal's books
 abbrev pub JournalLast : Type 0
 JournalLast = (items : List Item) (h : Head) → IsJournal items h → IsLast (newest_of h) (books_of (batches_of items))

@@ -3,7 +3,7 @@
 //! Each function does nothing. What it ensures is a law of the definitions, stated in `specs/Laws.antt` or
 //! `specs/Outcomes.antt`; a caller that calls it may rest on the law.
 
-ghost use Rattle.commit_head.specs.Laws.{BeganGoesOn, BeganHere, BeganInside, BeganKept, BeganStays, ItemsFollow, JoinsOnBooks, JournalBegins, JournalGoesOn, JournalIsLawful, JournalKept, JournalLast, JournalReadsFew, JournalStays, LeadsInParts, LeadsToOne, WholeJournal};
+ghost use Rattle.commit_head.specs.Laws.{BeganGoesOn, BeganHere, BeganInside, BeganKept, BeganStays, ItemsFollow, JoinsOnBooks, JournalBegins, JournalGoesOn, JournalIsLawful, JournalKept, JournalLast, JournalReadsFew, JournalStays, LeadsInParts, LeadsToOne};
 ghost use Rattle.commit_head.specs.Outcomes.{CommitOnBooks};
 
 /// What a head's journal says of its versions and of the plain book.
@@ -16,7 +16,6 @@ pub fn journals()
     ensures goes_on { JournalGoesOn }
     ensures on_books { JoinsOnBooks }
     ensures stays { JournalStays }
-    ensures whole { WholeJournal }
     ensures last { JournalLast }
     ensures lawful { JournalIsLawful }
     ensures few { JournalReadsFew }

@@ -1,11 +1,11 @@
 -- How do versions follow one another, batch by batch?
-use Rattle.std.proofs.Common.{◌≡◌, ℕ, ◌+◌, ◌*◌, ◌≤◌, Bool, true, false, cond, List, [], ◌∷◌, ◌++◌, length, Option, Some, None, Ok, Err, sym, ap, subst, ◌∙◌, refl, IfOk, inl, inr, option_map, arith, length-append}
+use Rattle.std.proofs.Common.{◌≡◌, ℕ, ◌+◌, ◌≤◌, Bool, true, false, cond, List, [], ◌∷◌, ◌++◌, length, Option, Some, None, Ok, Err, sym, ap, subst, ◌∙◌, refl, IfOk, inl, inr, option_map, arith, length-append}
 use Rattle.std.specs.Prelude.{map, filter, nat_lt}
 use Rattle.std.specs.List.{list_any}
 use Rattle.std.proofs.lemmas.Bool.{or_parts}
 use Rattle.std.proofs.lemmas.Bool.Decides.{nat_tests}
 use Rattle.entry_book.proofs.Fits.{in_order}
-use Rattle.entry_book.proofs.Histories.{batch_keeps, last-snoc, verdict_changes}
+use Rattle.entry_book.proofs.Histories.{last-snoc, verdict_changes}
 use Rattle.entry_book.proofs.OfVerdict.{of_verdict}
 use Rattle.entry_book.proofs.PastPages.{changes_newest}
 use Rattle.entry_book.proofs.Runs.{run_fits}
@@ -21,19 +21,18 @@ use Rattle.entry_book.specs.Book.{Book, AscendingBook, empty_book}
 use Rattle.entry_book.specs.Writes.{RowChange, RowWrite, wrote_entry, wrote_agent, wrote_bundle, wrote_token, FitsRows, FitsBook, FitAll, after, after_write}
 use Rattle.entry_book.specs.Batches.{Batch, is_query, past_place}
 use Rattle.entry_book.specs.Runs.{RunResult, run}
-use Rattle.entry_book.specs.Lawful.{Lawful}
 use Rattle.entry_book.specs.Laws.{IsWithinLimits}
 use Rattle.entry_book.specs.Limits.{limit_passed}
 use Rattle.entry_book.specs.History.{Verdict, refuses, adds, adds_within, batch_writes, book_for, kept_under, verdict, verdict_on, verdict_over, verdict_run, verdict_when, last_book, place_of, books_with, books_after, reply_with, is_committed}
 use Rattle.version_book.specs.declared.mark.MarkKind.{MarkKind}
 use Rattle.version_book.specs.declared.committed_row.CommittedRow.{CommittedRow}
 use Rattle.version_book.specs.Marks.{hits, passes, names_entry, names_agent, names_bundle, names_token}
-use Rattle.version_book.specs.CommittedRows.{CommittedRows, State, AllUpTo, row_of, numbered, of_row, book_of, marked, next_state, rows_after, rows_after_write}
+use Rattle.version_book.specs.CommittedRows.{CommittedRows, State, row_of, numbered, of_row, book_of, marked, next_state, rows_after, rows_after_write}
 use Rattle.version_book.specs.History.{Commits, Follows, any_hits, state_with, writes_at, writes_in}
-use Rattle.version_book.specs.Laws.{BatchCommits, FollowsJoined, BooksFollow, DomainStays, LawfulFollows, LimitsFollow, UnhitHistory}
+use Rattle.version_book.specs.Laws.{BatchCommits, FollowsJoined, BooksFollow, DomainStays, LimitsFollow, UnhitHistory}
 use Rattle.version_book.proofs.Agreement.{old_fails, unhit_rows}
 use Rattle.version_book.proofs.NamedRows.{book_after, book_after_write}
-use Rattle.version_book.proofs.Numbers.{all_up_to_next, ascending_rows}
+use Rattle.version_book.proofs.Numbers.{ascending_rows}
 
 -- ---- one batch
 
@@ -133,14 +132,6 @@ books_follow (batch ∷ batches) older newer books l b p f =
     let r = books_follow batches (state_with batch older) newer (books_after batch books) (omega arith) (ap last_book a.1 ∙ last-snoc empty_book books next) (omega arith) f.1 in
     let k = r.3 in
     ((a.0, r.0), r.1, r.2, omega arith)
-
-pub lawful_next : (batch : Batch) (s : State) → Lawful s.domain (64 * s.number) (book_of s.rows) → Commits batch s → Lawful s.domain (64 * (s.number + 1)) (book_of (state_with batch s).rows)
-lawful_next batch s l c = subst (Lawful s.domain (64 * (s.number + 1))) (sym (book_after (s.number + 1) (writes_at batch s) s.rows))
-    (of_batch (λ ws. Lawful s.domain (64 * (s.number + 1)) (after ws (book_of s.rows))) batch s c (batch_keeps s.domain batch s.number (book_of s.rows) c.made l))
-
-pub lawful_follows : LawfulFollows
-lawful_follows [] older newer l u f = (subst (λ s. Lawful s.domain (64 * s.number) (book_of s.rows)) f l, subst (λ s. AllUpTo s.number s.rows) f u)
-lawful_follows (batch ∷ batches) older newer l u f = lawful_follows batches (state_with batch older) newer (lawful_next batch older l f.0) (all_up_to_next (writes_at batch older) older u) f.1
 
 -- ---- writes that don't hit leave the rows with their numbers
 

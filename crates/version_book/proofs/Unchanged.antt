@@ -9,7 +9,7 @@ use Rattle.version_book.specs.declared.mark.MarkKind.{MarkKind}
 use Rattle.version_book.specs.Marks.{Agree}
 use Rattle.version_book.specs.CommittedRows.{State, AllUpTo, book_of, marked}
 use Rattle.version_book.specs.History.{Follows, IsEarlier, any_hits}
-use Rattle.version_book.specs.Laws.{ChangedMarksHit, UnhitMarks}
+use Rattle.version_book.specs.Laws.{UnhitMarks}
 use Rattle.version_book.specs.Stores.{NumbersTell}
 use Rattle.version_book.proofs.Histories.{unhit_history}
 use Rattle.version_book.proofs.NamedRows.{book_reads}
@@ -41,6 +41,3 @@ module _ (batches : List Batch) (older newer : State) (ascending : AscendingBook
 
 pub unhit_marks : UnhitMarks
 unhit_marks ms batches older newer a f h = all_agree batches older newer a f ms (unhit_rows batches older newer a f ms h)
-
-pub changed_marks_hit : ChangedMarksHit
-changed_marks_hit ms batches older newer a f n = ⊎_elim (λ t. t) (λ h. absurd (n (unhit_rows batches older newer a f ms h))) (cases_Bool (list_any (λ m. any_hits m older batches) ms))

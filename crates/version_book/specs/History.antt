@@ -1,5 +1,5 @@
 -- How versions follow one another: by batches that commit as the plain book says.
-use Rattle.std.specs.Prelude.{◌≡◌, ℕ, ◌+◌, Bool, true, false, ◌||◌, List, [], ◌∷◌, ◌++◌, length, Some, Ok, Err}
+use Rattle.std.specs.Prelude.{◌≡◌, ℕ, ◌+◌, Bool, true, false, ◌||◌, List, [], ◌∷◌, ◌++◌, Some, Ok, Err}
 use Rattle.std.specs.List.{list_any}
 use Rattle.entry_book.specs.declared.reply.OpReply.{OpReply}
 use Rattle.entry_book.specs.declared.reply.Reply.{Reply}
@@ -39,11 +39,6 @@ pub record Commits (batch : Batch) (s : State) : Type 0 where
 
 -- ---- many batches
 
--- the version after these batches, one after another
-abbrev pub state_after : List Batch → State → State
-state_after [] s = s
-state_after (batch ∷ batches) s = state_after batches (state_with batch s)
-
 -- the newer version follows from the older one by these batches, each of which commits
 abbrev pub Follows : State → List Batch → State → Type 0
 Follows older [] newer = older ≡ newer
@@ -79,13 +74,3 @@ pub record SomeHit (m : MarkKind) (books : List Book) (batches : List Batch) : T
   pub write : RowWrite
   pub is_made : Within (writes_of batch (place_of (books_from books before) + 1) (last_book (books_from books before))) write
   pub hit : hits write m ≡ true
-
--- The last of the batches that makes a write that hits the mark makes the version of this number.
-pub record LastHit (m : MarkKind) (older : State) (batches : List Batch) (n : ℕ) : Type 0 where
-  pub before : List Batch
-  pub batch : Batch
-  pub later : List Batch
-  pub split : batches ≡ before ++ batch ∷ later
-  pub number : n ≡ older.number + length before + 1
-  pub hit : list_any (λ w. hits w m) (writes_at batch (state_after before older)) ≡ true
-  pub none_later : any_hits m (state_with batch (state_after before older)) later ≡ false

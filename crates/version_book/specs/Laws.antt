@@ -1,9 +1,7 @@
 -- The laws of marks and versions. Each is a clause of a function of the module `laws`.
-use Rattle.std.specs.Prelude.{◌≡◌, ◌↔◌, ◌⊎◌, ℕ, ◌+◌, ◌*◌, ◌<◌, ◌≤◌, true, false, List, ◌++◌, length, map, option_to_list, slice_get, Some, None, Ok, IfOk}
+use Rattle.std.specs.Prelude.{◌≡◌, ◌↔◌, ℕ, ◌+◌, ◌*◌, ◌<◌, ◌≤◌, true, false, List, ◌++◌, length, map, option_to_list, None, Ok, IfOk}
 use Rattle.std.specs.List.{AllByRecursion, list_any}
-use Rattle.entry_book.specs.Rows.{Bytes, Entry, entry_key, agent_key, bundle_key}
-use Rattle.entry_book.specs.Tokens.{token_key}
-use Rattle.entry_book.specs.Order.{Within}
+use Rattle.entry_book.specs.Rows.{Bytes, Entry}
 use Rattle.entry_book.specs.Book.{Book, AscendingBook, entry_at, agent_at, bundle_at, token_at, group_of, children_of, users_of, expired_before, empty_book}
 use Rattle.entry_book.specs.Writes.{RowWrite, after, FitAll}
 use Rattle.entry_book.specs.Batches.{Batch, IsMadeFor, is_query}
@@ -14,11 +12,10 @@ use Rattle.entry_book.specs.Laws.{IsWithinLimits}
 use Rattle.entry_book.specs.History.{last_book, place_of, batch_writes, kept_under, books_from, CommitAll, replies_from}
 use Rattle.version_book.specs.declared.mark.MarkKind.{MarkKind}
 use Rattle.version_book.specs.declared.mark.MarkKind.TheVariants as mark
-use Rattle.version_book.specs.declared.committed_row.CommittedRow.{CommittedRow}
 use Rattle.version_book.specs.Applying.{MayApply}
 use Rattle.version_book.specs.Marks.{reads, Agree, hits, seen}
-use Rattle.version_book.specs.CommittedRows.{CommittedRows, State, book_of, marked, AllUpTo, rows_after, next_state}
-use Rattle.version_book.specs.History.{Commits, Follows, IsLast, LastHit, SomeHit, any_hits, replies_on, state_after, state_with}
+use Rattle.version_book.specs.CommittedRows.{CommittedRows, State, book_of, marked, rows_after, next_state}
+use Rattle.version_book.specs.History.{Commits, Follows, IsLast, SomeHit, any_hits, replies_on, state_with}
 use Rattle.version_book.specs.Room.{RoomAll}
 use Rattle.version_book.specs.Written.{placed}
 
@@ -110,10 +107,6 @@ DomainStays = (batches : List Batch) (older newer : State) → Follows older bat
 abbrev pub LimitsFollow : Type 0
 LimitsFollow = (batches : List Batch) (older newer : State) → IsWithinLimits (book_of older.rows) → Follows older batches newer → IsWithinLimits (book_of newer.rows)
 
--- a lawful version is followed by lawful versions, whose rows have no number above theirs
-abbrev pub LawfulFollows : Type 0
-LawfulFollows = (batches : List Batch) (older newer : State) → Lawful older.domain (64 * older.number) (book_of older.rows) → AllUpTo older.number older.rows → Follows older batches newer → Lawful newer.domain (64 * newer.number) (book_of newer.rows) × AllUpTo newer.number newer.rows
-
 -- where no batch since makes a write that hits a mark, both versions have the same rows there, with the same numbers
 abbrev pub UnhitHistory : Type 0
 UnhitHistory = (m : MarkKind) (batches : List Batch) (older newer : State) → AscendingBook (book_of older.rows) → Follows older batches newer → any_hits m older batches ≡ false → marked m older.rows ≡ marked m newer.rows
@@ -121,10 +114,6 @@ UnhitHistory = (m : MarkKind) (batches : List Batch) (older newer : State) → A
 -- where no batch since makes a write that hits one of these marks, both books read the same at each of them
 abbrev pub UnhitMarks : Type 0
 UnhitMarks = (ms : List MarkKind) (batches : List Batch) (older newer : State) → AscendingBook (book_of older.rows) → Follows older batches newer → list_any (λ m. any_hits m older batches) ms ≡ false → AllByRecursion (λ m. Agree (book_of older.rows) (book_of newer.rows) m) ms
-
--- where not all of these marks have the same rows in both versions, with the same numbers, some batch since makes a write that hits one of them
-abbrev pub ChangedMarksHit : Type 0
-ChangedMarksHit = (ms : List MarkKind) (batches : List Batch) (older newer : State) → AscendingBook (book_of older.rows) → Follows older batches newer → (AllByRecursion (λ m. marked m older.rows ≡ marked m newer.rows) ms → ⊥) → list_any (λ m. any_hits m older batches) ms ≡ true
 
 -- the run of a batch on a lawful book within the limits has room for all of its rows, and for what is kept under its token
 abbrev pub RoomInRun : Type 0
@@ -136,35 +125,12 @@ RunMayApply = (batch : Batch) (s : State) (t : RunEffect) → IsMadeFor s.domain
 
 -- ---- lists of batches
 
--- a history ends in the version after its batches
-abbrev pub FollowsOne : Type 0
-FollowsOne = (batches : List Batch) (older newer : State) → Follows older batches newer → newer ≡ state_after batches older
-
--- it can be parted at any place
-abbrev pub FollowsParts : Type 0
-FollowsParts = (first second : List Batch) (s u : State) → Follows s (first ++ second) u ↔ ((t : State) × Follows s first t × Follows t second u)
-
--- batches that the plain book commits, on a list of books for whose last one a version stands, lead from this version to one that stands for the last book then
-abbrev pub BooksLead : Type 0
-BooksLead = (batches : List Batch) (older : State) (books : List Book) → 0 < length books → IsLast older books → AllByRecursion (IsMadeFor older.domain) batches → CommitAll books batches → Follows older batches (state_after batches older) × IsLast (state_after batches older) (books_from books batches)
-
 -- the books after two lists of batches, one list after the other, and whether all of them commit
 abbrev pub BooksJoin : Type 0
 BooksJoin = (first second : List Batch) (books : List Book) → books_from books (first ++ second) ≡ books_from (books_from books first) second
 
 abbrev pub CommitsJoin : Type 0
 CommitsJoin = (first second : List Batch) (books : List Book) → CommitAll books (first ++ second) ↔ (CommitAll books first × CommitAll (books_from books first) second)
-
--- along a history the list of books has at each version's number the book of this version
-abbrev pub BookAtPlace : Type 0
-BookAtPlace = (before later : List Batch) (older newer : State) (books : List Book) → 0 < length books → IsLast older books → Follows older (before ++ later) newer → slice_get (books_from books (before ++ later)) (older.number + length before) ≡ Some (book_of (state_after before older).rows)
-
--- each batch has its reply
-abbrev pub RepliesCount : Type 0
-RepliesCount = (batches : List Batch) (books : List Book) → length (replies_from books batches) ≡ length batches
-
-abbrev pub RepliesJoin : Type 0
-RepliesJoin = (first second : List Batch) (books : List Book) → replies_from books (first ++ second) ≡ replies_from books first ++ replies_from (books_from books first) second
 
 -- the plain book replies to the batches of a history as its versions tell
 abbrev pub RepliesFollow : Type 0
@@ -175,16 +141,3 @@ RepliesFollow = (batches : List Batch) (older newer : State) (books : List Book)
 -- in the words of the list of all books
 abbrev pub HitsInBooks : Type 0
 HitsInBooks = (m : MarkKind) (batches : List Batch) (older newer : State) (books : List Book) → 0 < length books → IsLast older books → Follows older batches newer → (any_hits m older batches ≡ true) ↔ SomeHit m books batches
-
--- Each row has the number of the last batch that hit the row's own mark, and where none did, it is a row of the older version.
-abbrev pub HasLastNumber : {X : Type 0} → (X → MarkKind) → List (CommittedRow X) → State → List Batch → List (CommittedRow X) → Type 0
-HasLastNumber mark_of rows older batches newer = (r : CommittedRow _) → Within newer r → LastHit (mark_of r.row) older batches r.commit ⊎ ((any_hits (mark_of r.row) older batches ≡ false) × Within rows r)
-
-pub record HaveLastNumbers (older : State) (batches : List Batch) (newer : State) : Type 0 where
-  pub entries : HasLastNumber (λ e. mark.Entry (entry_key e)) older.rows.entries older batches newer.rows.entries
-  pub agents : HasLastNumber (λ a. mark.Agent (agent_key a)) older.rows.agents older batches newer.rows.agents
-  pub bundles : HasLastNumber (λ d. mark.Bundle (bundle_key d)) older.rows.bundles older batches newer.rows.bundles
-  pub tokens : HasLastNumber (λ k. mark.Token (token_key k)) older.rows.tokens older batches newer.rows.tokens
-
-abbrev pub LastWritten : Type 0
-LastWritten = (batches : List Batch) (older newer : State) → AscendingBook (book_of older.rows) → Follows older batches newer → HaveLastNumbers older batches newer

@@ -3,7 +3,7 @@
 //! Each function does nothing. What it ensures is a law of the definitions, stated in `specs/Laws.antt`; a caller
 //! that calls it may rest on the law.
 
-ghost use Rattle.version_book.specs.Laws.{AgreeAfter, BatchCommits, BookAfter, BookAtPlace, BookReads, BooksFollow, BooksJoin, BooksLead, ChangedMarksHit, CommitsJoin, DomainStays, FollowsJoined, FollowsOne, FollowsParts, HitsAtAnyPlace, HitsInBooks, LastWritten, LawfulFollows, LimitsFollow, PlacesPut, ReadsAfter, ReadsAgent, ReadsAll, ReadsBundle, ReadsChildren, ReadsEntry, ReadsExpiring, ReadsGroup, ReadsToken, ReadsUsers, RepliesCount, RepliesFollow, RepliesJoin, RoomInRun, RunMayApply, Unhit, UnhitHistory, UnhitMarks};
+ghost use Rattle.version_book.specs.Laws.{AgreeAfter, BatchCommits, BookAfter, BookReads, BooksFollow, BooksJoin, CommitsJoin, DomainStays, FollowsJoined, HitsAtAnyPlace, HitsInBooks, LimitsFollow, PlacesPut, ReadsAfter, ReadsAgent, ReadsAll, ReadsBundle, ReadsChildren, ReadsEntry, ReadsExpiring, ReadsGroup, ReadsToken, ReadsUsers, RepliesFollow, RoomInRun, RunMayApply, Unhit, UnhitHistory, UnhitMarks};
 
 /// What each mark reads, in the words of the book's own questions.
 pub fn marks()
@@ -44,10 +44,8 @@ pub fn histories()
     ensures books { BooksFollow }
     ensures domain { DomainStays }
     ensures limits { LimitsFollow }
-    ensures lawful { LawfulFollows }
     ensures unhit { UnhitHistory }
     ensures unhit_marks { UnhitMarks }
-    ensures changed_marks { ChangedMarksHit }
 {}
 
 /// There is room for what a batch writes.
@@ -62,19 +60,12 @@ pub fn applying()
 
 /// What lists of batches come to, on versions and on the plain book's list of books.
 pub fn batches()
-    ensures one { FollowsOne }
-    ensures parts { FollowsParts }
-    ensures lead { BooksLead }
     ensures books { BooksJoin }
     ensures commits { CommitsJoin }
-    ensures place { BookAtPlace }
-    ensures count { RepliesCount }
-    ensures joined { RepliesJoin }
     ensures replies { RepliesFollow }
 {}
 
 /// Which batches of a history wrote what.
 pub fn writers()
     ensures hits { HitsInBooks }
-    ensures last { LastWritten }
 {}

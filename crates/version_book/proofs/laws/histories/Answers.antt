@@ -1,6 +1,6 @@
 use Rattle.version_book.proofs.laws.histories.Goals as goal
-use Rattle.version_book.proofs.Histories.{batch_commits, books_follow, domain_stays, follows_on, lawful_follows, limits_follow, unhit_history}
-use Rattle.version_book.proofs.Unchanged.{changed_marks_hit, unhit_marks}
+use Rattle.version_book.proofs.Histories.{batch_commits, books_follow, domain_stays, follows_on, limits_follow, unhit_history}
+use Rattle.version_book.proofs.Unchanged.{unhit_marks}
 
 pub returns-clause-commits : goal.returns-clause-commits
 returns-clause-commits c = batch_commits
@@ -17,14 +17,8 @@ returns-clause-domain c = domain_stays
 pub returns-clause-limits : goal.returns-clause-limits
 returns-clause-limits c = limits_follow
 
-pub returns-clause-lawful : goal.returns-clause-lawful
-returns-clause-lawful c = lawful_follows
-
 pub returns-clause-unhit : goal.returns-clause-unhit
 returns-clause-unhit c = unhit_history
 
 pub returns-clause-unhit_marks : goal.returns-clause-unhit_marks
 returns-clause-unhit_marks c = unhit_marks
-
-pub returns-clause-changed_marks : goal.returns-clause-changed_marks
-returns-clause-changed_marks c = changed_marks_hit
