@@ -1,5 +1,5 @@
 -- A batch on two books that read the same where it reads, and at its commit.
-use Rattle.std.proofs.Common.{◌≡◌, ℕ, ◌+◌, ◌≤◌, Bool, true, false, not, ◌&&◌, List, [], ◌∷◌, ◌++◌, Option, Some, None, Ok, Err, refl, sym, ap, subst, ◌∙◌}
+use Rattle.std.proofs.Common.{◌≡◌, ℕ, ◌+◌, ◌≤◌, Bool, true, false, not, ◌&&◌, ◌++◌, Option, Some, None, Ok, Err, refl, sym, ap, subst, ◌∙◌}
 use Rattle.std.specs.Prelude.{nat_lt, is_ok}
 use Rattle.std.specs.List.{AllByRecursion}
 use Rattle.std.specs.Option.{option_map_or}
@@ -20,14 +20,12 @@ use Rattle.entry_book.specs.History.{Verdict, batch_writes, kept_under, verdict,
 use Rattle.entry_book.proofs.PastPages.{changes_newest}
 use Rattle.version_book.specs.Marks.{Agree}
 use Rattle.version_book.specs.CommittedRows.{State, book_of}
-use Rattle.version_book.specs.History.{Follows}
 use Rattle.version_book.proofs.Applying.{run_may_apply}
 use Rattle.version_book.proofs.NamedRows.{book_after}
-use Rattle.version_book.proofs.Histories.{ascending_next, batch_commits}
-use Rattle.version_book.proofs.Unchanged.{unhit_marks}
+use Rattle.version_book.proofs.Histories.{batch_commits}
 use Rattle.batch_work.specs.Reads.{Case, early, gone, kept, runs, case_on, case_at, case_of, token_marks, marks_of_ops, footprint_in, awaits_in, verdict_in}
 use Rattle.batch_work.specs.Working.{Base, awaits_there, book_read, case_there, reply_there}
-use Rattle.batch_work.specs.Laws.{BatchReadsDecide, UnhitStays, CommitCheck, OthersDontCommit, AwaitsAsSaid}
+use Rattle.batch_work.specs.Laws.{BatchReadsDecide, CommitCheck, OthersDontCommit, AwaitsAsSaid}
 use Rattle.batch_work.proofs.Cases.{of_runs, runs_there, unkept, verdict_by_case, waits}
 use Rattle.batch_work.proofs.Deciding.{split_all, same_run}
 
@@ -62,13 +60,6 @@ batch_decided batch b c u v h =
     let k = kept_same batch.token b c (token_read batch b c (kept_under batch.token b) h) in
     let o = one_case batch b c u v (kept_under batch.token b) (kept_under batch.token c) k h in
     record { kept = k; marks = o.0; runs = o.1; wait = o.2 }
-
-pub ascending_follows : (batches : List Batch) (older newer : State) → AscendingBook (book_of older.rows) → Follows older batches newer → AscendingBook (book_of newer.rows)
-ascending_follows [] older newer a f = rw (sym f) a
-ascending_follows (batch ∷ batches) older newer a f = ascending_follows batches _ newer (ascending_next batch older a f.0) f.1
-
-pub unhit_stays : UnhitStays
-unhit_stays batch batches older newer a f h = batch_decided batch (book_of older.rows) (book_of newer.rows) a (ascending_follows batches older newer a f) (unhit_marks (footprint_in batch (case_on batch (book_of older.rows))) batches older newer a f h)
 
 -- ---- at its place, nothing being kept under its token
 

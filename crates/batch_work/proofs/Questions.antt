@@ -1,6 +1,6 @@
--- A batch that only asks, answered at once: its operations one after another, and the walk to an agent's authorised entries.
-use Rattle.std.proofs.Common.{◌≡◌, ℕ, zero, suc, ◌+◌, ◌<◌, ◌≤◌, Bool, true, false, cond, List, [], ◌∷◌, ◌++◌, append_assoc, length, get_or, drop, Option, Some, None, Ok, Err, refl, sym, ap, ◌∙◌, arith}
-use Rattle.std.specs.Prelude.{filter, bytes_eq, is_some, nat_lt, option_map, option_to_list}
+-- A read-only batch, answered in one pass: its operations one after another, and the walk to an agent's authorised entries.
+use Rattle.std.proofs.Common.{◌≡◌, ℕ, zero, suc, ◌+◌, ◌<◌, ◌≤◌, Bool, true, false, cond, List, [], ◌∷◌, ◌++◌, append_assoc, length, get_or, drop, Option, Some, None, Ok, Err, refl, sym, ap, ◌∙◌, arith, subst}
+use Rattle.std.specs.Prelude.{IfSome, filter, bytes_eq, is_some, nat_lt, option_map, option_to_list}
 use Rattle.std.specs.List.{AllByRecursion}
 use Rattle.std.proofs.lemmas.Bool.{and_parts}
 use Rattle.std.proofs.lemmas.List.{append-nil, at_drop_more, drop_all}
@@ -9,8 +9,10 @@ use Rattle.entry_book.specs.declared.bundle.Bundle.{Bundle}
 use Rattle.entry_book.specs.declared.op.Op.{Op}
 use Rattle.entry_book.specs.declared.reply.OpReply.{OpReply}
 use Rattle.entry_book.specs.declared.reply.OpRefusal.{OpRefusal}
+use Rattle.entry_book.specs.declared.reply.OpRefusal.TheVariants.{VersionGone}
 use Rattle.entry_book.specs.declared.reply.Outcome.TheVariants.{Answered, Refused}
-use Rattle.entry_book.specs.declared.reply.Refusal.TheVariants.{NotYet, OfOp}
+use Rattle.entry_book.specs.declared.reply.Refusal.{Refusal}
+use Rattle.entry_book.specs.declared.reply.Refusal.TheVariants.{NotYet, TokenReused, OfOp, Full}
 use Rattle.entry_book.specs.Authorised.{authorised, holds}
 use Rattle.entry_book.specs.Batches.{Batch, IsMadeFor, is_query, is_question, past_place}
 use Rattle.entry_book.specs.Book.{Book, AscendingBook, bundle_at, children_of}
@@ -26,11 +28,11 @@ use Rattle.entry_book.proofs.Sets.{from_within_filter, length_filter_le}
 use Rattle.version_book.specs.CommittedRows.{State}
 use Rattle.batch_work.specs.Questions.{answered, all_answered, bundles_at, walk_begun}
 use Rattle.batch_work.specs.Reads.{found, unread}
-use Rattle.batch_work.specs.Standing.{going_on}
+use Rattle.batch_work.specs.Standing.{ReadsNone, going_on}
 use Rattle.batch_work.specs.WalkStates.{WalkState, first_walk, walked}
 use Rattle.batch_work.specs.Windows.{book_in}
 use Rattle.batch_work.specs.Working.{Base, reply_there, version_read}
-use Rattle.batch_work.proofs.Standing.{going_more}
+use Rattle.batch_work.proofs.Standing.{early_settles, going_more, gone_settles}
 use Rattle.batch_work.proofs.Walks.{Known, fewer, found_inside, known_more, waiting, walk_gives}
 use Rattle.batch_work.proofs.WalkStates.{Reached, all_found_in, one_read, reached_first, waiting_is}
 
@@ -78,7 +80,7 @@ asked_replied batch place b query r replies q e = ap (λ t. reply_with place (ve
 pub asked_refused : (batch : Batch) (place : ℕ) (b : Book) (query : Bool) (r : RunResult) (n : ℕ) (reason : OpRefusal) → query ≡ true → r ≡ all_answered (Err (n, reason)) → reply_with place (verdict_when query batch place b r) ≡ record { place = place; outcome = Refused (OfOp n reason) }
 asked_refused batch place b query r n reason q e = ap (λ t. reply_with place (verdict_when t batch place b r)) q ∙ ap (λ x. reply_with place (verdict_when true batch place b x)) e
 
--- a batch that only asks has no token
+-- a read-only batch has no token
 no_token : (token : Option Bytes) → (is_some token ≡ true → true ≡ false) → token ≡ None
 no_token None h = refl
 no_token (Some k) h = let q = h refl in cc
@@ -94,6 +96,20 @@ asked_there batch base s made query early e =
     ∙ (ap (λ t. reply_with n (cond t (refuses NotYet) (verdict_on batch n (Some b)))) early
     ∙ ap (λ t. reply_with n (verdict_over (kept_under t b) batch n b)) none)
 
+-- where it reads no version, it is refused for that
+pub refused_there : (batch : Batch) (base : Base) (refusal : Refusal) → ReadsNone batch base refusal → reply_there batch base ≡ record { place = base.newest.number; outcome = Refused refusal }
+refused_there batch base NotYet none = sym (early_settles batch base none _ refl).reply_is
+refused_there batch base TokenReused none = absurd none
+refused_there batch base (OfOp n reason) none =
+    let is : OfOp n reason ≡ OfOp 0 VersionGone = ap (λ m. OfOp m reason) none.0 ∙ ap (OfOp 0) none.1 in
+    sym (gone_settles batch base none.2 none.3 _ (ap (λ r. record { place = base.newest.number; outcome = Refused r }) is)).reply_is
+refused_there batch base (Full limit) none = absurd none
+
+-- the version that it reads has the trust domain of the newest one
+pub domain_read : (asked : Option ℕ) (base : Base) (s : State) → IfSome base.earlier (λ earlier. earlier.domain ≡ base.newest.domain) → Some s ≡ version_read asked base → s.domain ≡ base.newest.domain
+domain_read None base s same e = let q : s ≡ base.newest = cc in ap (λ s. s.domain) q
+domain_read (Some n) base s same e = subst (λ o. IfSome o (λ earlier. earlier.domain ≡ base.newest.domain)) (sym e) same
+
 -- ---- the bundles of domains, one after another
 
 pub bundles_more : (b : Book) → Ascending bundle_key b.bundles → (ds : List Bytes) (n : ℕ) (d : Bytes) (found more : List Bundle) → n < length ds → d ≡ get_or ds n d → more ≡ found ++ option_to_list (bundle_at d b) → more ++ bundles_at b (drop (n + 1) ds) ≡ found ++ bundles_at b (drop n ds)
@@ -108,7 +124,7 @@ bundles_more b ordered ds n d found more less e is =
 -- ---- the walk
 
 module _ (s : Bytes) (a : Agent) (b : Book) where
-  -- After n reads these identities were read; so many entries have one that wasn't.
+  -- After n reads these identities were read. The entries that have another one, and n, are together no more than all entries.
   pub record Walking (n : ℕ) (w : WalkState) : Type 0 where
     pub read : List Bytes
     pub reached : Reached a read (found s a read b) w

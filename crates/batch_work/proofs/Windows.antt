@@ -213,3 +213,7 @@ found_before n w t c e = not_newer w.newest w.older c t (from_within_filter (λ 
 pub is_before_newest : (n : ℕ) (w : Window) → Counted (versions w) → (found : Option (Bor State)) → option_copied found ≡ version_at n w → IfSome found (λ t. (t.now.domain ≡ w.newest.domain) × (t.now.number ≤ w.newest.number))
 is_before_newest n w c None e = tt
 is_before_newest n w c (Some t) e = found_before n w t.now c (sym e)
+
+pub earlier_domain : (s : State) (found : Option (Bor State)) → IfSome found (λ t. (t.now.domain ≡ s.domain) × (t.now.number ≤ s.number)) → IfSome (option_copied found) (λ t. t.domain ≡ s.domain)
+earlier_domain s None h = tt
+earlier_domain s (Some t) h = h.0

@@ -1,6 +1,6 @@
 -- The laws of what batches read. Each is a clause of a function of the module `laws`.
 use Rattle.std.specs.Prelude.{◌≡◌, ◌↔◌, ◌+◌, ◌*◌, ◌≤◌, true, false, List, [], ◌∷◌, ◌++◌, Option, Some, None, Ok, ℕ, take}
-use Rattle.std.specs.List.{AllByRecursion, list_any}
+use Rattle.std.specs.List.{AllByRecursion}
 use Rattle.entry_book.specs.declared.limit.Limit.{Limit}
 use Rattle.entry_book.specs.declared.op.Op.{Op}
 use Rattle.entry_book.specs.declared.reply.OpReply.{OpReply}
@@ -18,7 +18,7 @@ use Rattle.entry_book.specs.History.{batch_writes, kept_under, verdict, adds, ad
 use Rattle.version_book.specs.Applying.{MayApply}
 use Rattle.version_book.specs.Marks.{Agree}
 use Rattle.version_book.specs.CommittedRows.{State, book_of, next_state}
-use Rattle.version_book.specs.History.{Commits, Follows, IsLast, any_hits, state_with}
+use Rattle.version_book.specs.History.{Commits, IsLast, state_with}
 use Rattle.version_book.specs.Written.{placed}
 use Rattle.batch_work.specs.Reads.{marks_of_ops, case_on, case_at, footprint_in, awaits_in, verdict_in, footprint_of, awaits_commit}
 use Rattle.batch_work.specs.Windows.{Window, IsNext, StandsFor, book_in, pushed}
@@ -48,13 +48,9 @@ pub record AreOneTo (batch : Batch) (b c : Book) : Type 0 where
 abbrev pub BatchReadsDecide : Type 0
 BatchReadsDecide = (batch : Batch) (b c : Book) → AscendingBook b → AscendingBook c → AllByRecursion (Agree b c) (footprint_in batch (case_on batch b)) → AreOneTo batch b c
 
--- where no batch since an older version makes a write that hits one of the marks that a batch reads there, the newer version's book is one to it with the older one's
-abbrev pub UnhitStays : Type 0
-UnhitStays = (batch : Batch) (batches : List Batch) (older newer : State) → AscendingBook (book_of older.rows) → Follows older batches newer → list_any (λ m. any_hits m older batches) (footprint_in batch (case_on batch (book_of older.rows))) ≡ false → AreOneTo batch (book_of older.rows) (book_of newer.rows)
-
 -- ---- the commit check
 
--- What becomes of a batch of changes with this run on the newest version: its writes may be applied, and the plain book adds the book of the version after it, or refuses it for the first limit that is passed.
+-- The outcome of a batch of changes with this run on the newest version: its writes may be applied, and the plain book adds the book of the version after it, or refuses it for the first limit that is passed.
 pub record ComesTo (batch : Batch) (s : State) (t : RunEffect) : Type 0 where
   pub ran : run batch.domain batch.ops (book_of s.rows) ≡ Ok t
   pub may : MayApply (batch_writes batch (s.number + 1) t) (s.number + 1) s
@@ -65,7 +61,7 @@ pub record ComesTo (batch : Batch) (s : State) (t : RunEffect) : Type 0 where
 abbrev pub CommitCheck : Type 0
 CommitCheck = (batch : Batch) (base newest : State) (t : RunEffect) → IsMadeFor newest.domain batch → batch.after ≤ newest.number → Lawful newest.domain (64 * newest.number) (book_of newest.rows) → IsWithinLimits (book_of newest.rows) → AscendingBook (book_of base.rows) → AllByRecursion (Agree (book_of base.rows) (book_of newest.rows)) (footprint_in batch (case_on batch (book_of base.rows))) → awaits_in batch (case_on batch (book_of base.rows)) ≡ true → run batch.domain batch.ops (book_of base.rows) ≡ Ok t → ComesTo batch newest t
 
--- The batch has changes that await their commit: it may run, and on the last book; nothing is kept there under its token; it doesn't only ask; and its operations are accepted.
+-- The batch has changes that await their commit: it may run, and on the last book; nothing is kept there under its token; it isn't read-only; and its operations are accepted.
 pub record HasChanges (batch : Batch) (books : List Book) : Type 0 where
   pub in_time : batch.after ≤ place_of books
   pub newest : past_place batch.ops ≡ None

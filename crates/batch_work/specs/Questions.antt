@@ -1,4 +1,4 @@
--- What a batch that only asks comes to, operation by operation. For this crate's own contracts.
+-- The outcome of a read-only batch, operation by operation. For this crate's own contracts.
 use Rattle.std.specs.Prelude.{ℕ, List, [], filter, flat_map, bytes_eq, Result, Ok, Err}
 use Rattle.entry_book.specs.declared.agent.Agent.{Agent}
 use Rattle.entry_book.specs.declared.bundle.Bundle.{Bundle}

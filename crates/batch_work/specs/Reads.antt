@@ -159,7 +159,7 @@ footprint_in batch gone = mark.All ∷ []
 footprint_in batch (kept k) = token_marks batch.token
 footprint_in batch (runs b) = token_marks batch.token ++ marks_of_ops batch.domain batch.ops b
 
--- whether it has changes that await their commit: it runs, doesn't only ask, and no operation is refused
+-- whether it has changes that await their commit: it runs, isn't read-only, and no operation is refused
 abbrev pub awaits_in : Batch → Case → Bool
 awaits_in batch early = false
 awaits_in batch gone = false

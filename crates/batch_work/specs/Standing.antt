@@ -3,6 +3,9 @@ use Rattle.std.specs.Prelude.{◌≡◌, ⊤, ℕ, ◌+◌, ◌*◌, ◌≤◌, 
 use Rattle.spiffe_name.specs.Id.{server_text}
 use Rattle.entry_book.specs.declared.op.Op.{Op}
 use Rattle.entry_book.specs.declared.reply.OpReply.{OpReply}
+use Rattle.entry_book.specs.declared.reply.OpRefusal.TheVariants.{VersionGone}
+use Rattle.entry_book.specs.declared.reply.Refusal.{Refusal}
+use Rattle.entry_book.specs.declared.reply.Refusal.TheVariants.{NotYet, TokenReused, OfOp, Full}
 use Rattle.entry_book.specs.declared.reply.Reply.{Reply}
 use Rattle.entry_book.specs.Rows.{Bytes}
 use Rattle.entry_book.specs.Book.{Book}
@@ -44,6 +47,13 @@ book_now s changes = after changes (book_in s)
 -- The batch may run there.
 abbrev pub InTime : Batch → Base → Type 0
 InTime batch base = nat_lt base.newest.number batch.after ≡ false
+
+-- The batch reads no version there, for this reason: it comes too early, or the book of its page is gone, or not there yet.
+abbrev pub ReadsNone : Batch → Base → Refusal → Type 0
+ReadsNone batch base NotYet = nat_lt base.newest.number batch.after ≡ true
+ReadsNone batch base TokenReused = ⊥
+ReadsNone batch base (OfOp n reason) = (n ≡ 0) × (reason ≡ VersionGone) × InTime batch base × (version_read (past_place batch.ops) base ≡ None)
+ReadsNone batch base (Full limit) = ⊥
 
 -- The version that is read is lawful, and its number has room to grow.
 pub record IsReadable (own : Bytes) (s : State) : Type 0 where

@@ -22,7 +22,7 @@ use spiffe_name::SpiffeId;
 use std::alloc::{AllocError, Global};
 use version_book::{Changes, Mark, RowsRead};
 
-/// The mark that an operation reads first. The error is want of memory.
+/// The mark that an operation reads first. The error is out of memory.
 fn first_mark(op: &Op) -> Result<Mark, AllocError>
     ensures { IfOk result (λ mark. mark ≡ first_mark op.now) }
 {
@@ -45,7 +45,7 @@ fn first_mark(op: &Op) -> Result<Mark, AllocError>
     })
 }
 
-/// The mark that is read next. The error is want of memory.
+/// The mark that is read next. The error is out of memory.
 pub(crate) fn mark_of(server: &Shared<SpiffeId>, op: &Op, phase: &Phase) -> Result<Mark, AllocError>
     ensures { IfOk result (λ mark. mark ≡ mark_of server.now op.now phase.now) }
 {
@@ -68,7 +68,7 @@ fn answered(alloc: Global, reply: OpReply) -> Next
     Next::Ends(reply, Changes::new(alloc))
 }
 
-/// After the first read of an operation. The error is want of memory.
+/// After the first read of an operation. The error is out of memory.
 fn first_next(alloc: Global, op: &Op, reading: RowsRead) -> Result<Next, AllocError>
     requires counts { CanGrow reading }
     ensures { IfOk result (λ next. next ≡ first_next op.now reading) }
@@ -106,7 +106,7 @@ fn first_next(alloc: Global, op: &Op, reading: RowsRead) -> Result<Next, AllocEr
     }
 }
 
-/// What comes next, or for want of memory the phase.
+/// What comes next, or the phase if out of memory.
 fn or_back(next: Result<Next, AllocError>, phase: Phase) -> Result<Next, Phase>
     ensures ok { is_ok result ≡ is_ok next }
     ensures next { IfOk result (λ made. next ≡ Ok made) }

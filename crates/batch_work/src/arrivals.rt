@@ -8,13 +8,13 @@ ghost use Rattle.entry_book.specs.declared.agent.Agent.{Agent as AgentRow};
 ghost use Rattle.batch_work.specs.Reads.{is_one_of};
 ghost use Rattle.batch_work.specs.WalkStates.{met_when, walked};
 
-use crate::sorted::{put_entry, put_identity};
+use crate::sorted::put_reserved;
 use entry_book::{Entry, Shared, both};
 use spiffe_name::SpiffeId;
 use std::alloc::{AllocError, Global};
 use std::marker::Model;
 
-/// An entry that comes to a walk, with the owners of its identity that the sets of identities may need. A contract sees
+/// An entry that arrives at a walk, with the references to its identity that the sets of identities may need. A contract sees
 /// the entry.
 #[derive(Drop)]
 pub(crate) struct Arrival {
@@ -52,7 +52,7 @@ impl Arrival {
     }
 }
 
-/// The entries, each with the owners of its identity. The error is want of memory.
+/// The entries, each with the owners of its identity. The error is out of memory.
 pub(crate) fn arrivals_of(alloc: Global, entries: Vec<Entry>) -> Result<Vec<Arrival>, AllocError>
     ensures { IfOk result (λ arrivals. arrivals.items ≡ entries.items) }
 {
@@ -89,10 +89,10 @@ fn put_arrival(
         met: identity,
         waiting: other,
     } = arrival;
-    if put_identity(met, identity) {
-        put_identity(waiting, other);
+    if put_reserved(met, identity) {
+        put_reserved(waiting, other);
     }
-    put_entry(found, entry);
+    put_reserved(found, entry);
 }
 
 /// Puts entries one after another into sets that have room for all of them. Takes no memory.

@@ -1,10 +1,9 @@
-//! What is a batch that only asks answered, at once?
+//! Evaluates read-only batches in one pass.
 //!
-//! Nothing commits on what it reads, so it keeps no marks and makes no steps, and its rows are lent.
+//! Nothing commits on what such a batch reads. So it records no read set, makes no steps, and its rows are borrowed.
 
-ghost use Rattle.std.specs.Prelude.{◌≡◌, IfOk, IfSome, true, ℕ};
-ghost use Rattle.std.specs.Option.{option_copied};
-ghost use Rattle.entry_book.specs.Batches.{Batch as BatchRow, is_query, is_question, past_place};
+ghost use Rattle.std.specs.Prelude.{◌≡◌, IfOk, true, ℕ};
+ghost use Rattle.entry_book.specs.Batches.{Batch as BatchRow, is_query, is_question};
 ghost use Rattle.entry_book.specs.History.{reply_with, verdict_run};
 ghost use Rattle.entry_book.specs.Ops.{op_of};
 ghost use Rattle.entry_book.specs.Pages.{listed, next_of};
@@ -12,19 +11,20 @@ ghost use Rattle.entry_book.specs.Runs.{run};
 ghost use Rattle.batch_work.specs.LentReplies.{outcome_of};
 ghost use Rattle.batch_work.specs.Questions.{all_answered, answered};
 ghost use Rattle.batch_work.specs.Windows.{book_in};
-ghost use Rattle.batch_work.specs.Working.{MayBegin, base_in, reply_there, version_read};
+ghost use Rattle.batch_work.specs.Working.{MayBegin, base_in, reply_there};
 
 mod authorised;
 mod walk;
 
 use crate::asking::authorised::{authorised_reply, trust_reply};
 use crate::lent_reply::{LentOpReply, LentOutcome, LentReply, LentRows, lent};
+use crate::versions::Versions;
 use crate::window::Window;
 use entry_book::{Batch, Op, OpRefusal, PageQuery, Refusal, Sequence};
 use std::alloc::{AllocError, Global};
 use version_book::Version;
 
-/// A page of a version's entries. The error is want of memory.
+/// A page of a version's entries. The error is out of memory.
 fn page<'a>(version: &'a Version, query: &PageQuery) -> Result<LentRows<'a>, AllocError>
     ensures { IfOk result (λ rows. rows ≡ LentRows.Page (listed query.now (book_in version.now)) (next_of query.now (book_in version.now))) }
 {
@@ -32,7 +32,7 @@ fn page<'a>(version: &'a Version, query: &PageQuery) -> Result<LentRows<'a>, All
     Ok(LentRows::Page(Sequence::of(entries), next))
 }
 
-/// What an operation that only asks is replied on a version, or why it is refused. The error is want of memory.
+/// The reply to a read-only operation on a version, or why it is refused. The error is out of memory.
 fn answer_op<'a>(
     alloc: Global,
     version: &'a Version,
@@ -61,8 +61,8 @@ fn answer_op<'a>(
     Ok(Ok(LentOpReply::of(rows)))
 }
 
-/// What operations that only ask are replied on a version, in order, or the first that is refused, counted from 0. The error
-/// is want of memory.
+/// The replies to read-only operations on a version, in order, or the first that is refused, counted from 0. The error is out of
+/// memory.
 fn answer_ops<'a>(
     alloc: Global,
     version: &'a Version,
@@ -81,7 +81,7 @@ fn answer_ops<'a>(
     Ok(Ok(replies))
 }
 
-/// What a batch that only asks comes to on the version that it reads. The error is want of memory.
+/// The outcome of a read-only batch on the version that it reads. The error is out of memory.
 fn outcome_on<'a>(
     alloc: Global,
     version: &'a Version,
@@ -97,18 +97,7 @@ fn outcome_on<'a>(
     }
 }
 
-/// The version that a batch reads, where the window has it.
-fn version_in<'a>(batch: &Batch, window: &'a Window) -> Option<&'a Version>
-    ensures read { option_copied result ≡ version_read (past_place batch.now.ops) (base_in batch.now window.now) }
-    ensures domain { IfSome result (λ version. version.now.domain ≡ window.now.newest.domain) }
-{
-    match batch.past_place() {
-        None => Some(window.newest()),
-        Some(place) => window.book(place),
-    }
-}
-
-/// What a batch that only asks comes to on a window. The error is want of memory.
+/// The outcome of a read-only batch on a window. The error is out of memory.
 fn outcome_in<'a>(
     alloc: Global,
     batch: &Batch,
@@ -120,17 +109,15 @@ fn outcome_in<'a>(
         ≡ record { place = window.now.newest.number; outcome = outcome_of outcome }) }
 {
     let ops = batch.ops();
-    if window.newest().number() < batch.after() {
-        return Ok(Err(Refusal::NotYet));
-    }
-    match version_in(batch, window) {
-        Some(version) => outcome_on(alloc, version, ops),
-        None => Ok(Err(Refusal::OfOp(0, OpRefusal::VersionGone))),
+    let versions = Versions::in_window(batch, window);
+    match versions.version_for(batch) {
+        Ok(version) => outcome_on(alloc, version, ops),
+        Err(refusal) => Ok(Err(refusal)),
     }
 }
 
-/// The reply to a batch that only asks: that of a work which begins on the window, once it is settled. The window lends the rows.
-/// The error is want of memory.
+/// The reply to a read-only batch: that of a work which begins on the window, once it is settled. Its rows are borrowed from the
+/// window. The error is out of memory.
 pub fn answer<'a>(
     alloc: Global,
     batch: &Batch,

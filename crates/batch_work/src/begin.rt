@@ -5,33 +5,31 @@ ghost use Rattle.entry_book.specs.Batches.{past_place};
 ghost use Rattle.batch_work.specs.Standing.{BeganOn, IsReadable, StandsAt, base_of};
 ghost use Rattle.batch_work.specs.Working.{MayBegin, base_in, earlier_in};
 
-use crate::look::version_read;
 use crate::phase::Phase;
 use crate::stage::{Begun, Stage};
 use crate::take::settled;
+use crate::versions::{Versions, earlier_in};
 use crate::window::Window;
 use entry_book::{Batch, Outcome, Refusal, both};
 use std::alloc::AllocError;
 use version_book::Version;
 
-/// The version of the earlier book that a batch asks for, where it asks for one and the window has it. The error is that no
-/// more owners can be counted.
-fn earlier_in(batch: &Batch, window: &Window) -> Result<Option<Version>, AllocError>
+/// A clone of the version of the earlier book that a batch asks for, if it asks for one and the window has it. The error is that
+/// its reference count can't grow.
+fn earlier_clone(batch: &Batch, window: &Window) -> Result<Option<Version>, AllocError>
     requires fits { MayBegin batch.now window.now }
     ensures found { IfOk result (λ earlier. earlier ≡ earlier_in (past_place batch.now.ops) window.now) }
     ensures readable { IfOk result (λ earlier. IfSome earlier (IsReadable batch.now.domain)) }
 {
-    let Some(place) = batch.past_place() else {
+    let Some(version) = earlier_in(batch, window) else {
         return Ok(None);
     };
-    let Some(version) = window.book(place) else {
-        return Ok(None);
-    };
+    // its contract says that the version's book is valid
     let _ = version.number();
     Ok(Some(version.clone()?))
 }
 
-/// Where a batch begins on a window. The error is that no more owners can be counted.
+/// Where a batch begins on a window. The error is that a reference count can't grow.
 pub(crate) fn begun_on(batch: &Batch, window: &Window) -> Result<Begun, AllocError>
     requires fits { MayBegin batch.now window.now }
     ensures base { IfOk result (λ begun. base_of begun ≡ base_in batch.now window.now) }
@@ -41,7 +39,7 @@ pub(crate) fn begun_on(batch: &Batch, window: &Window) -> Result<Begun, AllocErr
     let _ = newest.number();
     let _ = batch.domain();
     let names = both(newest.server().clone(), newest.clone());
-    let ((server, newest), earlier) = both(names, earlier_in(batch, window))?;
+    let ((server, newest), earlier) = both(names, earlier_clone(batch, window))?;
     Ok(Begun {
         newest,
         earlier,
@@ -54,15 +52,16 @@ pub(crate) fn first_stage(batch: &Batch, begun: &Begun) -> Stage
     requires began { BeganOn batch.now begun.now }
     ensures { StandsAt result batch.now (base_of begun.now) [] [] [] }
 {
-    let place = begun.newest.number();
-    if place < batch.after() {
-        return settled(place, Outcome::Refused(Refusal::NotYet));
-    }
-    let Some(_) = version_read(begun, batch) else {
-        return Stage::Gone;
-    };
-    match batch.token() {
-        Some(token) => Stage::Token(token),
-        None => Stage::At(0, Phase::First),
+    let versions = Versions::begun(begun);
+    match versions.version_for(batch) {
+        Ok(_) => match batch.token() {
+            Some(token) => Stage::Token(token),
+            None => Stage::At(0, Phase::First),
+        },
+        Err(Refusal::NotYet) => {
+            let place = begun.newest.number();
+            settled(place, Outcome::Refused(Refusal::NotYet))
+        }
+        Err(_) => Stage::Gone,
     }
 }

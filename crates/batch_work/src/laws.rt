@@ -4,7 +4,7 @@
 //! `specs/Bounds.antt` or `specs/Walked.antt`; a caller that calls it may rest on the law.
 
 ghost use Rattle.batch_work.specs.Bounds.{BatchReadsBounded, KeptReadOnly, OpReadsBounded, ReadsAreFew, ReadsAreFewAnywhere, ReadsInOrder, TokenReadFirst};
-ghost use Rattle.batch_work.specs.Laws.{AwaitsAsSaid, BatchReadsDecide, CommitCheck, EndHasRead, OthersDontCommit, ReadsDecide, ReadyHasRead, ReadyTurns, UnhitStays, VerdictByCase, WindowBegins, WindowGoesOn, WindowLast, WindowStands};
+ghost use Rattle.batch_work.specs.Laws.{AwaitsAsSaid, BatchReadsDecide, CommitCheck, EndHasRead, OthersDontCommit, ReadsDecide, ReadyHasRead, ReadyTurns, VerdictByCase, WindowBegins, WindowGoesOn, WindowLast, WindowStands};
 ghost use Rattle.batch_work.specs.Walked.{AuthorisedReads, MissingReads, OneWalk, TrustReads, TrustedAsSaid, WalkAsSaid};
 
 /// What a batch meets decides what the plain book does with it.
@@ -12,14 +12,13 @@ pub fn cases()
     ensures verdict { VerdictByCase }
 {}
 
-/// What a batch reads decides what it comes to.
+/// What a batch reads decides its outcome.
 pub fn reads_decide()
     ensures ops { ReadsDecide }
     ensures batch { BatchReadsDecide }
-    ensures unhit { UnhitStays }
 {}
 
-/// What a batch comes to at its commit, where what it read stands; and which batches await one.
+/// The outcome of a batch at its commit, if what it read is unchanged; and which batches await one.
 pub fn commit_check()
     ensures check { CommitCheck }
     ensures awaits { AwaitsAsSaid }

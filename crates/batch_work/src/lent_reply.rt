@@ -59,7 +59,7 @@ impl<'a> LentOpReply<'a> {
         &self.rows
     }
 
-    /// The same reply with copies of the rows. The error is want of memory.
+    /// The same reply with copies of the rows. The error is out of memory.
     fn kept(&self, alloc: Global) -> Result<OpReply, AllocError>
         ensures { IfOk result (λ reply. reply ≡ self.now) }
     {
@@ -124,7 +124,7 @@ impl<'a> LentReply<'a> {
         &self.outcome
     }
 
-    /// The same reply with copies of the rows, to be kept as long as anyone likes. The error is want of memory.
+    /// The same reply with copies of the rows, to be kept as long as anyone likes. The error is out of memory.
     pub fn kept(&self, alloc: Global) -> Result<Reply, AllocError>
         ensures { IfOk result (λ reply. reply ≡ self.now) }
     {
@@ -161,7 +161,7 @@ fn copied<T: Clone>(row: &Option<Lent<'_, T>>) -> Result<Option<T>, AllocError>
     }
 }
 
-/// The same replies with copies of the rows. The error is want of memory.
+/// The same replies with copies of the rows. The error is out of memory.
 fn kept_replies(alloc: Global, replies: &[LentOpReply<'_>]) -> Result<Sequence<OpReply>, AllocError>
     ensures { IfOk result (λ kept. kept ≡ replies.now) }
 {

@@ -1,34 +1,23 @@
 //! What does the next read of a work show?
 
 ghost use Rattle.std.specs.Prelude.{◌≡◌, IfOk, IfErr, Some, length, slice_get};
-ghost use Rattle.std.specs.Option.{option_copied};
-ghost use Rattle.entry_book.specs.Batches.{past_place};
 ghost use Rattle.entry_book.specs.Book.{token_at};
 ghost use Rattle.entry_book.specs.History.{kept_under};
 ghost use Rattle.entry_book.specs.Order.{first};
 ghost use Rattle.batch_work.specs.Standing.{AtToken, BeganOn, Going, IsRunning, Looked, StandsAt, StandsRead, base_of};
 ghost use Rattle.batch_work.specs.Windows.{book_in};
-ghost use Rattle.batch_work.specs.Working.{footprint_there, version_read};
+ghost use Rattle.batch_work.specs.Working.{footprint_there};
 
 use crate::advance::{advance, mark_of};
 use crate::phase::{Next, Phase};
 use crate::stage::{Begun, Course, Found, Stage};
+use crate::versions::Versions;
 use entry_book::{Batch, KeptBatch};
 use std::alloc::{AllocError, Global};
 use uuid::Uuid;
 use version_book::{Mark, Version};
 
-/// The version that a batch reads, where it is there.
-pub(crate) fn version_read<'a>(begun: &'a Begun, batch: &Batch) -> Option<&'a Version>
-    ensures { option_copied result ≡ version_read (past_place batch.now.ops) (base_of begun.now) }
-{
-    match batch.past_place() {
-        None => Some(&begun.newest),
-        Some(_) => begun.earlier.as_ref(),
-    }
-}
-
-/// The first of these, where there is one. The error is want of memory.
+/// The first of these, where there is one. The error is out of memory.
 fn first_kept(tokens: &[KeptBatch]) -> Result<Option<KeptBatch>, AllocError>
     ensures { IfOk result (λ kept. kept ≡ first tokens.now) }
 {
@@ -38,7 +27,7 @@ fn first_kept(tokens: &[KeptBatch]) -> Result<Option<KeptBatch>, AllocError>
     }
 }
 
-/// What a version keeps under a token. The error is want of memory.
+/// What a version keeps under a token. The error is out of memory.
 fn kept_under(version: &Version, token: Uuid) -> Result<Option<KeptBatch>, AllocError>
     ensures { IfOk result (λ kept. kept ≡ token_at token (book_in version.now)) }
 {
@@ -51,7 +40,7 @@ fn kept_under(version: &Version, token: Uuid) -> Result<Option<KeptBatch>, Alloc
     kept
 }
 
-/// The next read of an operation, counted from 0, at its phase: the mark, and what comes next. The error is want of memory,
+/// The next read of an operation, counted from 0, at its phase: the mark, and what comes next. The error is out of memory,
 /// and gives the phase back.
 fn look_op(
     alloc: Global,
@@ -66,7 +55,7 @@ fn look_op(
     ensures looked { IfOk result (λ found. Looked batch.now (base_of begun.now) course.now.marks.items course.now.changes course.now.replies.items index found.0 found.1) }
     ensures back { IfErr result (λ back. back ≡ phase) }
 {
-    let Some(version) = version_read(begun, batch) else {
+    let Some(version) = Versions::begun(begun).read(batch) else {
         unreachable!()
     };
     let op = &batch.ops()[index];
@@ -86,18 +75,18 @@ fn look_op(
     }
 }
 
-/// The next read of what is kept under the batch's token. The error is want of memory.
+/// The next read of what is kept under the batch's token. The error is out of memory.
 fn look_token(begun: &Begun, batch: &Batch, token: Uuid) -> Result<Option<KeptBatch>, AllocError>
     requires at { AtToken batch.now (base_of begun.now) token }
     ensures { IfOk result (λ kept. (at_token : AtToken batch.now (base_of begun.now) token) → kept ≡ kept_under batch.now.token (book_in at_token.s)) }
 {
-    let Some(version) = version_read(begun, batch) else {
+    let Some(version) = Versions::begun(begun).read(batch) else {
         unreachable!()
     };
     kept_under(version, token)
 }
 
-/// The mark of the next read of a work that runs. The error is want of memory.
+/// The mark of the next read of a work that runs. The error is out of memory.
 pub(crate) fn next_mark(
     begun: &Begun,
     batch: &Batch,
@@ -120,7 +109,7 @@ pub(crate) fn next_mark(
 }
 
 /// Makes the next read of a work that runs: its mark, and what it shows. A read that was made and not taken down isn't made
-/// again. The error is want of memory, and gives the stage back.
+/// again. The error is out of memory, and gives the stage back.
 pub(crate) fn look(
     alloc: Global,
     begun: &Begun,

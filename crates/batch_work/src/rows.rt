@@ -36,7 +36,7 @@ pub(crate) fn holds(server: &SpiffeId, agent: &Agent, entry: &Entry) -> bool
     entry.parent().get() == server && entry.selectors().get().within(agent.selectors.get())
 }
 
-/// The aliases that the agent holds. The error is want of memory.
+/// The aliases that the agent holds. The error is out of memory.
 pub(crate) fn held(
     alloc: Global,
     server: &SpiffeId,

@@ -1,78 +1,108 @@
-//! Where does a row stand in a vector that is in order, and how is it put there?
+//! Where is an item in a vector that is in order, and how is it put there?
 
-ghost use Rattle.std.specs.Prelude.{◌≡◌, ◌≤◌, ◌<◌, ◌+◌, Some, not, vec_len};
+ghost use Rattle.std.specs.Prelude.{◌≡◌, ◌≤◌, ◌<◌, ◌+◌, IfOk, IsOk, List, OnOk, Some, bytes_eq, not, vec_len, ℕ};
+ghost use Rattle.std.specs.Cmp.Lexicographic.{slice_cmp};
+ghost use Rattle.std.specs.List.{list_any};
+ghost use Rattle.std.specs.Ordering.{nat_cmp};
 ghost use Rattle.std.specs.Vec.{vec_capacity};
 ghost use Rattle.entry_book.specs.Order.{Ascending, with_row};
 ghost use Rattle.entry_book.specs.Rows.{entry_key};
 ghost use Rattle.batch_work.specs.Places.{IsPlace};
-ghost use Rattle.batch_work.specs.Reads.{is_one_of};
-ghost use Rattle.batch_work.specs.WalkStates.{with_text};
 
 use entry_book::{Entry, Shared};
 use spiffe_name::SpiffeId;
-use uuid::Uuid;
+use std::alloc::AllocError;
+use std::cmp::Ordering;
+use version_book::Lent;
 
-/// Where the identity stands in the set, or where it would.
-fn identity_place(set: &[Shared<SpiffeId>], identity: &Shared<SpiffeId>) -> Result<usize, usize>
-    requires order { Ascending (λ id. id) set.now }
-    ensures { IsPlace (λ id. id) set.now identity.now result }
-{
-    set.binary_search(identity)
+/// An item of a sorted set. It has a key, by whose bytes the set is ordered.
+pub(crate) trait Keyed: Drop {
+    ghost key: { Self → List ℕ };
+
+    /// How its key compares with that of another item.
+    fn compare(&self, other: &Self) -> Ordering
+        ensures { result ≡ slice_cmp nat_cmp (key self.now) (key other.now) };
 }
 
-/// Where the entry of the id stands in the set, or where it would.
-fn entry_place(set: &[Entry], id: &Uuid) -> Result<usize, usize>
-    requires order { Ascending entry_key set.now }
-    ensures { IsPlace entry_key set.now id.now result }
-{
-    set.binary_search_by_key(id, |entry| *entry.id())
+impl Keyed for Shared<SpiffeId> {
+    ghost key = { λ id. id };
+
+    fn compare(&self, other: &Shared<SpiffeId>) -> Ordering {
+        self.cmp(other)
+    }
 }
 
-/// Is the identity in the set?
-pub(crate) fn has_identity(set: &[Shared<SpiffeId>], identity: &Shared<SpiffeId>) -> bool
-    requires order { Ascending (λ id. id) set.now }
-    ensures { result ≡ is_one_of identity.now set.now }
+impl Keyed for Entry {
+    ghost key = { entry_key };
+
+    fn compare(&self, other: &Entry) -> Ordering {
+        self.id().cmp(other.id())
+    }
+}
+
+/// A borrowed item has the key of the item.
+impl<'a, T: Keyed + 'a> Keyed for Lent<'a, T> {
+    ghost key = { T.key };
+
+    fn compare(&self, other: &Lent<'a, T>) -> Ordering {
+        self.get().compare(other.get())
+    }
+}
+
+/// Where the item with this one's key is, or where it would be, by binary search.
+fn place_of<T: Keyed>(set: &[T], item: &T) -> Result<usize, usize>
+    requires order { Ascending T.key set.now }
+    ensures { IsPlace T.key set.now (T.key item.now) result }
 {
-    match identity_place(set, identity) {
+    set.binary_search_by(|other| other.compare(item))
+}
+
+/// Returns true if the set has an item with this one's key.
+pub(crate) fn has<T: Keyed>(set: &[T], item: &T) -> bool
+    requires order { Ascending T.key set.now }
+    ensures { result ≡ list_any (λ other. bytes_eq (T.key other) (T.key item.now)) set.now }
+{
+    match place_of(set, item) {
         Ok(_) => true,
         Err(_) => false,
     }
 }
 
-/// Puts the identity into the set, which has room for it, and answers whether it was missing there. Takes no memory.
-pub(crate) fn put_identity(set: &mut Vec<Shared<SpiffeId>>, identity: Shared<SpiffeId>) -> bool
-    requires order { Ascending (λ id. id) set.old.items }
-    requires room { vec_len set.old < vec_capacity set.old }
-    ensures is_new { result ≡ not (is_one_of identity set.old.items) }
-    ensures put { set.new.items ≡ with_text identity set.old.items }
+/// Puts the item into the set, in the place of the one with its key. Returns true if there was none. The error is out of memory,
+/// which can't be if the set has room.
+pub(crate) fn put<T: Keyed>(set: &mut Vec<T>, item: T) -> Result<bool, AllocError>
+    requires order { Ascending T.key set.old.items }
+    ensures is_new { IfOk result (λ is_new. is_new ≡ not (list_any (λ other. bytes_eq (T.key other) (T.key item)) set.old.items)) }
+    ensures put { OnOk result (set.new.items ≡ with_row T.key (T.key item) (Some item) set.old.items) }
+    ensures order { Ascending T.key set.new.items }
+    ensures room { vec_len set.old < vec_capacity set.old → IsOk result }
     ensures len { vec_len set.new ≤ vec_len set.old + 1 }
     ensures capacity { vec_capacity set.old ≤ vec_capacity set.new }
 {
-    match identity_place(set.as_slice(), &identity) {
-        Ok(_) => false,
+    match place_of(set.as_slice(), &item) {
+        Ok(index) => {
+            set[index] = item;
+            Ok(false)
+        }
         Err(index) => {
-            let Ok(()) = set.insert(index, identity) else {
-                unreachable!();
-            };
-            true
+            set.insert(index, item)?;
+            Ok(true)
         }
     }
 }
 
-/// Puts the entry into the set, which has room for it, in the place of the one of its id. Takes no memory.
-pub(crate) fn put_entry(set: &mut Vec<Entry>, entry: Entry)
-    requires order { Ascending entry_key set.old.items }
+/// Puts the item into the set, which has room for it, in the place of the one with its key. Returns true if there was none. Takes
+/// no memory.
+pub(crate) fn put_reserved<T: Keyed>(set: &mut Vec<T>, item: T) -> bool
+    requires order { Ascending T.key set.old.items }
     requires room { vec_len set.old < vec_capacity set.old }
-    ensures put { set.new.items ≡ with_row entry_key entry.id (Some entry) set.old.items }
+    ensures is_new { result ≡ not (list_any (λ other. bytes_eq (T.key other) (T.key item)) set.old.items) }
+    ensures put { set.new.items ≡ with_row T.key (T.key item) (Some item) set.old.items }
     ensures len { vec_len set.new ≤ vec_len set.old + 1 }
     ensures capacity { vec_capacity set.old ≤ vec_capacity set.new }
 {
-    match entry_place(set.as_slice(), entry.id()) {
-        Ok(index) => set[index] = entry,
-        Err(index) => {
-            let Ok(()) = set.insert(index, entry) else {
-                unreachable!();
-            };
-        }
-    }
+    let Ok(is_new) = put(set, item) else {
+        unreachable!()
+    };
+    is_new
 }

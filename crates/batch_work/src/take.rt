@@ -1,4 +1,4 @@
-//! What becomes of a work once a read was made?
+//! What follows from a read that a work has made?
 
 ghost use Rattle.std.specs.Prelude.{◌≡◌, ◌<◌, ◌≤◌, ◌+◌, ◌++◌, ◌∷◌, [], IfOk, IfErr, OnOk, OnErr, true, false, length};
 ghost use Rattle.entry_book.specs.Batches.{is_query};
@@ -8,6 +8,7 @@ ghost use Rattle.batch_work.specs.Standing.{BeganOn, Looked, StandsAt, StandsRea
 
 use crate::phase::{Next, Phase};
 use crate::stage::{Begun, Course, Found, Stage};
+use crate::versions::version_gone;
 use entry_book::{Batch, KeptBatch, OpRefusal, OpReply, Outcome, Refusal, Reply, Sequence, Shared};
 use std::alloc::{AllocError, Global};
 use version_book::{Changes, Mark};
@@ -50,10 +51,10 @@ fn gone(begun: &Begun) -> Stage
       outcome = Outcome.Refused (Refusal.OfOp 0 OpRefusal.VersionGone);
     }) }
 {
-    refused(begun, 0, OpRefusal::VersionGone)
+    settled(begun.newest.number(), Outcome::Refused(version_gone()))
 }
 
-/// A copy of these writes is put behind the changes. The error is want of memory, and nothing has changed then.
+/// A copy of these writes is put behind the changes. The error is out of memory, and nothing has changed then.
 fn append_copy(changes: &mut Changes, writes: &Changes) -> Result<(), AllocError>
     ensures changes { OnOk result (changes.new ≡ changes.old ++ writes.now) }
     ensures err { OnErr result (changes.new ≡ changes.old) }
@@ -62,7 +63,7 @@ fn append_copy(changes: &mut Changes, writes: &Changes) -> Result<(), AllocError
     changes.append(writes)
 }
 
-/// Takes an operation's reply and writes down, which isn't the last one. The error is want of memory, and nothing has changed
+/// Takes an operation's reply and writes down, which isn't the last one. The error is out of memory, and nothing has changed
 /// then.
 fn end_op(course: &mut Course, reply: &OpReply, writes: &Changes) -> Result<(), AllocError>
     ensures changes { OnOk result (course.new.changes ≡ course.old.changes ++ writes.now) }
@@ -82,7 +83,7 @@ fn end_op(course: &mut Course, reply: &OpReply, writes: &Changes) -> Result<(), 
     Ok(())
 }
 
-/// The replies of all operations, with that of the last one. The error is want of memory.
+/// The replies of all operations, with that of the last one. The error is out of memory.
 fn all_replies(
     alloc: Global,
     earlier: &Vec<OpReply>,
@@ -95,7 +96,7 @@ fn all_replies(
     Shared::of(alloc, Sequence::of(all))
 }
 
-/// Takes the last operation's writes down, and that of the batch's token, where it carries one. The error is want of memory,
+/// Takes the last operation's writes down, and that of the batch's token, where it carries one. The error is out of memory,
 /// and nothing has changed then.
 fn end_changes(
     changes: &mut Changes,
@@ -113,7 +114,7 @@ fn end_changes(
     changes.append(writes)
 }
 
-/// The last operation of a batch that only asks has ended. The error is want of memory.
+/// The last operation of a read-only batch has ended. The error is out of memory.
 fn end_query(
     alloc: Global,
     begun: &Begun,
@@ -129,7 +130,7 @@ fn end_query(
     Ok(settled(begun.newest.number(), Outcome::Answered(all)))
 }
 
-/// The last operation of a batch that changes the book has ended. The error is want of memory, and nothing has changed then.
+/// The last operation of a batch that changes the book has ended. The error is out of memory, and nothing has changed then.
 fn end_changes_batch(
     alloc: Global,
     batch: &Batch,
@@ -148,7 +149,7 @@ fn end_changes_batch(
     Ok(Stage::Ready(all))
 }
 
-/// What becomes of a work whose operation, counted from 0, has ended. The error is want of memory, and nothing has changed
+/// The stage of a work whose operation, counted from 0, has ended. The error is out of memory, and nothing has changed
 /// then.
 fn ended(
     alloc: Global,
@@ -179,7 +180,7 @@ fn ended(
     }
 }
 
-/// Takes a read down, of this mark: the work's stage after it. The error is want of memory, and gives back what was found;
+/// Takes a read down, of this mark: the work's stage after it. The error is out of memory, and gives back what was found;
 /// nothing has changed then.
 pub(crate) fn take_down(
     alloc: Global,

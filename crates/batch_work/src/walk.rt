@@ -7,7 +7,7 @@ ghost use Rattle.entry_book.specs.Rows.{Entry as EntryRow};
 ghost use Rattle.batch_work.specs.Reads.{is_one_of};
 
 use crate::arrivals::{arrivals_of, put_arrivals};
-use crate::sorted::has_identity;
+use crate::sorted::has;
 use entry_book::{Agent, Entry, Shared, both};
 use spiffe_name::SpiffeId;
 use std::alloc::{AllocError, Global};
@@ -56,7 +56,7 @@ impl Walk {
     ghost use Rattle.std.specs.Prelude.{◌≡◌, [], ◌∷◌, IfOk, IfNone, IfSome, OnOk, OnErr};
     ghost use Rattle.batch_work.specs.WalkStates.{first_walk, is_over, walked};
 
-    /// The walk before its first entry. The error is want of memory.
+    /// The walk before its first entry. The error is out of memory.
     pub(crate) fn new(alloc: Global, agent: Agent) -> Result<Walk, AllocError>
         ensures { IfOk result (λ walk. walk ≡ first_walk agent) }
     {
@@ -73,7 +73,7 @@ impl Walk {
         })
     }
 
-    /// Takes in the entries of a read, one after another. The error is want of memory, and nothing has changed then.
+    /// Takes in the entries of a read, one after another. The error is out of memory, and nothing has changed then.
     pub(crate) fn goes_on(&mut self, alloc: Global, entries: Vec<Entry>) -> Result<(), AllocError>
         ensures ok { OnOk result (self.new ≡ walked entries.items self.old) }
         ensures err { OnErr result (self.new ≡ self.old) }
@@ -132,7 +132,7 @@ impl Walk {
     }
 }
 
-/// A copy copies no text. The error is want of memory.
+/// A copy copies no text. The error is out of memory.
 impl Clone for Walk {
     ghost is_clone = { λ original copy. copy ≡ original };
 
@@ -149,7 +149,7 @@ impl Clone for Walk {
     }
 }
 
-/// This identity alone. The error is want of memory.
+/// This identity alone. The error is out of memory.
 fn only(alloc: Global, id: &Shared<SpiffeId>) -> Result<Vec<Shared<SpiffeId>>, AllocError>
     ensures { IfOk result (λ ids. ids.items ≡ id.now ∷ []) }
 {
@@ -164,7 +164,7 @@ fn are_met(met: &[Shared<SpiffeId>], entries: &[Entry]) -> bool
     ensures { result ≡ list_all (λ (entry : EntryRow). is_one_of entry.identity met.now) entries.now }
 {
     for entry in entries {
-        if !has_identity(met, entry.identity()) {
+        if !has(met, entry.identity()) {
             return false;
         }
     }

@@ -135,7 +135,7 @@ impl Work {
     }
 
     /// Begins on a window, whose trust domain the batch was made for. A batch that may not run yet is settled at once. The error
-    /// is want of memory, and nothing has changed then.
+    /// is out of memory, and nothing has changed then.
     pub fn begin(&mut self, window: &Window) -> Result<(), AllocError>
         requires is_new { status_of self.old ≡ Status.New }
         requires fits { MayBegin self.old.batch window.now }
@@ -150,7 +150,7 @@ impl Work {
         Ok(())
     }
 
-    /// The mark of the read that the next step makes. The error is want of memory.
+    /// The mark of the read that the next step makes. The error is out of memory.
     pub fn next_mark(&self) -> Result<Mark, AllocError>
         requires running { status_of self.now ≡ Status.Running }
         ensures { IfOk result (IsNextRead self.now) }
@@ -162,7 +162,7 @@ impl Work {
     }
 
     /// Makes the next read; its mark is then the last of `marks`. After the last read of an operation its writes are seen by
-    /// the later ones. The error is want of memory, and nothing has changed then.
+    /// the later ones. The error is out of memory, and nothing has changed then.
     pub fn step(&mut self) -> Result<(), AllocError>
         requires running { status_of self.old ≡ Status.Running }
         ensures stepped { OnOk result (self.new ≡ record self.old { steps = self.old.steps + 1 }) }

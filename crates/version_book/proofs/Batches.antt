@@ -1,4 +1,4 @@
--- What do lists of batches come to, on versions and on the plain book's list of books?
+-- What follows from lists of batches, on versions and on the plain book's list of books?
 use Rattle.std.proofs.Common.{◌≡◌, ℕ, ◌+◌, ◌<◌, List, [], ◌∷◌, ◌++◌, length, Some, ap, ◌∙◌, refl, arith, length-append}
 use Rattle.entry_book.proofs.Histories.{last-snoc}
 use Rattle.entry_book.specs.Book.{Book, empty_book}

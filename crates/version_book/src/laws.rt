@@ -25,13 +25,13 @@ pub fn reads_after_writes()
     ensures unhit { Unhit }
 {}
 
-/// What it comes to that the place of what a batch keeps under its token is left open until the batch commits.
+/// The place of what a batch keeps under its token may be left open until the batch commits.
 pub fn places()
     ensures put { PlacesPut }
     ensures hits { HitsAtAnyPlace }
 {}
 
-/// How the rows of a version stand for its book.
+/// How the rows of a version represent its book.
 pub fn books()
     ensures after { BookAfter }
     ensures reads { BookReads }
@@ -58,7 +58,7 @@ pub fn applying()
     ensures { RunMayApply }
 {}
 
-/// What lists of batches come to, on versions and on the plain book's list of books.
+/// What follows from lists of batches, on versions and on the plain book's list of books.
 pub fn batches()
     ensures books { BooksJoin }
     ensures commits { CommitsJoin }

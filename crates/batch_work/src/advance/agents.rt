@@ -21,7 +21,7 @@ pub(crate) fn asked_next(asked: Asked, agents: &[Agent]) -> Result<Next, AllocEr
     }
 }
 
-/// The one write of this agent's row, from the old one to the new one, where there are such. The error is want of memory.
+/// The one write of this agent's row, from the old one to the new one, where there are such. The error is out of memory.
 fn agent_put(
     alloc: Global,
     agent: &Agent,
@@ -37,7 +37,7 @@ fn agent_put(
     Ok(changes)
 }
 
-/// The agent is put in the place of the one that was read. The error is want of memory.
+/// The agent is put in the place of the one that was read. The error is out of memory.
 pub(crate) fn set_agent_next(
     alloc: Global,
     agent: &Agent,
@@ -53,7 +53,7 @@ pub(crate) fn set_agent_next(
     Ok(Next::Ends(OpReply::Agent(reply), changes))
 }
 
-/// The agent is removed. The error is want of memory.
+/// The agent is removed. The error is out of memory.
 pub(crate) fn drop_agent_next(alloc: Global, agents: &[Agent]) -> Result<Next, AllocError>
     ensures { IfOk result (λ next. next ≡ for_agent_next (first agents.now)
         (λ a. Next.Ends (OpReply.Agent a) (agent_gone a ∷ []))) }

@@ -31,7 +31,7 @@ pub(crate) fn held_next(
     Ok(Next::Goes(Phase::Own(asked, walk)))
 }
 
-/// After the read of the agent's own children. The error is want of memory, and gives the phase back as it was.
+/// After the read of the agent's own children. The error is out of memory, and gives the phase back as it was.
 pub(crate) fn own_next(
     alloc: Global,
     asked: Asked,
@@ -47,7 +47,7 @@ pub(crate) fn own_next(
     }
 }
 
-/// After the read of the children of an identity. The error is want of memory, and gives the phase back as it was.
+/// After the read of the children of an identity. The error is out of memory, and gives the phase back as it was.
 pub(crate) fn identity_next(
     alloc: Global,
     asked: Asked,
@@ -65,7 +65,7 @@ pub(crate) fn identity_next(
 }
 
 /// The children of the least identity that waits are read next, once the walk has taken in the entries of a read; where
-/// none waits it is over. The error is want of memory, and gives the walk back as it was.
+/// none waits it is over. The error is out of memory, and gives the walk back as it was.
 fn walk_next(alloc: Global, asked: Asked, walk: Walk, entries: Vec<Entry>) -> Result<Next, Walk>
     ensures next { IfOk result (λ next. next ≡ walk_next asked (walked entries.items walk)) }
     ensures back { IfErr result (λ back. back ≡ walk) }
@@ -84,7 +84,7 @@ fn walk_next(alloc: Global, asked: Asked, walk: Walk, entries: Vec<Entry>) -> Re
     }
 }
 
-/// The walk of `authorised` goes on, or ends with the entries found. The error is want of memory, and gives the walk back
+/// The walk of `authorised` goes on, or ends with the entries found. The error is out of memory, and gives the walk back
 /// as it was.
 fn entries_next(alloc: Global, walk: Walk, entries: Vec<Entry>) -> Result<Next, Walk>
     ensures next { IfOk result (λ next. next ≡ walk_next Asked.Entries (walked entries.items walk)) }
@@ -103,7 +103,7 @@ fn entries_next(alloc: Global, walk: Walk, entries: Vec<Entry>) -> Result<Next, 
     }
 }
 
-/// The walk of `trust` goes on. The error is want of memory, and gives the walk back as it was.
+/// The walk of `trust` goes on. The error is out of memory, and gives the walk back as it was.
 fn bundles_walk(alloc: Global, walk: Walk, entries: Vec<Entry>) -> Result<Next, Walk>
     requires goes_on { is_over (walked entries.items walk) ≡ false }
     ensures next { IfOk result (λ next. next ≡ walk_next Asked.Bundles (walked entries.items walk)) }
@@ -120,7 +120,7 @@ fn bundles_walk(alloc: Global, walk: Walk, entries: Vec<Entry>) -> Result<Next, 
 }
 
 /// The walk of `trust` is over with these entries: the bundle of the first domain that an entry found names is read next.
-/// The walk stays as it is, so that the step can be made again. The error is want of memory.
+/// The walk stays as it is, so that the step can be made again. The error is out of memory.
 fn bundles_end(alloc: Global, walk: &Walk, entries: Vec<Entry>) -> Result<Next, AllocError>
     requires over { is_over (walked entries.items walk.now) ≡ true }
     ensures { IfOk result (λ next. next ≡ walk_next Asked.Bundles (walked entries.items walk.now)) }
@@ -146,7 +146,7 @@ fn domain_at(
     }
 }
 
-/// The bundles that were found, and that of the read. The error is want of memory, and gives back those that were found.
+/// The bundles that were found, and that of the read. The error is out of memory, and gives back those that were found.
 fn with_read(
     found: Sequence<Bundle>,
     read: Vec<Bundle>,
@@ -181,7 +181,7 @@ fn trusted_next(
 }
 
 /// After the read of the bundle of a domain that authorised entries name: the one of the domain at the index is next. The
-/// error is want of memory, and gives the phase back as it was.
+/// error is out of memory, and gives the phase back as it was.
 pub(crate) fn trusted_turn(
     alloc: Global,
     domain: Shared<TrustDomain>,

@@ -26,7 +26,7 @@ fn next_sequence(bundles: &[Bundle]) -> u64
     }
 }
 
-/// The bundle is put in the place of the one that was read. The error is want of memory.
+/// The bundle is put in the place of the one that was read. The error is out of memory.
 pub(crate) fn set_bundle_next(
     alloc: Global,
     domain: &Shared<TrustDomain>,
@@ -61,7 +61,7 @@ pub(crate) fn drop_next(
     }
 }
 
-/// Each of these entries without the domain. The error is want of memory.
+/// Each of these entries without the domain. The error is out of memory.
 fn freed(alloc: Global, entries: &[Entry], domain: &TrustDomain) -> Result<Changes, AllocError>
     requires counts { (entry : EntryRow) → Within entries.now entry → entry.revision ≤ 2 ^ 63 }
     ensures { IfOk result (λ changes. changes ≡ map (freed domain.now) entries.now) }
@@ -74,7 +74,7 @@ fn freed(alloc: Global, entries: &[Entry], domain: &TrustDomain) -> Result<Chang
     Ok(changes)
 }
 
-/// The bundle is removed too. The error is want of memory.
+/// The bundle is removed too. The error is out of memory.
 fn and_bundle(changes: Changes, bundle: &Bundle) -> Result<Changes, AllocError>
     ensures { IfOk result (λ all. all ≡ changes ++ bundle_removed bundle.now ∷ []) }
 {
@@ -85,7 +85,7 @@ fn and_bundle(changes: Changes, bundle: &Bundle) -> Result<Changes, AllocError>
     Ok(changes)
 }
 
-/// The bundle is removed, and what becomes of its users follows the mode. The error is want of memory.
+/// The bundle is removed, and what becomes of its users follows the mode. The error is out of memory.
 pub(crate) fn users_next(
     alloc: Global,
     mode: DropMode,

@@ -47,7 +47,7 @@ pub(crate) fn update_next(
     }
 }
 
-/// The entry is removed, where it is at the revision that is expected. The error is want of memory.
+/// The entry is removed, where it is at the revision that is expected. The error is out of memory.
 pub(crate) fn delete_next(
     alloc: Global,
     expected: Option<u64>,
@@ -126,7 +126,7 @@ fn bundles_next(
     }
 }
 
-/// The entry is put in the place of the old one. The error is want of memory.
+/// The entry is put in the place of the old one. The error is out of memory.
 fn entry_put(alloc: Global, old: &Option<Entry>, entry: &Entry) -> Result<Changes, AllocError>
     ensures { IfOk result (λ changes. changes ≡ put old.now entry.now ∷ []) }
 {
@@ -137,7 +137,7 @@ fn entry_put(alloc: Global, old: &Option<Entry>, entry: &Entry) -> Result<Change
     Ok(changes)
 }
 
-/// The page of the entries that were read. The error is want of memory.
+/// The page of the entries that were read. The error is out of memory.
 pub(crate) fn page_next(
     alloc: Global,
     query: &PageQuery,
@@ -151,7 +151,7 @@ pub(crate) fn page_next(
     Ok(Next::Ends(reply, Changes::new(alloc)))
 }
 
-/// These entries are removed. The error is want of memory.
+/// These entries are removed. The error is out of memory.
 pub(crate) fn prune_next(alloc: Global, entries: &[Entry]) -> Result<Next, AllocError>
     ensures { IfOk result (λ next. next ≡ Next.Ends (OpReply.Pruned (map entry_key entries.now)) (map removed entries.now)) }
 {
@@ -159,7 +159,7 @@ pub(crate) fn prune_next(alloc: Global, entries: &[Entry]) -> Result<Next, Alloc
     Ok(Next::Ends(reply, removed(alloc, entries)?))
 }
 
-/// The ids of these entries. The error is want of memory.
+/// The ids of these entries. The error is out of memory.
 pub(crate) fn ids_of(alloc: Global, entries: &[Entry]) -> Result<Sequence<Uuid>, AllocError>
     ensures { IfOk result (λ ids. ids ≡ map entry_key entries.now) }
 {
@@ -170,7 +170,7 @@ pub(crate) fn ids_of(alloc: Global, entries: &[Entry]) -> Result<Sequence<Uuid>,
     Ok(Sequence::of(ids))
 }
 
-/// Each of these entries removed. The error is want of memory.
+/// Each of these entries removed. The error is out of memory.
 pub(crate) fn removed(alloc: Global, entries: &[Entry]) -> Result<Changes, AllocError>
     ensures { IfOk result (λ changes. changes ≡ map removed entries.now) }
 {

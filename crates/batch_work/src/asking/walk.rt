@@ -1,26 +1,24 @@
-//! How far has the walk to an agent's authorised entries come, over entries that a version lends?
+//! How far has the walk to an agent's authorised entries come, over entries that are borrowed from a version?
 
-ghost use Rattle.std.specs.Prelude.{◌≡◌, IfOk, OnOk, Some, not};
-ghost use Rattle.entry_book.specs.Order.{Ascending, with_row};
-ghost use Rattle.entry_book.specs.Rows.{entry_key};
-ghost use Rattle.batch_work.specs.Places.{IsPlace};
+ghost use Rattle.std.specs.Prelude.{◌≡◌, OnOk};
+ghost use Rattle.entry_book.specs.Order.{Ascending};
 ghost use Rattle.batch_work.specs.Reads.{is_one_of};
-ghost use Rattle.batch_work.specs.WalkStates.{met_when, with_text};
+ghost use Rattle.batch_work.specs.WalkStates.{met_when};
 
+use crate::sorted::put;
 use entry_book::{Agent, Entry, Shared};
 use spiffe_name::SpiffeId;
 use std::alloc::{AllocError, Global};
 use std::marker::Model;
-use uuid::Uuid;
 use version_book::Lent;
 
-/// There is room for so many entries and identities from the beginning on. Most agents have no more.
+/// The number of entries and identities for which there is room from the start. Most agents have no more.
 const FEW: usize = 16;
 
-/// An identity of an entry that is lent.
+/// An identity of a borrowed entry.
 type LentId<'a> = Lent<'a, Shared<SpiffeId>>;
 
-/// The walk of a question: as that of a work, but all of its rows are lent, so that it counts no owner of any.
+/// The walk of a read-only batch. It is as that of a work, but borrows all of its rows, and so changes no reference count.
 #[derive(Drop)]
 pub(crate) struct LentWalk<'a> {
     agent: &'a Agent,
@@ -56,7 +54,7 @@ impl<'a> LentWalk<'a> {
     ghost use Rattle.std.specs.Prelude.{◌≡◌, [], ◌∷◌, IfOk, IfNone, IfSome, OnOk};
     ghost use Rattle.batch_work.specs.WalkStates.{first_walk, walked, with_found};
 
-    /// The walk before its first entry. The error is want of memory.
+    /// The walk before its first entry. The error is out of memory.
     pub(crate) fn new(alloc: Global, agent: &'a Agent) -> Result<LentWalk<'a>, AllocError>
         ensures { IfOk result (λ walk. walk ≡ first_walk agent.now) }
     {
@@ -70,15 +68,16 @@ impl<'a> LentWalk<'a> {
         })
     }
 
-    /// Takes in an entry. The error is want of memory.
+    /// Takes in an entry. The error is out of memory.
     fn takes_in(&mut self, entry: Lent<'a, Entry>) -> Result<(), AllocError>
         ensures { OnOk result (self.new ≡ with_found entry.entry self.old) }
     {
         put_met(&mut self.met, &mut self.waiting, entry.get().identity())?;
-        put_entry(&mut self.found, entry)
+        put(&mut self.found, entry)?;
+        Ok(())
     }
 
-    /// Takes in the entries of a read, one after another. The error is want of memory.
+    /// Takes in the entries of a read, one after another. The error is out of memory.
     pub(crate) fn goes_on(&mut self, entries: Vec<Lent<'a, Entry>>) -> Result<(), AllocError>
         ensures { OnOk result (self.new ≡ walked entries.entry.items self.old) }
     {
@@ -109,43 +108,7 @@ impl<'a> LentWalk<'a> {
     }
 }
 
-/// Where the identity stands in the set, or where it would.
-fn identity_place<'a>(set: &[LentId<'a>], identity: &LentId<'a>) -> Result<usize, usize>
-    requires order { Ascending (λ id. id) set.now }
-    ensures { IsPlace (λ id. id) set.now identity.now result }
-{
-    set.binary_search(identity)
-}
-
-/// Where the entry of the id stands in the set, or where it would.
-fn entry_place(set: &[Lent<'_, Entry>], id: &Uuid) -> Result<usize, usize>
-    requires order { Ascending entry_key set.now }
-    ensures { IsPlace entry_key set.now id.now result }
-{
-    set.binary_search_by_key(id, |entry| *entry.get().id())
-}
-
-/// Puts the identity into the set, and answers whether it was missing there. The error is want of memory.
-fn put_identity<'a>(
-    set: &mut Vec<LentId<'a>>,
-    identity: &'a Shared<SpiffeId>,
-) -> Result<bool, AllocError>
-    requires order { Ascending (λ id. id) set.old.items }
-    ensures is_new { IfOk result (λ is_new. is_new ≡ not (is_one_of identity.now set.old.items)) }
-    ensures put { OnOk result (set.new.items ≡ with_text identity.now set.old.items) }
-    ensures order { Ascending (λ id. id) set.new.items }
-{
-    let identity = Lent::of(identity);
-    match identity_place(set.as_slice(), &identity) {
-        Ok(_) => Ok(false),
-        Err(index) => {
-            set.insert(index, identity)?;
-            Ok(true)
-        }
-    }
-}
-
-/// Puts the identity, where it wasn't met yet, among those met and those that wait. The error is want of memory.
+/// Puts the identity, where it wasn't met yet, among those met and those that wait. The error is out of memory.
 fn put_met<'a>(
     met: &mut Vec<LentId<'a>>,
     waiting: &mut Vec<LentId<'a>>,
@@ -157,21 +120,8 @@ fn put_met<'a>(
     ensures waiting { OnOk result (waiting.new.items ≡ met_when (is_one_of identity.now met.old.items) identity.now waiting.old.items) }
     ensures order { Ascending (λ id. id) met.new.items × Ascending (λ id. id) waiting.new.items }
 {
-    if put_identity(met, identity)? {
-        put_identity(waiting, identity)?;
-    }
-    Ok(())
-}
-
-/// Puts the entry into the set, in the place of the one of its id. The error is want of memory.
-fn put_entry<'a>(set: &mut Vec<Lent<'a, Entry>>, entry: Lent<'a, Entry>) -> Result<(), AllocError>
-    requires order { Ascending entry_key set.old.items }
-    ensures put { OnOk result (set.new.items ≡ with_row entry_key entry.entry.id (Some entry.entry) set.old.items) }
-    ensures order { Ascending entry_key set.new.items }
-{
-    match entry_place(set.as_slice(), entry.get().id()) {
-        Ok(index) => set[index] = entry,
-        Err(index) => set.insert(index, entry)?,
+    if put(met, Lent::of(identity))? {
+        put(waiting, Lent::of(identity))?;
     }
     Ok(())
 }

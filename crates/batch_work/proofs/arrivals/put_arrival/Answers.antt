@@ -6,6 +6,6 @@ use Rattle.batch_work.proofs.arrivals.put_arrival.Goals as goal
 
 pub returns-clause-met : goal.returns-clause-met
 returns-clause-met c =
-    c.put_identity.ensures.put
+    c.put_reserved.ensures.put
     ∙ (ap (λ i. with_text i c.args.met.now.items) (c.arrival.invariant.0 ∙ ap (λ (e : Entry). e.identity) c.arrival.view_is)
     ∙ put_missing c.args.arrival.identity c.args.met.now.items c.requires.met_order)
