@@ -35,7 +35,7 @@ module _ {X : Type 0} (key : X → Bytes) (p : X → Bool) where
   kept_none None h = refl
   kept_none (Some x) h = rw h refl
 
-  -- neither a row of the key nor the new row passes: the rows that pass stay as they are
+  -- if neither the rows with the key nor the new row pass, the rows that pass are unchanged
   pub unhit_rows : (k : Bytes) (new : Option X) (rows : List X) → Ascending key rows → ((x : X) → Within rows x → key x ≡ k → p x ≡ false) → passes p new ≡ false → filter p (with_row key k new rows) ≡ filter p rows
   unhit_rows k new rows a old h =
       filter-with_row key p k new rows
@@ -46,7 +46,7 @@ module _ {X : Type 0} (key : X → Bytes) (p : X → Bool) where
   not_old None x w h = absurd w
   not_old (Some y) x w h = ⊎_elim (λ e. ap p (sym e) ∙ h) (λ n. absurd n) w
 
-  -- a row of the key of a write that fits is its old row
+  -- a row with the key of a fitting write is its old row
   pub old_fails : (c : RowChange X) (rows : List X) → FitsRows key c rows → passes p c.old ≡ false → (x : X) → Within rows x → key x ≡ c.key → p x ≡ false
   old_fails c rows f h x w e = not_old c.old x (subst (λ l. Within l x) f.found (within_filter (λ x. bytes_eq (key x) c.key) rows x w (text_same (key x) c.key e))) h
 

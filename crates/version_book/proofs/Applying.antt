@@ -1,4 +1,4 @@
--- The writes of a run meet the conditions under which a version takes them.
+-- The writes of a run meet the conditions for applying them to a version.
 use Rattle.std.proofs.Common.{◌+◌, ◌*◌, sym, ap, subst, ◌∙◌, refl, IfOk}
 use Rattle.entry_book.proofs.Histories.{batch_keeps}
 use Rattle.entry_book.specs.Book.{Book}

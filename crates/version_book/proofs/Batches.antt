@@ -1,4 +1,4 @@
--- What follows from lists of batches, on versions and on the plain book's list of books?
+-- What do lists of batches result in, on versions and on the list of all books?
 use Rattle.std.proofs.Common.{◌≡◌, ℕ, ◌+◌, ◌<◌, List, [], ◌∷◌, ◌++◌, length, Some, ap, ◌∙◌, refl, arith, length-append}
 use Rattle.entry_book.proofs.Histories.{last-snoc}
 use Rattle.entry_book.specs.Book.{Book, empty_book}
@@ -11,17 +11,17 @@ use Rattle.version_book.proofs.Histories.{newest_read, verdict_last}
 
 -- ---- one batch on the list of books
 
--- the verdict of a batch that commits on a version, on a list of books for whose last one the version stands
+-- the verdict on a batch that commits on a version, for a list of books whose last one is the version's
 verdict_of : (batch : Batch) (s : State) (books : List Book) → IsLast s books → Commits batch s → verdict batch (place_of books) (book_for (past_place batch.ops) books) ≡ verdict batch s.number (Some (book_of s.rows))
 verdict_of batch s books l c = verdict_last batch s books l.book l.place (newest_read batch s c)
 
--- a list of books with one book more
+-- a list with one more book
 last_of_more : (s : State) (books later : List Book) (n : ℕ) → 0 < length books → place_of books ≡ n → later ≡ books ++ book_of s.rows ∷ [] → s.number ≡ n + 1 → IsLast s later × (0 < length later)
 last_of_more s books later n l p e q =
     let m : length later ≡ length books + 1 = ap length e ∙ length-append books (book_of s.rows ∷ []) in
     (record { book = ap last_book e ∙ last-snoc empty_book books (book_of s.rows); place = omega arith }, omega arith)
 
--- where a batch commits on a version, the version after it stands for the last book then
+-- if a batch commits on a version, the version after it has the last of the books after it
 pub stands_next : (batch : Batch) (s : State) (books : List Book) → 0 < length books → IsLast s books → Commits batch s → IsLast (state_with batch s) (books_after batch books) × (0 < length (books_after batch books))
 stands_next batch s books l k c = last_of_more (state_with batch s) books (books_after batch books) s.number l k.place (ap (books_with books) (verdict_of batch s books k c ∙ c.added)) refl
 

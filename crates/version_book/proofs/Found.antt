@@ -45,12 +45,12 @@ module _ {X : Type 0} where
 
 -- ---- no id twice
 
--- each entry has another id than all later ones
+-- each entry's id differs from those of all later ones
 abbrev pub Apart : List Entry → Type 0
 Apart [] = Unit {0}
 Apart (x ∷ xs) = AllByRecursion (λ y. x.id ≢ y.id) xs × Apart xs
 
--- whether the entry has this id, as a count
+-- 1 if the entry has this id, and otherwise 0
 abbrev hit : Bytes → Entry → ℕ
 hit id e = cond (bytes_eq e.id id) 1 0
 
@@ -79,7 +79,7 @@ once_each (e ∷ es) apart id =
           omega arith
     ] refl
 
--- ---- sorted entries, no id twice, are in ascending order
+-- ---- sorted entries without a repeated id are in ascending order
 
 ascending_from : (es : List Entry) → ((k : ℕ) (d : Entry) → suc k < length es → is_before (get_or es (suc k) d).id (get_or es k d).id ≡ false) → ((id : Bytes) → sum_by (hit id) es ≤ 1) → Ascending entry_key es
 ascending_from [] sorted once = tt

@@ -36,7 +36,7 @@ use Rattle.version_book.proofs.Numbers.{ascending_rows}
 
 -- ---- one batch
 
--- a batch that may run at this place, and whose token isn't kept, comes to what its run comes to
+-- if a batch may run at this place and its token isn't in use, its verdict is that of its run
 runs : (batch : Batch) (n : ℕ) (b : Book) → batch.after ≤ n → kept_under batch.token b ≡ None → verdict batch n (Some b) ≡ verdict_run batch n b
 runs batch n b l k =
     let q : nat_lt n batch.after ≡ false = grind (arith, nat_tests, l) in
@@ -45,7 +45,7 @@ runs batch n b l k =
 some_is : (b c : Book) → Some b ≡ Some c → b ≡ c
 some_is b c e = cc
 
--- where a batch adds a book, its token isn't kept, and its run adds it
+-- if a batch adds a book, its token isn't in use, and its run adds that book
 pub ran : (batch : Batch) (n : ℕ) (b c : Book) (replies : List OpReply) → verdict batch n (Some b) ≡ adds replies c → (kept_under batch.token b ≡ None) × (verdict_run batch n b ≡ adds replies c)
 ran batch n b c replies h = of_verdict (λ v. v ≡ adds replies c → (kept_under batch.token b ≡ None) × (verdict_run batch n b ≡ adds replies c)) batch n (λ r e. cc) (λ m rs e. cc) (Some b)
     (λ d e k v. let q = some_is b d e in (ap (kept_under batch.token) q ∙ k, ap (verdict_run batch n) q ∙ v))
@@ -70,7 +70,7 @@ batch_commits batch s t m q a k e l =
       same,
     )
 
--- what holds of the writes of each run holds of those of a batch that commits
+-- a property of the writes of each successful run is one of the writes of a batch that commits
 of_writes : (P : List RowWrite → Type 0) (query : Bool) (batch : Batch) (n : ℕ) (b c : Book) (replies : List OpReply) (r : RunResult) → verdict_when query batch n b r ≡ adds replies c → IfOk r (λ t. P (batch_writes batch (n + 1) t)) → P (writes_in batch (n + 1) r)
 of_writes P query batch n b c replies (Ok t) e h = h
 of_writes P query batch n b c replies (Err s) e h = cc
@@ -82,28 +82,28 @@ only_fit : (b : Book) (r : RunResult) → IfOk r (λ t. FitAll t.writes b × Asc
 only_fit b (Ok t) h = h.0
 only_fit b (Err s) h = tt
 
--- the writes of a run find the rows that they name, and so does that of a token that isn't kept
+-- the writes of a run find their old rows, and so does that of a token that isn't in use
 pub all_fit : (batch : Batch) (n : ℕ) (b : Book) → AscendingBook b → kept_under batch.token b ≡ None → IfOk (run batch.domain batch.ops b) (λ t. FitAll (batch_writes batch n t) b)
 all_fit batch n b a k = batch_fits batch n b k (only_fit b (run batch.domain batch.ops b) (run_fits batch.domain batch.ops b a))
 
--- the writes of a batch that commits find the rows that they name
+-- the writes of a batch that commits find their old rows
 pub writes_fit : (batch : Batch) (s : State) → AscendingBook (book_of s.rows) → Commits batch s → FitAll (writes_at batch s) (book_of s.rows)
 writes_fit batch s a c = of_batch (λ ws. FitAll ws (book_of s.rows)) batch s c (all_fit batch (s.number + 1) (book_of s.rows) a (ran_on batch s c).0)
 
 pub ascending_next : (batch : Batch) (s : State) → AscendingBook (book_of s.rows) → Commits batch s → AscendingBook (book_of (state_with batch s).rows)
 ascending_next batch s a c = subst AscendingBook (sym (book_after (s.number + 1) (writes_at batch s) s.rows)) (in_order (writes_at batch s) (book_of s.rows) a (writes_fit batch s a c))
 
--- a run that adds a book is one of changes
+-- a batch that adds a book isn't read-only
 of_changes : (query : Bool) (batch : Batch) (n : ℕ) (b c : Book) (replies : List OpReply) (r : RunResult) → verdict_when query batch n b r ≡ adds replies c → query ≡ false
 of_changes query batch n b c replies (Err s) e = cc
 of_changes true batch n b c replies (Ok t) e = cc
 of_changes false batch n b c replies (Ok t) e = refl
 
--- so a batch that commits asks for no earlier book
+-- so a batch that commits doesn't read an earlier book
 pub newest_read : (batch : Batch) (s : State) → Commits batch s → past_place batch.ops ≡ None
 newest_read batch s c = changes_newest s.domain batch c.made (of_changes (is_query batch.ops) batch s.number (book_of s.rows) (book_of (state_with batch s).rows) c.replies (run batch.domain batch.ops (book_of s.rows)) (ran_on batch s c).1)
 
--- what a batch comes to that asks for no earlier book, on a list of books for whose last one a version stands
+-- the verdict on a batch that doesn't read an earlier book, for a list of books whose last one is the version's
 pub verdict_last : (batch : Batch) (s : State) (books : List Book) → last_book books ≡ book_of s.rows → place_of books ≡ s.number → past_place batch.ops ≡ None → verdict batch (place_of books) (book_for (past_place batch.ops) books) ≡ verdict batch s.number (Some (book_of s.rows))
 verdict_last batch s books b p e =
     ap (λ o. verdict batch (place_of books) (book_for o books)) e
@@ -116,7 +116,7 @@ pub follows_on : FollowsJoined
 follows_on [] second s t u f g = subst (λ x. Follows x second u) (sym f) g
 follows_on (batch ∷ first) second s t u f g = (f.0, follows_on first second (state_with batch s) t u f.1 g)
 
--- a batch that adds a book, on a list of books
+-- the effect on a list of books of a batch that adds a book
 added_to : (books : List Book) (v : Verdict) (replies : List OpReply) (b : Book) → v ≡ adds replies b → (is_committed (reply_with (place_of books) v).outcome ≡ true) × (books_with books v ≡ books ++ b ∷ [])
 added_to books v replies b e = (ap (λ v. is_committed (reply_with (place_of books) v).outcome) e, ap (books_with books) e)
 
@@ -133,7 +133,7 @@ books_follow (batch ∷ batches) older newer books l b p f =
     let k = r.3 in
     ((a.0, r.0), r.1, r.2, omega arith)
 
--- ---- writes that don't hit leave the rows with their numbers
+-- ---- writes that don't hit leave the rows and their numbers unchanged
 
 within_rows : {X : Type 0} (rows : List (CommittedRow X)) (r : CommittedRow X) → Within rows r → Within (map row_of rows) r.row
 within_rows [] r w = absurd w
@@ -167,13 +167,13 @@ unhit_history m (batch ∷ batches) older newer a f h =
     unhit_writes m (older.number + 1) (writes_at batch older) older.rows a (writes_fit batch older a f.0) r.0
     ∙ unhit_history m batches (state_with batch older) newer (ascending_next batch older a f.0) f.1 r.1
 
--- ---- what stays along a history
+-- ---- what is unchanged along a history
 
 pub domain_stays : DomainStays
 domain_stays [] older newer f = (ap (λ s. s.domain) (sym f), tt)
 domain_stays (batch ∷ batches) older newer f = let r = domain_stays batches (state_with batch older) newer f.1 in (r.0, (f.0.made, r.1))
 
--- a book that is added has passed no limit
+-- a book that was added passes no limit
 added_within : (limit : Option Limit) (replies others : List OpReply) (b c : Book) → adds_within limit replies b ≡ adds others c → (limit ≡ None) × (b ≡ c)
 added_within None replies others b c e = (refl, cc)
 added_within (Some l) replies others b c e = cc

@@ -1,4 +1,4 @@
--- Is there room in the indexes for one entry more?
+-- Is there room in the indexes for one more entry?
 use Rattle.std.proofs.Common.{◌≡◌, ◌+◌, ◌≤◌, List, length, map, sym, ap, subst, ◌∙◌, arith}
 use Rattle.version_shelf.specs.Shelf.{IsInOrder, most_rows}
 use Rattle.entry_book.specs.Rows.{Entry}

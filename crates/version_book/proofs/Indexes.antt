@@ -1,4 +1,4 @@
--- An index after a row is put, and after a row is taken away.
+-- An index after a row is put, and after a row is removed.
 use Rattle.std.proofs.Common.{◌≡◌, ◌≢◌, ◌⊎◌, List, [], ◌∷◌, ◌++◌, Some, None, refl, sym, ap, subst, inl, inr, ⊎_elim}
 use Rattle.std.specs.declared.cmp.Ordering.{Ordering}
 use Rattle.std.specs.declared.cmp.Ordering.TheVariants.{Less, Equal, Greater}
@@ -30,7 +30,7 @@ by_order Equal below same above = same refl
 by_order Greater below same above = above refl
 
 module _ {K V : Type 0} (cmp : K → K → Ordering) (key : K) where
-  -- the rows with another key stay
+  -- a row with another key remains
   within_below : (rows : List (K × V)) (k : K) (v : V) → Within rows (k, v) → cmp k key ≡ Less → Within (rows_below cmp rows key) (k, v)
   within_below rows k v w e = within_filter (λ row. is_lt (cmp row.0 key)) rows (k, v) w (ap is_lt e)
 
@@ -44,7 +44,7 @@ module _ {K V : Type 0} (cmp : K → K → Ordering) (key : K) where
   above_apart rows k v w = let r = from_within_filter (λ row. is_gt (cmp row.0 key)) rows (k, v) w in (r.0, λ e. let f = ap is_gt e in cc (r.1, f))
 
 module _ {K V : Type 0} (cmp : K → K → Ordering) (tells : TellsKeys cmp) where
-  -- one key more
+  -- with one more key
   pub puts_one : (done : List K) (key : K) (value : V) (old new : List (K × V)) → Puts done value old new → Puts (done ++ key ∷ []) value old (with_key cmp new key value)
   puts_one done key value old new p =
       let here : Within (with_key cmp new key value) (key, value) = within_right (rows_below cmp new key) ((key, value) ∷ rows_above cmp new key) (key, value) (inl refl) in
@@ -65,7 +65,7 @@ module _ {K V : Type 0} (cmp : K → K → Ordering) (tells : TellsKeys cmp) whe
             (λ e. ⊎_elim (λ d. within_right (rows_below cmp new key) ((key, value) ∷ rows_above cmp new key) (k, value) (inr (within_above cmp key new k value (p.put k d) e))) (λ s. ⊎_elim (λ q. subst (λ x. Within (with_key cmp new key value) (x, value)) q here) (λ n. absurd n) s) (from_within_append done (key ∷ []) k w));
       }
 
-  -- one key less
+  -- without one more key
   pub takes_one : ((k : K) → cmp k k ≡ Equal) → (done : List K) (key : K) (old new : List (K × V)) → Takes done old new → Takes (done ++ key ∷ []) old (without_key cmp new key)
   takes_one itself done key old new p =
       let apart : (k : K) (v : V) → Within (without_key cmp new key) (k, v) → Within new (k, v) × (cmp k key ≢ Equal) = λ k v w. ⊎_elim (below_apart cmp key new k v) (above_apart cmp key new k v) (from_within_append (rows_below cmp new key) (rows_above cmp new key) (k, v) w) in

@@ -1,4 +1,4 @@
--- What rows are left after one is taken away, and what are they after another is put?
+-- Which rows remain after one is removed, and which are there after another is put?
 use Rattle.std.proofs.Common.{◌≡◌, ◌+◌, ◌≤◌, true, false, List, [], ◌∷◌, ◌++◌, length, map, Some, None, refl, sym, ap, subst, ◌∙◌, inl, ⊎_elim, arith, length-append}
 use Rattle.std.specs.Prelude.{filter, option_to_list, bytes_eq}
 use Rattle.std.specs.Ordering.{nat_cmp}
@@ -17,7 +17,7 @@ use Rattle.version_book.specs.Stores.{IsAbsent, IsKeyed}
 use Rattle.version_book.proofs.NamedRows.{map-with_row}
 use Rattle.version_book.proofs.Shelves.{filter-twice, filter-apart, row_at}
 
--- ---- a row taken away
+-- ---- a removed row
 
 module _ {X : Type 0} (key : X → Bytes) (k : Bytes) where
   below_not_above : (x : X) → is_before (key x) k ≡ true → is_before k (key x) ≡ false
@@ -52,7 +52,7 @@ module _ {X : Type 0} (key : X → Bytes) (k : Bytes) where
       filter-append (λ x. is_before k (key x)) (filter (λ x. is_before (key x) k) rows) (filter (λ x. is_before k (key x)) rows)
       ∙ (λ i. apart i ++ twice i)
 
-  -- a row that is put where its key was taken away
+  -- putting a row where its key was removed
   pub with_after_none : (n : X) (rows : List X) → with_row key k (Some n) (with_row key k None rows) ≡ with_row key k (Some n) rows
   unfolding with_row
   with_after_none n rows =
@@ -60,7 +60,7 @@ module _ {X : Type 0} (key : X → Bytes) (k : Bytes) where
       let above = above_left rows in
       λ i. below i ++ n ∷ above i
 
-  -- it is one more
+  -- it adds one row
   pub length-with_row : (n : X) (rows : List X) → length (with_row key k (Some n) rows) ≡ length (with_row key k None rows) + 1
   unfolding with_row
   length-with_row n rows =
@@ -106,7 +106,7 @@ module _ (k : Bytes) (rows : List (CommittedRow Entry)) where
   absent_after = All-from_within (λ r. r.row.id ≡ k → ⊥) (with_row (of_row entry_key) k None rows)
       (λ r w. ⊎_elim (λ n. absurd n) (λ o. o.1) (from_with_row (of_row entry_key) k None rows r w))
 
--- the row of a key, and what is left where there is none
+-- the row of a key, and the rows without it if there is none
 module _ (k : Bytes) (shelf : List (Bytes × CommittedRow Entry)) (sorted : IsInOrder (slice_cmp nat_cmp) shelf) (keyed : IsKeyed entry_key shelf) where
   pub row_within : (r : CommittedRow Entry) → get (slice_cmp nat_cmp) shelf k ≡ Some r → Within (values_of shelf) r × (r.row.id ≡ k)
   row_within r e =

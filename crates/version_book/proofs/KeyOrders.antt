@@ -1,4 +1,4 @@
--- How do keys compare, and whose keys are they? Keys that compare as equal are equal, and a key is of one entry's id.
+-- How do keys compare, and which entries have a key? Keys that compare as equal are equal, and a key belongs to one entry's id.
 use Rattle.std.proofs.Common.{◌≡◌, Bool, true, false, List, [], ◌∷◌, map, refl, sym, ap, ◌∙◌, inl, inr, ⊎_elim}
 use Rattle.std.specs.Prelude.{if◌then◌else◌}
 use Rattle.std.specs.declared.cmp.Ordering.{Ordering}
@@ -18,7 +18,7 @@ use Rattle.version_book.specs.declared.key.KeyPart.{KeyPart}
 use Rattle.version_book.specs.declared.key.KeyPart.TheVariants.{Start, At, End}
 use Rattle.version_book.specs.Index.{GroupKey, UserKey, ExpiryKey, group_keys, user_keys, expiry_keys, TellsKeys, KeysTell}
 
--- ---- orders that tell their keys
+-- ---- keys that compare as equal are equal
 
 equal_from : (o : Ordering) → is_eq o ≡ true → o ≡ Equal
 equal_from Less h = cc
@@ -31,7 +31,7 @@ tells_bytes k l h = slice_cmp-IsAntisymmetric nat_cmp-IsAntisymmetric k l (equal
 pub tells_numbers : TellsKeys nat_cmp
 tells_numbers k l h = nat_cmp-IsAntisymmetric k l (equal_from _ h)
 
--- what the derived order of edges answers
+-- the results of the derived order of key parts
 pub record IsEdgeOrder {T : Type 0} (at : T → T → Ordering) (cmp : KeyPart T → KeyPart T → Ordering) : Type 0 where
   pub start_start : cmp Start Start ≡ Equal
   pub start_at : (y : T) → cmp Start (At y) ≡ Less
@@ -86,7 +86,7 @@ tells_triples a b c first second third k l h =
 abbrev pub bytes_cmp : Bytes → Bytes → Ordering
 bytes_cmp x y = slice_cmp nat_cmp x y
 
--- the order that the derive gives to edges of a type
+-- the derived order of the key parts of a type
 abbrev pub edges_cmp : (T : RattleType) → (T.Denot → T.Denot → Ordering) → KeyPart T.Denot → KeyPart T.Denot → Ordering
 edges_cmp T cmp x y = by Less Greater (edge.enum T).parts (λ _ _. Equal, (λ a b. cmp a.0 b.0, (λ _ _. Equal, tt {0}))) (edge.as_values T x) (edge.as_values T y)
 
@@ -131,7 +131,7 @@ same_at x y e = cc
 pub groups_tell : KeysTell group_keys
 groups_tell e f k w v = ⊎_elim (λ p. ⊎_elim (λ q. same_at e.id f.id (ap (λ k. k.2) (p ∙ sym q))) (λ n. absurd n) v) (λ n. absurd n) w
 
--- the keys of an entry under its domains
+-- the keys of an entry with its trust domains
 pub from_users : (id : Bytes) (domains : List Bytes) (k : UserKey) → Within (map (λ d. (d, At id)) domains) k → Within domains k.0 × (k.1 ≡ At id)
 from_users id [] k w = absurd w
 from_users id (d ∷ ds) k w = ⊎_elim (λ e. (inl (ap (λ k. k.0) e), sym (ap (λ k. k.1) e))) (λ v. let r = from_users id ds k v in (inr r.0, r.1)) w
@@ -143,7 +143,7 @@ within_users id (c ∷ cs) d w = ⊎_elim (λ e. inl (ap (λ (d : Bytes). (d, At
 pub users_tell : KeysTell user_keys
 users_tell e f k w v = same_at e.id f.id (sym (from_users e.id e.domains k w).1 ∙ (from_users f.id f.domains k v).1)
 
--- the key of an entry under its expiry
+-- the key of an entry with its expiry
 pub from_expiry : (b : Bool) (one k : ExpiryKey) → Within (if b then one ∷ [] else []) k → (b ≡ true) × (one ≡ k)
 from_expiry true one k w = ⊎_elim (λ e. (refl, e)) (λ n. absurd n) w
 from_expiry false one k w = absurd w

@@ -1,4 +1,4 @@
--- Which entries does a page list that begins at a key of the shelf?
+-- Which entries does a page list that starts at a key of the shelf?
 use Rattle.std.proofs.Common.{◌≡◌, Bool, true, false, cond, ◌&&◌, List, [], ◌∷◌, map, Option, Some, Result, Ok, Err, IfOk, refl, sym, ap, ◌∙◌}
 use Rattle.std.specs.Prelude.{filter}
 use Rattle.std.specs.declared.cmp.Ordering.{Ordering}
@@ -16,7 +16,7 @@ use Rattle.version_book.specs.CommittedRows.{row_of}
 use Rattle.version_book.specs.Stores.{IsKeyed}
 use Rattle.version_book.proofs.Shelves.{gt_is_before}
 
--- the page would list it, had it room for all
+-- the page would list the entry if its size were unlimited
 abbrev pub lists : Filter → Option Bytes → Entry → Bool
 lists f from e = passes f e && comes_after from e
 
@@ -32,7 +32,7 @@ neither false b e = refl
 left_out : (f : Filter) (k : Bytes) (r : Bytes × CommittedRow Entry) → r.0 ≡ r.1.row.id → is_ge (slice_cmp nat_cmp r.0 k) ≡ false → lists f (Some k) r.1.row ≡ false
 left_out f k r own below = neither (passes f r.1.row) (is_before k r.1.row.id) (ap (is_before k) (sym own) ∙ (sym (gt_is_before r.0 k) ∙ not_above (slice_cmp nat_cmp r.0 k) below))
 
--- of the rows before the key it would list none
+-- it would list none of the rows before the key
 pub listed_from : (f : Filter) (k : Bytes) (s : List (Bytes × CommittedRow Entry)) → IsKeyed entry_key s → filter (lists f (Some k)) (map row_of (values_of (rows_from (slice_cmp nat_cmp) s k))) ≡ filter (lists f (Some k)) (map row_of (values_of s))
 listed_from f k [] h = refl
 listed_from f k (r ∷ rs) h =
@@ -43,7 +43,7 @@ listed_from f k (r ∷ rs) h =
       | false ↦ λ q. listed_from f k rs h.1 ∙ sym (ap (λ b. cond b (r.1.row ∷ rest) rest) (left_out f k r h.0 q))
     ] refl
 
--- of a value of which two facts hold, where there is one
+-- combines two facts about a value, if there is one
 pub if_both : {X E : Type 0} (r : Result X E) (P Q R : X → Type 0) → ((x : X) → P x → Q x → R x) → IfOk r P → IfOk r Q → IfOk r R
 if_both (Ok x) P Q R f p q = f x p q
 if_both (Err e) P Q R f p q = tt

@@ -1,4 +1,4 @@
--- The items of a list that a function makes of another.
+-- The items of a mapped list.
 use Rattle.std.proofs.Common.{◌≡◌, List, [], ◌∷◌, map, refl, ap, inl, inr, ⊎_elim}
 use Rattle.entry_book.specs.Order.{Within}
 

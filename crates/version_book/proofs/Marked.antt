@@ -1,4 +1,4 @@
--- Which entries does a mark name that has no range?
+-- Which entries does a mark without a range name?
 use Rattle.std.proofs.Common.{◌≡◌, Bool, true, false, List, [], ◌∷◌, Option, refl, sym, ap, ◌∙◌}
 use Rattle.std.specs.Prelude.{filter, bytes_eq, option_to_list}
 use Rattle.std.specs.Ordering.{nat_cmp}
@@ -17,14 +17,14 @@ use Rattle.version_book.specs.CommittedRows.{of_row}
 use Rattle.version_book.specs.Stores.{IsKeyed}
 use Rattle.version_book.proofs.Shelves.{row_at}
 
--- the mark of an id names the row of this id
+-- the mark of an id names the row with this id
 pub marked_row : (m : MarkKind) (id : Bytes) → m ≡ mark.Entry id → (shelf : List (Bytes × CommittedRow Entry)) → IsInOrder (slice_cmp nat_cmp) shelf → IsKeyed entry_key shelf → (rows : List (CommittedRow Entry)) → values_of shelf ≡ rows → (row : Option (CommittedRow Entry)) → row ≡ get (slice_cmp nat_cmp) shelf id → filter (of_row (names_entry m)) rows ≡ option_to_list row
 marked_row m id named shelf sorted keyed rows view row is =
     ap (λ n. filter (of_row (names_entry n)) rows) named
     ∙ (ap (filter (λ r. bytes_eq r.row.id id)) (sym view)
     ∙ (row_at entry_key id shelf sorted keyed ∙ ap option_to_list (sym is)))
 
--- and no other
+-- it names no row with another id
 pub alone : (m : MarkKind) (id : Bytes) → m ≡ mark.Entry id → (r s : CommittedRow Entry) → names_entry m r.row ≡ true → names_entry m s.row ≡ true → r.row.id ≡ s.row.id
 alone m id named r s v w = text_is r.row.id id (ap (λ n. names_entry n r.row) (sym named) ∙ v) ∙ sym (text_is s.row.id id (ap (λ n. names_entry n s.row) (sym named) ∙ w))
 

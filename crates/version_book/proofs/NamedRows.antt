@@ -1,4 +1,4 @@
--- What does each mark read of a book, and how do the rows of a version stand for its book?
+-- What does each mark read from a book, and how do the rows of a version represent its book?
 use Rattle.std.proofs.Common.{◌≡◌, ℕ, Bool, true, false, cond, List, [], ◌∷◌, ◌++◌, Option, Some, None, ap, ◌∙◌, refl, option_map}
 use Rattle.std.specs.Prelude.{map, filter, option_to_list, bytes_eq}
 use Rattle.std.proofs.lemmas.List.{map-append}
@@ -33,7 +33,7 @@ book es us ds ks = record { entries = es; agents = us; bundles = ds; tokens = ks
 same_books : {es fs : List Entry} {us vs : List Agent} {ds cs : List Bundle} {ks ls : List KeptBatch} → es ≡ fs → us ≡ vs → ds ≡ cs → ks ≡ ls → book es us ds ks ≡ book fs vs cs ls
 same_books p q r s = λ i. book (p i) (q i) (r i) (s i)
 
--- a mark that names entries alone
+-- a mark that names only entries
 of_entries : (es fs : List Entry) (b : Book) → es ≡ fs → book es (filter (λ a. false) b.agents) (filter (λ d. false) b.bundles) (filter (λ k. false) b.tokens) ≡ entries_alone fs
 of_entries es fs b e = same_books e (none b.agents) (none b.bundles) (none b.tokens)
 
@@ -70,7 +70,7 @@ pub filter-map : {X Y : Type 0} (f : X → Y) (p : Y → Bool) (xs : List X) →
 filter-map f p [] = refl
 filter-map f p (x ∷ xs) = elim (p (f x)) as (λ t. cond t (f x ∷ filter p (map f xs)) (filter p (map f xs)) ≡ map f (cond t (x ∷ filter (λ x. p (f x)) xs) (filter (λ x. p (f x)) xs))) [ true ↦ ap (λ l. f x ∷ l) (filter-map f p xs) | false ↦ filter-map f p xs ]
 
--- a write of a row with its number is a write of the row
+-- writing a row with its number writes the row
 pub map-with_row : {X Y : Type 0} (f : X → Y) (key : Y → Bytes) (k : Bytes) (n : Option X) (rows : List X) → map f (with_row (λ x. key (f x)) k n rows) ≡ with_row key k (option_map f n) (map f rows)
 unfolding with_row
 map-with_row f key k n rows = rw (map-append, map-append, filter-map f (λ y. is_before (key y) k) rows, filter-map f (λ y. is_before k (key y)) rows) (one n)

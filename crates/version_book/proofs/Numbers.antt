@@ -1,4 +1,4 @@
--- What do the numbers of a version's rows tell?
+-- What do the numbers of a version's rows imply?
 use Rattle.std.proofs.Common.{◌≡◌, ℕ, ◌+◌, ◌<◌, ◌≤◌, true, List, [], ◌∷◌, Option, Some, None, sym, ap, subst, ⊎_elim, arith, option_map}
 use Rattle.std.specs.Prelude.{map, option_to_list}
 use Rattle.std.specs.List.{AllByRecursion}
@@ -15,12 +15,12 @@ use Rattle.version_book.specs.CommittedRows.{CommittedRows, State, AllUpTo, row_
 use Rattle.version_book.specs.History.{Follows, state_with, writes_at}
 use Rattle.version_book.specs.Stores.{NumbersTell, TellRows}
 
--- rows of the newer ones whose numbers aren't above n are of the older ones
+-- newer rows whose numbers aren't above n are also among the older rows
 abbrev WereThere : {X : Type 0} → ℕ → List (CommittedRow X) → List (CommittedRow X) → Type 0
 WereThere n older newer = (r : _) → Within newer r → r.commit ≤ n → Within older r
 
 module _ {X : Type 0} (key : X → Bytes) where
-  -- rows with numbers are in order where the rows are
+  -- a property of all rows is one of all rows with numbers
   all_rows : (P : X → Type 0) (rows : List (CommittedRow X)) → AllByRecursion P (map row_of rows) → AllByRecursion (λ r. P r.row) rows
   all_rows P [] h = tt
   all_rows P (r ∷ rs) h = (h.0, all_rows P rs h.1)
@@ -29,7 +29,7 @@ module _ {X : Type 0} (key : X → Bytes) where
   ascending_rows [] a = tt
   ascending_rows (r ∷ rs) a = (all_rows (λ y. is_before (key r.row) (key y) ≡ true) rs a.0, ascending_rows rs a.1)
 
-  -- what a write puts has its number
+  -- a row that a write puts has the write's number
   number_of_new : (n : ℕ) (new : Option X) (r : CommittedRow X) → Within (option_to_list (option_map (numbered n) new)) r → r.commit ≡ n
   number_of_new n None r w = absurd w
   number_of_new n (Some x) r w = ⊎_elim (λ e. ap (λ r. r.commit) (sym e)) (λ v. absurd v) w

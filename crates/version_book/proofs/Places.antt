@@ -1,4 +1,4 @@
--- The place of what a batch keeps under its token is put into its writes alone, and no mark looks at it.
+-- Setting the place of a stored batch changes only the batch's writes of it, and no mark depends on it.
 use Rattle.std.proofs.Common.{◌≡◌, ℕ, List, [], ◌∷◌, ◌++◌, Option, Some, None, Ok, Err, refl, sym, ap, ◌∙◌, IfOk}
 use Rattle.std.specs.Prelude.{◌||◌, filter, map, option_map}
 use Rattle.entry_book.specs.declared.kept.KeptBatch.{KeptBatch}
@@ -20,7 +20,7 @@ use Rattle.version_book.specs.Marks.{hits, names_token, passes}
 use Rattle.version_book.specs.Laws.{HitsAtAnyPlace, PlacesPut}
 use Rattle.version_book.specs.Written.{at_place, placed, placed_write}
 
--- ---- no mark looks at a place
+-- ---- no mark depends on a place
 
 passes_at_place : (m : MarkKind) (n : ℕ) (new : Option KeptBatch) → passes (names_token m) (option_map (at_place n) new) ≡ passes (names_token m) new
 passes_at_place m n None = refl
@@ -34,7 +34,7 @@ pub hits_at_any_place : HitsAtAnyPlace
 hits_at_any_place n [] m = refl
 hits_at_any_place n (w ∷ ws) m = let here = write_hits n w m in let rest = hits_at_any_place n ws m in λ i. here i || rest i
 
--- ---- operations write no row of a token
+-- ---- operations don't write a token's row
 
 abbrev pub Unplaced : List RowWrite → Type 0
 Unplaced ws = (n : ℕ) → placed n ws ≡ ws

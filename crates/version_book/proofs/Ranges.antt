@@ -1,4 +1,4 @@
--- The ranges of keys from one bound to the other have just the entries that a mark names.
+-- The ranges of keys between two bounds contain exactly the entries that a mark names.
 use Rattle.std.proofs.Common.{◌≡◌, ℕ, Bool, true, false, cond, ◌&&◌, List, [], ◌∷◌, refl, sym, ap, subst, ◌∙◌, inl, ⊎_elim, arith}
 use Rattle.std.specs.Prelude.{nat_lt, ◌==◌, bytes_eq}
 use Rattle.std.specs.declared.cmp.Ordering.{Ordering}
@@ -18,7 +18,7 @@ use Rattle.version_book.specs.Index.{GroupKey, UserKey, ExpiryKey, group_keys, u
 use Rattle.version_book.specs.Marks.{names_entry}
 use Rattle.version_book.proofs.KeyOrders.{bytes_cmp, group_cmp, user_cmp, expiry_cmp, from_users, within_users, from_expiry}
 
--- ---- what is between a start and an end
+-- ---- keys between a start and an end
 
 both_true : (a b : Bool) → (a && b) ≡ true → (a ≡ true) × (b ≡ true)
 both_true true b h = (refl, h)
@@ -80,7 +80,7 @@ covers_users domain =
           λ i. (same i, ids i);
     }
 
--- ---- an entry with a key where it expires
+-- ---- an entry with a key for its expiry
 
 from_zero : (x : ℕ) → is_ge (ordering_then (nat_cmp x 0) Greater) ≡ true
 from_zero x = by_ranked _ _ _ (nat_cmp x 0) (ranked x 0 (nat_cmp x 0) refl) (λ e less. absurd (omega arith)) (λ e same. rw e refl) (λ e above. rw e refl)
@@ -103,7 +103,7 @@ covers_expiries moment =
 -- ---- the ranges of marks
 
 module _ {K : Type 0} (cmp : K → K → Ordering) (keys : Entry → List K) (p : Entry → Bool) where
-  -- between the same bounds
+  -- with equal bounds
   at_bounds : (lo hi low high : K) → lo ≡ low → hi ≡ high → Covers cmp keys lo hi p → Covers cmp keys low high p
   at_bounds lo hi low high l h c = subst (λ k. Covers cmp keys k high p) l (subst (λ k. Covers cmp keys lo k p) h c)
 

@@ -36,7 +36,7 @@ use Rattle.version_book.specs.Room.{RoomFor, RoomAll, count_of_names}
 
 -- ---- how many rows there are after a write
 
--- one more, where a row is put and there was none
+-- 1 if a row is put where there was none, and otherwise 0
 abbrev grows : {X : Type 0} → Option X → Option X → ℕ
 grows (Some x) new = 0
 grows None None = 0
@@ -48,7 +48,7 @@ grows_by_one None None = omega arith
 grows_by_one None (Some x) = omega arith
 
 module _ {X : Type 0} (key : X → Bytes) where
-  -- how many rows have another key, by the order of keys
+  -- the number of rows with another key, by the order of keys
   others : Bytes → List X → ℕ
   others k rows = length (filter (λ x. is_before (key x) k) rows) + length (filter (λ x. is_before k (key x)) rows)
 
@@ -77,7 +77,7 @@ module _ {X : Type 0} (key : X → Bytes) where
   unfolding others
   others_same x xs = let h = not_before (key x) in rw h refl
 
-  -- the row of the key isn't one of the others
+  -- a row with the key isn't one of the others
   others_lt : (k : Bytes) (rows : List X) (x : X) → Within rows x → key x ≡ k → suc (others k rows) ≤ length rows
   others_lt k [] x w e = absurd w
   others_lt k (y ∷ ys) x w e = ⊎_elim
@@ -123,14 +123,14 @@ growth_of (w ∷ ws) = growth w + growth_of ws
 abbrev HasFewNames : Entry → Type 0
 HasFewNames e = length e.domains ≤ 8
 
--- an entry that is put has few names
+-- an entry that is put names at most 8 domains
 abbrev PutsFewNames : RowWrite → Type 0
 PutsFewNames (wrote_entry c) = IfSome c.new HasFewNames
 PutsFewNames (wrote_agent c) = ⊤
 PutsFewNames (wrote_bundle c) = ⊤
 PutsFewNames (wrote_token c) = ⊤
 
--- A book that has at most n rows more than the limits allow, in each set.
+-- A book with at most n rows above the limit in each set, whose entries name at most 8 domains each.
 record IsSmall (n : ℕ) (b : Book) : Type 0 where
   entries : length b.entries ≤ 16384 + n
   agents : length b.agents ≤ 4096 + n
@@ -189,7 +189,7 @@ small_all n (w ∷ ws) b f p s =
     let q : n + growth w + growth_of ws ≡ n + growth_of (w ∷ ws) = omega arith in
     subst (λ m. IsSmall m (after ws (after_write w b))) q (small_all (n + growth w) ws (after_write w b) f.1 p.1 (small_after n w b f.0 p.0 s))
 
--- ---- what is kept under a token is one row more, or in the place of one
+-- ---- storing a batch under its token adds a row or replaces one
 
 room_for_token : (token : Option Bytes) (ops : List Op) (n : ℕ) (replies : List OpReply) (b : Book) → length b.tokens ≤ 65600 → RoomAll (token_writes token ops n replies) b
 room_for_token None ops n replies b l = tt
@@ -203,9 +203,9 @@ room_append : (xs ys : List RowWrite) (b : Book) → RoomAll xs b → RoomAll ys
 room_append [] ys b h k = k
 room_append (x ∷ xs) ys b h k = (h.0, room_append xs ys (after_write x b) h.1 k)
 
--- ---- the names of an entry without fault
+-- ---- the domains of an entry without a fault
 
--- of the table of its faults, with the answers to its tests
+-- from the table of faults: without a fault, the fifth test is false
 fifth : (a b c d t : Bool) (later : Option OpFault) → cond a (Some ForeignId) (cond b (Some EmptyPath) (cond c (Some ServerIdentity) (cond d (Some Selectors) (cond t (Some TooManyDomains) later)))) ≡ None → t ≡ false
 fifth true b c d t later h = cc
 fifth false true c d t later h = cc
@@ -350,7 +350,7 @@ run_modest own m (op ∷ ops) b p f l =
 of_run : (P : RunEffect → Type 0) (r : RunResult) (t : RunEffect) → r ≡ Ok t → IfOk r P → P t
 of_run P r t e h = let k : IfOk {E = RefusedOp} (Ok t) P = subst (λ r. IfOk r P) e h in k
 
--- whichever replies are kept
+-- for any replies that are stored
 pub room_with : (own : Bytes) (most : ℕ) (batch : Batch) (n : ℕ) (replies : List OpReply) (b : Book) (t : RunEffect) → IsMadeFor own batch → Lawful own most b → IsWithinLimits b → run own batch.ops b ≡ Ok t → RoomAll (t.writes ++ token_writes batch.token batch.ops n replies) b
 room_with own most batch n replies b t made l w e =
     let sound : AreFaultless batch.domain batch.ops = no_fault batch.domain batch.ops batch.token made.no_fault in

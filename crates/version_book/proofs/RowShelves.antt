@@ -1,4 +1,4 @@
--- What does a shelf of rows stand for whose keys are ordered by their bytes?
+-- What does a shelf of rows represent if keys are ordered by their bytes?
 use Rattle.std.proofs.Common.{◌≡◌, ◌+◌, ◌≤◌, ℕ, Bool, true, false, cond, List, [], ◌∷◌, ◌++◌, length, map, Option, Some, None, refl, sym, ap, subst, ◌∙◌, IfSome, option_map}
 use Rattle.std.specs.Prelude.{filter, bytes_eq, option_to_list}
 use Rattle.std.specs.List.{AllByRecursion}
@@ -23,7 +23,7 @@ first_alone : {X : Type 0} (row : Option (CommittedRow X)) → first (map row_of
 first_alone None = refl
 first_alone (Some r) = refl
 
--- where one row of those with numbers passes, or none, it is the first of those without that does
+-- if a single row with its number passes, or none does, it is the first that passes among the rows without numbers
 pub first_of : {X : Type 0} (p : X → Bool) (rows : List (CommittedRow X)) (row : Option (CommittedRow X)) → filter (of_row p) rows ≡ option_to_list row → option_map row_of row ≡ first (filter p (map row_of rows))
 first_of p rows row e = sym (ap first (filter-map row_of p rows) ∙ (ap (λ l. first (map row_of l)) e ∙ first_alone row))
 
@@ -93,7 +93,7 @@ module _ {K : Type 0} (cmp : K → K → Ordering) (bytes : K → Bytes) (same :
         subst (λ n. IfSome new (λ x. n + 1 ≤ most_rows)) (sym (ap length (after_same k none s)) ∙ length-map (without_key cmp s k) (λ r. (bytes r.0, r.1)))
         (room_for key (bytes k) new (by_bytes bytes s) h (subst (λ rows. IfSome new (λ x. length (with_row key (bytes k) new (map row_of rows)) ≤ most_rows)) (sym (values_same s)) room))
 
-    -- ---- the row that is named by its key
+    -- ---- the row with a given key
 
     module _ (k : K) (p : X → Bool) (names : (x : X) → p x ≡ bytes_eq (key x) (bytes k)) where
       pub named_row : (s : Shelf) → IsInOrder cmp s → AreKeyed s → (rows : List (CommittedRow X)) → values_of s ≡ rows → (row : Option (CommittedRow X)) → row ≡ get cmp s k → filter (of_row p) rows ≡ option_to_list row
@@ -102,7 +102,7 @@ module _ {K : Type 0} (cmp : K → K → Ordering) (bytes : K → Bytes) (same :
           ∙ (ap (filter (λ r. bytes_eq (key r.row) (bytes k))) (sym (values_same s ∙ view))
           ∙ (row_at key (bytes k) (by_bytes bytes s) (in_order s o) h ∙ ap option_to_list (sym (is ∙ get_same k s))))
 
-      -- it is the first of the rows that have it
+      -- it is the first of the rows with this key
       pub first_row : (s : Shelf) → IsInOrder cmp s → AreKeyed s → (rows : List (CommittedRow X)) → values_of s ≡ rows → (row : Option (CommittedRow X)) → row ≡ get cmp s k → option_map row_of row ≡ first (filter p (map row_of rows))
       first_row s o h rows view row is = first_of p rows row (named_row s o h rows view row is)
 

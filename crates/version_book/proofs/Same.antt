@@ -1,4 +1,4 @@
--- Are the entries of a range the same where their stamps are?
+-- Are the entries of a range equal if their stamps are?
 use Rattle.std.proofs.Common.{◌≡◌, Bool, true, List, [], ◌∷◌, Option, Some, None, refl, sym, ap, subst, ◌∙◌, inl, inr, ⊎_elim, option_map}
 use Rattle.std.specs.Prelude.{filter, option_to_list}
 use Rattle.std.specs.declared.cmp.Ordering.{Ordering}
@@ -19,7 +19,7 @@ use Rattle.version_book.specs.Stores.{TellRows, stamp, stamps}
 use Rattle.version_book.proofs.KeyOrders.{bytes_cmp, id_cmp, identity_cmp, group_cmp, user_cmp, expiry_cmp}
 use Rattle.version_book.proofs.Mapped.{from_within_map, within_map}
 
--- ---- orders that turn around
+-- ---- orders that are reversed if their arguments are swapped
 
 abbrev Turns : {K : Type 0} → (K → K → Ordering) → Type 0
 Turns cmp = (k l : _) → cmp k l ≡ ordering_reverse (cmp l k)
@@ -66,7 +66,7 @@ turns_users k l = turns_then _ _ _ _ (turns_bytes k.0 l.0) (turns_ids k.1 l.1)
 pub turns_expiries : Turns expiry_cmp
 turns_expiries k l = turns_then _ _ _ _ (nat_cmp_total.antisymm k.0 l.0) (turns_ids k.1 l.1)
 
--- ---- rows in order with the same members are the same rows
+-- ---- rows in order with the same members are the same list
 
 not_both : {K : Type 0} (cmp : K → K → Ordering) → Turns cmp → (k l : K) → cmp k l ≡ Less → cmp l k ≡ Less → ⊥
 not_both cmp turns k l e f = let t = turns k l in let g = ap ordering_reverse f in cc
@@ -107,11 +107,11 @@ module _ {K : Type 0} (cmp : K → K → Ordering) (keys : Entry → List K) (lo
       let there = from_within_filter (of_row p) others x.1 (subst (λ l. Within l x.1) e f.0) in
       within_filter (λ row. is_between cmp lo hi row.0) other x (j.complete x.0 x.1 there.0 f.1) f.2
 
-  -- the same rows have the same stamps
+  -- equal rows have equal stamps
   pub range_same : Turns cmp → (rows others : List (CommittedRow Entry)) (one other : List (K × CommittedRow Entry)) → IsIndex keys rows one → IsIndex keys others other → IsInOrder cmp (rows_between cmp one lo hi) → IsInOrder cmp (rows_between cmp other lo hi) → filter (of_row p) rows ≡ filter (of_row p) others → stamps (rows_between cmp one lo hi) ≡ stamps (rows_between cmp other lo hi)
   range_same turns rows others one other i j sorted ordered e = ap stamps (same_members cmp turns (rows_between cmp one lo hi) (rows_between cmp other lo hi) sorted ordered (across rows others one other i j e) (across others rows other one j i (sym e)))
 
-  -- a row with the stamp of another, of which the stamp tells it, is that row
+  -- a row is among the others if they have its stamp and equal stamps imply equal rows
   found : (rows others : List (CommittedRow Entry)) (one other : List (K × CommittedRow Entry)) → IsIndex keys rows one → IsIndex keys others other → ((r s : CommittedRow Entry) → Within rows r → Within others s → entry_key r.row ≡ entry_key s.row → r.commit ≡ s.commit → r ≡ s) → stamps (rows_between cmp one lo hi) ≡ stamps (rows_between cmp other lo hi) → (r : CommittedRow Entry) → Within (filter (of_row p) rows) r → Within (filter (of_row p) others) r
   found rows others one other i j tells e r w =
       let a = in_range rows one i r w in
@@ -120,13 +120,13 @@ module _ {K : Type 0} (cmp : K → K → Ordering) (keys : Entry → List K) (lo
       let same : r ≡ b.0.1 = tells r b.0.1 (from_within_filter (of_row p) rows r w).0 (from_within_filter (of_row p) others b.0.1 s.0).0 (sym (ap (λ t. t.0) b.2)) (sym (ap (λ t. t.1) b.2)) in
       subst (Within (filter (of_row p) others)) (sym same) s.0
 
-  -- the same stamps are of the same rows
+  -- equal stamps imply equal rows
   pub range_tells : (rows others : List (CommittedRow Entry)) (one other : List (K × CommittedRow Entry)) → IsIndex keys rows one → IsIndex keys others other → Ascending (of_row entry_key) rows → Ascending (of_row entry_key) others → TellRows entry_key rows others → stamps (rows_between cmp one lo hi) ≡ stamps (rows_between cmp other lo hi) → filter (of_row p) rows ≡ filter (of_row p) others
   range_tells rows others one other i j a b tells e = same_sets (of_row entry_key) (filter (of_row p) rows) (filter (of_row p) others) (ascending_filter (of_row entry_key) (of_row p) rows a) (ascending_filter (of_row entry_key) (of_row p) others b)
       (found rows others one other i j tells e)
       (found others rows other one j i (λ s r v w k n. sym (tells r s w v (sym k) (sym n))) (sym e))
 
--- ---- a row alone
+-- ---- a single row
 
 pub row_same : {X : Type 0} (one other : Option (CommittedRow X)) → option_to_list one ≡ option_to_list other → option_map (λ r. r.commit) one ≡ option_map (λ r. r.commit) other
 row_same None None e = refl

@@ -1,4 +1,4 @@
--- What does a shelf of rows, each under its own key, stand for?
+-- What does a shelf of rows represent if each row is under its own key?
 use Rattle.std.proofs.Common.{◌≡◌, ◌+◌, ◌≤◌, Bool, true, false, cond, List, [], ◌∷◌, ◌++◌, length, map, Option, Some, None, refl, sym, ap, subst, ◌∙◌, ⊎_elim, IfSome, arith}
 use Rattle.std.specs.Prelude.{filter, bytes_eq, option_to_list}
 use Rattle.std.specs.List.{AllByRecursion}
@@ -66,11 +66,11 @@ module _ {K V : Type 0} (cmp : K → K → Ordering) (key : K) where
   above_of_without : (s : List (K × V)) → rows_above cmp (without_key cmp s key) key ≡ rows_above cmp s key
   above_of_without s = rw (filter-append, filter-twice (λ row. is_gt (cmp row.0 key)) s, filter-apart (λ row. is_gt (cmp row.0 key)) (λ row. is_lt (cmp row.0 key)) (λ row. lt_not_gt (cmp row.0 key)) s) refl
 
-  -- a row that is put where its key was taken away
+  -- putting a row where its key was removed
   pub with_after_without : (v : V) (s : List (K × V)) → with_key cmp (without_key cmp s key) key v ≡ with_key cmp s key v
   with_after_without v s = rw (below_of_without s, above_of_without s) refl
 
-  -- taking away a key that isn't there
+  -- removing a key that isn't there
   pub without_absent : IsTotalOrder cmp → (s : List (K × V)) → IsInOrder cmp s → get cmp s key ≡ None → without_key cmp s key ≡ s
   without_absent o [] sorted none = refl
   without_absent o (r ∷ rs) sorted none = by_order (cmp r.0 key)
@@ -100,7 +100,7 @@ unfolding is_before
 lt_is_before x k = refl
 
 module _ {X : Type 0} (key : X → Bytes) where
-  -- the rows ascend by their keys
+  -- the rows are in ascending order of their keys
   later_keys : (k : Bytes) (s : List (Bytes × CommittedRow X)) → AllByRecursion (λ y. slice_cmp nat_cmp k y ≡ Less) (keys_of s) → IsKeyed key s → AllByRecursion (λ r. is_before k (key r.row) ≡ true) (values_of s)
   unfolding is_before
   later_keys k [] a h = tt
@@ -118,13 +118,13 @@ module _ {X : Type 0} (key : X → Bytes) where
     | false ↦ values-filter p q e rs h.1
   ])
 
-  -- the rows after a write are the rows with the new row in the place of the key's
+  -- the rows after a write are the rows with the new row in place of that of the key
   pub values-after : (k : Bytes) (new : Option (CommittedRow X)) (s : List (Bytes × CommittedRow X)) → IsKeyed key s → values_of (shelf_after (slice_cmp nat_cmp) k new s) ≡ with_row (of_row key) k new (values_of s)
   unfolding with_row
   values-after k None s h = rw (map-append, values-filter (λ x. is_lt (slice_cmp nat_cmp x k)) (λ x. is_before x k) (λ x. lt_is_before x k) s h, values-filter (λ x. is_gt (slice_cmp nat_cmp x k)) (λ x. is_before k x) (λ x. gt_is_before x k) s h) refl
   values-after k (Some n) s h = rw (map-append, values-filter (λ x. is_lt (slice_cmp nat_cmp x k)) (λ x. is_before x k) (λ x. lt_is_before x k) s h, values-filter (λ x. is_gt (slice_cmp nat_cmp x k)) (λ x. is_before k x) (λ x. gt_is_before x k) s h) refl
 
-  -- they stand under their own keys again
+  -- they are under their own keys again
   kept_keys : (p : Bytes × CommittedRow X → Bool) (s : List (Bytes × CommittedRow X)) → IsKeyed key s → (x : Bytes × CommittedRow X) → Within (filter p s) x → x.0 ≡ key x.1.row
   kept_keys p s h x w = All-within (λ row. row.0 ≡ key row.1.row) s x h (from_within_filter p s x w).0
 

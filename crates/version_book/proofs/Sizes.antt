@@ -1,4 +1,4 @@
--- An index has no more rows than its entries have keys.
+-- An index has at most as many rows as its entries have keys.
 use Rattle.std.proofs.Common.{◌≡◌, ◌+◌, ◌≤◌, suc, Bool, true, false, List, [], ◌∷◌, ◌++◌, length, map, refl, sym, ap, subst, ◌∙◌, inl, inr, ⊎_elim, arith, length-append}
 use Rattle.std.specs.Prelude.{if◌then◌else◌, nat_lt}
 use Rattle.std.proofs.lemmas.List.{length-map}
@@ -22,7 +22,7 @@ use Rattle.version_book.specs.Room.{count_of_names}
 use Rattle.version_book.specs.Stores.{count_of_keys}
 use Rattle.version_book.proofs.KeyOrders.{bytes_cmp, id_cmp, identity_cmp, group_cmp, user_cmp, expiry_cmp}
 
--- ---- a list without repeats, within another, is no longer
+-- ---- a list without repeats whose items are in another list isn't longer
 
 module _ {X : Type 0} where
   abbrev Distinct : List X → Type 0
@@ -82,7 +82,7 @@ module _ {K : Type 0} (keys : Entry → List K) where
       (λ u. within_right (map (λ k. (k, s)) (keys s.row)) (all_rows keys rs) (k, r) (within_all_rows rs k r u v))
       w
 
--- ---- rows in order have no repeats
+-- ---- rows in strictly ascending order have no repeats
 
 within_keys : {K V : Type 0} (rows : List (K × V)) (r : K × V) → Within rows r → Within (keys_of rows) r.0
 within_keys [] r w = absurd w
@@ -132,7 +132,7 @@ users_size rows index sorted i = index_size_by user_cmp (λ k. then_equal _ _ (b
 pub expiries_size : (rows : List (CommittedRow Entry)) (index : List (ExpiryKey × CommittedRow Entry)) → IsInOrder expiry_cmp index → IsIndex expiry_keys rows index → length index ≤ count_of_keys expiry_keys rows
 expiries_size rows index sorted i = index_size_by expiry_cmp (λ k. then_equal _ _ (tied_itself nat_cmp_total k.0) (id_itself k.1)) expiry_keys rows index sorted i
 
--- ---- how many keys there are
+-- ---- the number of keys
 
 pub length-user_keys : (e : Entry) → length (user_keys e) ≡ length e.domains
 length-user_keys e = length-map e.domains (λ d. (d, At e.id))

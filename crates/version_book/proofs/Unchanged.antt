@@ -1,4 +1,4 @@
--- What it tells of an older and a newer version that a mark has the same rows in both, with the same numbers.
+-- What follows for an older and a newer version if a mark has the same rows in both, with the same numbers.
 use Rattle.std.proofs.Common.{◌≡◌, Bool, true, false, List, [], ◌∷◌, sym, ap, ◌∙◌, IsTrue}
 use Rattle.std.specs.List.{AllByRecursion, list_any}
 use Rattle.std.proofs.lemmas.Bool.{both_ways, cases_Bool, or_parts}

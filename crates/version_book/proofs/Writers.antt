@@ -26,9 +26,9 @@ right_is : (a b : Bool) → b ≡ true → (a || b) ≡ true
 right_is true b h = refl
 right_is false b h = h
 
--- ---- hits, in the words of the list of all books
+-- ---- hits, in terms of the list of all books
 
--- the writes of a batch, as the book after a list of books for whose last one a version stands
+-- the writes of a batch on the last of these books, which is the version's
 writes_there : (batch : Batch) (s : State) (books : List Book) → IsLast s books → writes_of batch (place_of books + 1) (last_book books) ≡ writes_at batch s
 writes_there batch s books k = ap (λ n. writes_of batch (n + 1) (last_book books)) k.place ∙ ap (writes_of batch (s.number + 1)) k.book
 

@@ -1,4 +1,4 @@
--- The rows after the writes that are left are the rows after all of them.
+-- Applying the remaining writes to the current rows gives the final rows.
 use Rattle.std.proofs.Common.{◌≡◌, ℕ, ◌+◌, ◌<◌, List, ◌∷◌, length, map, get_or, drop, sym, ap, subst, ◌∙◌}
 use Rattle.std.proofs.lemmas.List.{at_drop_more}
 use Rattle.entry_book.specs.Writes.{FitsBook, FitAll}
@@ -8,7 +8,7 @@ use Rattle.version_book.specs.Room.{RoomFor, RoomAll}
 use Rattle.version_book.specs.Written.{placed, placed_write, write_of}
 use Rattle.version_book.proofs.NamedRows.{book_after_write}
 
--- the writes that are left fit the rows so far, and lead from them to these rows
+-- The remaining writes fit the current rows, there is room for them, and they lead to the final rows.
 abbrev pub Lead : ℕ → List Written → CommittedRows → CommittedRows → Type 0
 Lead n left rows end = (rows_after n (placed n (map write_of left)) rows ≡ end) × FitAll (placed n (map write_of left)) (book_of rows) × RoomAll (placed n (map write_of left)) (book_of rows)
 

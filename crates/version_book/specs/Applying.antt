@@ -1,4 +1,4 @@
--- What a version asks of writes, to become the next one.
+-- The conditions under which writes may be applied to a version.
 use Rattle.std.specs.Prelude.{◌≡◌, ℕ, ◌+◌, ◌*◌, List}
 use Rattle.entry_book.specs.Lawful.{Lawful}
 use Rattle.entry_book.specs.Writes.{RowWrite, FitAll, after}
@@ -7,11 +7,11 @@ use Rattle.version_book.specs.Room.{RoomAll}
 
 -- These writes may be applied to the version, as the commit of this number.
 pub record MayApply (writes : List RowWrite) (number : ℕ) (s : State) : Type 0 where
-  -- the number is the next one
+  -- the number is one more than the version's
   pub next : number ≡ s.number + 1
-  -- each write in turn finds the row that it names, and puts a row of its own key
+  -- each write in turn finds the row that it names as old, or no row if it names none, and its new row has its key
   pub fits : FitAll writes (book_of s.rows)
-  -- the book that comes out is lawful
+  -- the book after the writes is lawful, as book `number` of a history
   pub lawful : Lawful s.domain (64 * number) (after writes (book_of s.rows))
-  -- there is room for all rows
+  -- there is room for each row that they write
   pub room : RoomAll writes (book_of s.rows)

@@ -19,7 +19,7 @@ row_of r = r.row
 abbrev pub numbered : {X : Type 0} → ℕ → X → CommittedRow X
 numbered n x = record { row = x; commit = n }
 
--- a question to a row is one to the row with its number
+-- a function of a row, as a function of the row with its number
 abbrev pub of_row : {X Y : Type 0} → (X → Y) → CommittedRow X → Y
 of_row f r = f r.row
 
@@ -32,15 +32,15 @@ pub record CommittedRows : Type 0 where
 abbrev pub no_rows : CommittedRows
 no_rows = record { entries = []; agents = []; bundles = []; tokens = [] }
 
--- the book that these rows are
+-- the book of these rows, without their numbers
 abbrev pub book_of : CommittedRows → Book
 book_of rows = record { entries = map row_of rows.entries; agents = map row_of rows.agents; bundles = map row_of rows.bundles; tokens = map row_of rows.tokens }
 
--- the rows that a mark names, in the order of their keys
+-- the rows that a mark names, with their numbers, in the same order
 abbrev pub marked : MarkKind → CommittedRows → CommittedRows
 marked m rows = record { entries = filter (of_row (names_entry m)) rows.entries; agents = filter (of_row (names_agent m)) rows.agents; bundles = filter (of_row (names_bundle m)) rows.bundles; tokens = filter (of_row (names_token m)) rows.tokens }
 
--- no number is above n
+-- no row has a number above n
 pub record AllUpTo (n : ℕ) (rows : CommittedRows) : Type 0 where
   pub entries : AllByRecursion (λ r. r.commit ≤ n) rows.entries
   pub agents : AllByRecursion (λ r. r.commit ≤ n) rows.agents
@@ -49,7 +49,7 @@ pub record AllUpTo (n : ℕ) (rows : CommittedRows) : Type 0 where
 
 -- ---- writes of a commit
 
--- the row that is written gets the commit's number
+-- the rows after one write: a new row gets the number n
 abbrev pub rows_after_write : ℕ → RowWrite → CommittedRows → CommittedRows
 rows_after_write n (wrote_entry c) rows = record rows { entries = with_row (of_row entry_key) c.key (option_map (numbered n) c.new) rows.entries }
 rows_after_write n (wrote_agent c) rows = record rows { agents = with_row (of_row agent_key) c.key (option_map (numbered n) c.new) rows.agents }
@@ -63,12 +63,12 @@ rows_after n (w ∷ ws) rows = rows_after n ws (rows_after_write n w rows)
 
 -- ---- a version
 
--- What a version is: the server's trust domain, the number of its book in the history, and its rows.
+-- A version as contracts see it: the server's trust domain, the number of its book in the history, and its rows.
 pub record State : Type 0 where
   pub domain : Bytes
   pub number : ℕ
   pub rows : CommittedRows
 
--- the next version, after the writes of one commit
+-- the next version, after these writes of one commit
 abbrev pub next_state : List RowWrite → State → State
 next_state writes s = record s { number = s.number + 1; rows = rows_after (s.number + 1) writes s.rows }

@@ -1,4 +1,4 @@
--- How versions follow one another: by batches that commit as the plain book says.
+-- How versions follow one another: by batches that commit according to the specification, `verdict`.
 use Rattle.std.specs.Prelude.{◌≡◌, ℕ, ◌+◌, Bool, true, false, ◌||◌, List, [], ◌∷◌, ◌++◌, Some, Ok, Err}
 use Rattle.std.specs.List.{list_any}
 use Rattle.entry_book.specs.declared.reply.OpReply.{OpReply}
@@ -19,11 +19,12 @@ abbrev pub writes_in : Batch → ℕ → RunResult → List RowWrite
 writes_in batch n (Ok t) = batch_writes batch n t
 writes_in batch n (Err s) = []
 
--- all writes of a batch as book n, run on the book before it: those of its operations, and then that of its token
+-- All writes of a batch that adds book n, run on book b: those of its operations, then that of its token. There are none if the
+-- run is refused.
 abbrev pub writes_of : Batch → ℕ → Book → List RowWrite
 writes_of batch n b = writes_in batch n (run batch.domain batch.ops b)
 
--- those that make the version after this one
+-- the writes of a batch that make the version after this one
 abbrev pub writes_at : Batch → State → List RowWrite
 writes_at batch s = writes_of batch (s.number + 1) (book_of s.rows)
 
@@ -31,7 +32,8 @@ writes_at batch s = writes_of batch (s.number + 1) (book_of s.rows)
 abbrev pub state_with : Batch → State → State
 state_with batch s = next_state (writes_at batch s) s
 
--- The batch commits on the version: it was made for its trust domain, and the plain book adds the book of the version after it.
+-- The batch commits on the version: it was made for its trust domain, and its verdict on the version's book is to add the book
+-- of the version after it.
 pub record Commits (batch : Batch) (s : State) : Type 0 where
   pub made : IsMadeFor s.domain batch
   pub replies : List OpReply
@@ -39,12 +41,12 @@ pub record Commits (batch : Batch) (s : State) : Type 0 where
 
 -- ---- many batches
 
--- the newer version follows from the older one by these batches, each of which commits
+-- These batches lead from the older version to the newer one: each commits on the version that the batches before it left.
 abbrev pub Follows : State → List Batch → State → Type 0
 Follows older [] newer = older ≡ newer
 Follows older (batch ∷ batches) newer = Commits batch older × Follows (state_with batch older) batches newer
 
--- the older version is an earlier one of the same history, or the same one
+-- some batches lead from the older version to the newer one; with no batches, both are the same
 abbrev pub IsEarlier : State → State → Type 0
 IsEarlier older newer = (batches : List Batch) × Follows older batches newer
 
@@ -53,19 +55,19 @@ abbrev pub any_hits : MarkKind → State → List Batch → Bool
 any_hits m older [] = false
 any_hits m older (batch ∷ batches) = list_any (λ w. hits w m) (writes_at batch older) || any_hits m (state_with batch older) batches
 
--- the replies to these batches, each at the version that the earlier ones left
+-- the reply to each of these batches, run one after another from the version on
 abbrev pub replies_on : List Batch → State → List Reply
 replies_on [] s = []
 replies_on (batch ∷ batches) s = reply_with s.number (verdict batch s.number (Some (book_of s.rows))) ∷ replies_on batches (state_with batch s)
 
--- ---- beside the list of all books
+-- ---- in relation to the list of all books
 
--- The version stands for the last one of these books.
+-- The version has the book and the number of the last one of these books.
 pub record IsLast (s : State) (books : List Book) : Type 0 where
   pub book : last_book books ≡ book_of s.rows
   pub place : place_of books ≡ s.number
 
--- One of the batches, run on the book that these books and the batches before it left, makes a write that hits the mark.
+-- One of the batches makes a write that hits the mark. It is run on the last of the books that the batches before it left.
 pub record SomeHit (m : MarkKind) (books : List Book) (batches : List Batch) : Type 0 where
   pub before : List Batch
   pub batch : Batch

@@ -1,4 +1,5 @@
--- The keys of indexes, and what an index has. The start stands before all values of a part, and the end after them.
+-- The keys of indexes and the rows of an index, for this crate's own contracts. In each part of a key, the start comes before
+-- all values, and the end after them.
 use Rattle.std.specs.Prelude.{◌≡◌, ℕ, Bool, true, ◌&&◌, nat_lt, List, [], ◌∷◌, map, if◌then◌else◌}
 use Rattle.std.specs.declared.cmp.Ordering.{Ordering}
 use Rattle.std.specs.Ordering.{is_eq, is_lt, is_ge}
@@ -23,15 +24,15 @@ UserKey = Bytes × KeyPart Bytes
 abbrev pub ExpiryKey : Type 0
 ExpiryKey = ℕ × KeyPart Bytes
 
--- each entry stands once under its parent and identity
+-- an entry has one key with its parent and identity
 abbrev pub group_keys : Entry → List GroupKey
 group_keys e = (At e.parent, At e.identity, At e.id) ∷ []
 
--- and once under each domain that it names
+-- one key for each trust domain that it names
 abbrev pub user_keys : Entry → List UserKey
 user_keys e = map (λ d. (d, At e.id)) e.domains
 
--- and once under its expiry, where it has one
+-- and one with its expiry, if it has one
 abbrev pub expiry_keys : Entry → List ExpiryKey
 expiry_keys e = if nat_lt 0 e.expiry then (e.expiry, At e.id) ∷ [] else []
 
@@ -46,7 +47,7 @@ pub record IsIndex {K : Type 0} (keys : Entry → List K) (rows : List (Committe
 abbrev pub is_between : {K : Type 0} → (K → K → Ordering) → K → K → K → Bool
 is_between cmp lo hi k = is_ge (cmp k lo) && is_lt (cmp k hi)
 
--- The range has just the entries that pass the test, each under one key.
+-- Each entry that passes the test has exactly one key in the range, and no other entry has one.
 pub record Covers {K : Type 0} (cmp : K → K → Ordering) (keys : Entry → List K) (lo hi : K) (p : Entry → Bool) : Type 0 where
   pub sound : (e : Entry) (k : K) → Within (keys e) k → is_between cmp lo hi k ≡ true → p e ≡ true
   pub complete : (e : Entry) → p e ≡ true → (k : K) × Within (keys e) k × (is_between cmp lo hi k ≡ true)
@@ -62,12 +63,12 @@ index_range_of (mark.Expiring moment) = Expiries (0, Start) (moment, Start)
 index_range_of mark.All = Groups (Start, Start, Start) (End, End, End)
 index_range_of m = SingleRow
 
--- ---- what holds of the keys of an index
+-- ---- properties of the keys of an index
 
 -- keys that compare as equal are equal
 abbrev pub TellsKeys : {K : Type 0} → (K → K → Ordering) → Type 0
 TellsKeys cmp = (k l : _) → is_eq (cmp k l) ≡ true → k ≡ l
 
--- a key is of one entry's id alone
+-- entries that have a key in common have the same id
 abbrev pub KeysTell : {K : Type 0} → (Entry → List K) → Type 0
 KeysTell keys = (e f : Entry) (k : _) → Within (keys e) k → Within (keys f) k → e.id ≡ f.id

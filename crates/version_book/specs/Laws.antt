@@ -1,4 +1,4 @@
--- The laws of marks and versions. Each is a clause of a function of the module `laws`.
+-- Theorems about marks and versions. Each is a clause of a function of the module `laws`.
 use Rattle.std.specs.Prelude.{◌≡◌, ◌↔◌, ℕ, ◌+◌, ◌*◌, ◌<◌, ◌≤◌, true, false, List, ◌++◌, length, map, option_to_list, None, Ok, IfOk}
 use Rattle.std.specs.List.{AllByRecursion, list_any}
 use Rattle.entry_book.specs.Rows.{Bytes, Entry}
@@ -19,7 +19,7 @@ use Rattle.version_book.specs.History.{Commits, Follows, IsLast, SomeHit, any_hi
 use Rattle.version_book.specs.Room.{RoomAll}
 use Rattle.version_book.specs.Written.{placed}
 
--- ---- what each mark reads, in the words of the book's own questions
+-- ---- what each mark reads, in terms of the book's own lookups
 
 abbrev pub entries_alone : List Entry → Book
 entries_alone es = record empty_book { entries = es }
@@ -53,91 +53,94 @@ ReadsToken = (token : Bytes) (b : Book) → AscendingBook b → reads (mark.Toke
 
 -- ---- reads and writes
 
--- what a mark reads after writes is what it read before them, after what it sees of them
+-- what a mark reads after writes is what it read before them, changed by the part of the writes that it sees
 abbrev pub ReadsAfter : Type 0
 ReadsAfter = (m : MarkKind) (ws : List RowWrite) (b : Book) → reads m (after ws b) ≡ after (map (seen m) ws) (reads m b)
 
--- two books that read the same at a mark still do after the same writes
+-- if two books read the same at a mark, they also do so after the same writes
 abbrev pub AgreeAfter : Type 0
 AgreeAfter = (ws : List RowWrite) (b c : Book) (m : MarkKind) → Agree b c m → Agree (after ws b) (after ws c) m
 
--- where no write hits a mark, it reads the same before and after
+-- on a book in order, if no write hits a mark and each finds its old row, the mark reads the same before and after
 abbrev pub Unhit : Type 0
 Unhit = (ws : List RowWrite) (b : Book) (m : MarkKind) → AscendingBook b → FitAll ws b → AllByRecursion (λ w. hits w m ≡ false) ws → Agree b (after ws b) m
 
 -- ---- places
 
--- where the place is put into a batch's writes, they are its writes as the book of this number, whichever place they had
+-- if place n is set in a batch's writes, they are its writes as book n, whichever place they had
 abbrev pub PlacesPut : Type 0
 PlacesPut = (batch : Batch) (b : Book) (m n : ℕ) → IfOk (run batch.domain batch.ops b) (λ t. placed n (batch_writes batch m t) ≡ batch_writes batch n t)
 
--- writes hit the same marks, whichever place is put into them
+-- setting a place in writes doesn't change which marks they hit
 abbrev pub HitsAtAnyPlace : Type 0
 HitsAtAnyPlace = (n : ℕ) (ws : List RowWrite) (m : MarkKind) → list_any (λ w. hits w m) (placed n ws) ≡ list_any (λ w. hits w m) ws
 
 -- ---- versions
 
--- the book of a version after writes is the book after these writes
+-- the book of rows after writes is the book of these rows after the same writes
 abbrev pub BookAfter : Type 0
 BookAfter = (n : ℕ) (ws : List RowWrite) (rows : CommittedRows) → book_of (rows_after n ws rows) ≡ after ws (book_of rows)
 
--- what a mark reads on a version's book is the version's rows that it names
+-- what a mark reads on the book of rows is the book of the rows that it names
 abbrev pub BookReads : Type 0
 BookReads = (m : MarkKind) (rows : CommittedRows) → reads m (book_of rows) ≡ book_of (marked m rows)
 
 -- ---- histories
 
--- A batch of changes that may run at a version's number, whose token isn't kept, that runs on its book, and passes no limit, commits on it: the version after it has its writes.
+-- When a batch of changes, made for a version's trust domain, commits on the version: it may run at the version's number, its
+-- token isn't in use, its run on the book isn't refused, and the result passes no limit. The version after it has its writes.
 abbrev pub BatchCommits : Type 0
 BatchCommits = (batch : Batch) (s : State) (t : RunEffect) → IsMadeFor s.domain batch → is_query batch.ops ≡ false → batch.after ≤ s.number → kept_under batch.token (book_of s.rows) ≡ None → run batch.domain batch.ops (book_of s.rows) ≡ Ok t → limit_passed s.number (after (batch_writes batch (s.number + 1) t) (book_of s.rows)) ≡ None → Commits batch s × (state_with batch s ≡ next_state (batch_writes batch (s.number + 1) t) s)
 
--- histories are joined, so a history goes on with any batch that commits on its last version
+-- batches that lead from s to t, followed by batches that lead from t to u, lead from s to u
 abbrev pub FollowsJoined : Type 0
 FollowsJoined = (first second : List Batch) (s t u : State) → Follows s first t → Follows t second u → Follows s (first ++ second) u
 
--- the plain book, on a list of books whose last is the older version's, commits the batches too, and its last book then is the newer version's
+-- If the last of some books is the older version's, with its number, the specification commits the batches on these books too.
+-- The last book and its number are then those of the newer version, whose number has grown by one for each batch.
 abbrev pub BooksFollow : Type 0
 BooksFollow = (batches : List Batch) (older newer : State) (books : List Book) → 0 < length books → last_book books ≡ book_of older.rows → place_of books ≡ older.number → Follows older batches newer → CommitAll books batches × (last_book (books_from books batches) ≡ book_of newer.rows) × (place_of (books_from books batches) ≡ newer.number) × (length batches + older.number ≡ newer.number)
 
--- the trust domain stays, and each batch was made for it
+-- the trust domain is unchanged, and each batch was made for it
 abbrev pub DomainStays : Type 0
 DomainStays = (batches : List Batch) (older newer : State) → Follows older batches newer → (newer.domain ≡ older.domain) × AllByRecursion (IsMadeFor older.domain) batches
 
--- a version within the limits is followed by versions within the limits
+-- if a version is within the limits, so is each one that follows from it
 abbrev pub LimitsFollow : Type 0
 LimitsFollow = (batches : List Batch) (older newer : State) → IsWithinLimits (book_of older.rows) → Follows older batches newer → IsWithinLimits (book_of newer.rows)
 
--- where no batch since makes a write that hits a mark, both versions have the same rows there, with the same numbers
+-- if no batch in between makes a write that hits a mark, both versions have the same rows at the mark, with the same numbers
 abbrev pub UnhitHistory : Type 0
 UnhitHistory = (m : MarkKind) (batches : List Batch) (older newer : State) → AscendingBook (book_of older.rows) → Follows older batches newer → any_hits m older batches ≡ false → marked m older.rows ≡ marked m newer.rows
 
--- where no batch since makes a write that hits one of these marks, both books read the same at each of them
+-- if no batch in between makes a write that hits one of these marks, both books read the same at each of them
 abbrev pub UnhitMarks : Type 0
 UnhitMarks = (ms : List MarkKind) (batches : List Batch) (older newer : State) → AscendingBook (book_of older.rows) → Follows older batches newer → list_any (λ m. any_hits m older batches) ms ≡ false → AllByRecursion (λ m. Agree (book_of older.rows) (book_of newer.rows) m) ms
 
--- the run of a batch on a lawful book within the limits has room for all of its rows, and for what is kept under its token
+-- if a batch runs on a lawful book within the limits, there is room for all its writes, including that of its token
 abbrev pub RoomInRun : Type 0
 RoomInRun = (own : Bytes) (most : ℕ) (batch : Batch) (n : ℕ) (b : Book) (t : RunEffect) → IsMadeFor own batch → Lawful own most b → IsWithinLimits b → run own batch.ops b ≡ Ok t → RoomAll (batch_writes batch n t) b
 
--- all writes of a batch that runs on a lawful version within the limits, where its token isn't kept, may be applied to it
+-- If a batch runs on a lawful version within the limits, and its token isn't in use, all its writes may be applied to the
+-- version.
 abbrev pub RunMayApply : Type 0
 RunMayApply = (batch : Batch) (s : State) (t : RunEffect) → IsMadeFor s.domain batch → Lawful s.domain (64 * s.number) (book_of s.rows) → IsWithinLimits (book_of s.rows) → kept_under batch.token (book_of s.rows) ≡ None → run batch.domain batch.ops (book_of s.rows) ≡ Ok t → MayApply (batch_writes batch (s.number + 1) t) (s.number + 1) s
 
 -- ---- lists of batches
 
--- the books after two lists of batches, one list after the other, and whether all of them commit
+-- the books after concatenated lists of batches, and whether all of these commit
 abbrev pub BooksJoin : Type 0
 BooksJoin = (first second : List Batch) (books : List Book) → books_from books (first ++ second) ≡ books_from (books_from books first) second
 
 abbrev pub CommitsJoin : Type 0
 CommitsJoin = (first second : List Batch) (books : List Book) → CommitAll books (first ++ second) ↔ (CommitAll books first × CommitAll (books_from books first) second)
 
--- the plain book replies to the batches of a history as its versions tell
+-- the specification gives the batches of a history the replies that its versions give
 abbrev pub RepliesFollow : Type 0
 RepliesFollow = (batches : List Batch) (older newer : State) (books : List Book) → 0 < length books → IsLast older books → Follows older batches newer → replies_from books batches ≡ replies_on batches older
 
 -- ---- which batch hit a mark
 
--- in the words of the list of all books
+-- in terms of the list of all books
 abbrev pub HitsInBooks : Type 0
 HitsInBooks = (m : MarkKind) (batches : List Batch) (older newer : State) (books : List Book) → 0 < length books → IsLast older books → Follows older batches newer → (any_hits m older batches ≡ true) ↔ SomeHit m books batches

@@ -1,4 +1,4 @@
--- What a batch can read, and which writes hit it. A mark is the record of the crate's own type `MarkKind`.
+-- What a batch can read, and which writes hit it. A mark is represented by the crate's own type `MarkKind`.
 use Rattle.std.specs.Prelude.{◌≡◌, Bool, true, false, ◌||◌, filter, Option, Some, None, bytes_eq, if◌then◌else◌}
 use Rattle.entry_book.specs.declared.agent.Agent.{Agent}
 use Rattle.entry_book.specs.declared.bundle.Bundle.{Bundle}
@@ -36,7 +36,7 @@ is_of_token k m = false
 abbrev pub names_token : MarkKind → KeptBatch → Bool
 names_token m k = is_of_token k.token m
 
--- what a mark reads on a book: the part of the book that it names, whole rows, perhaps none
+-- what a mark reads from a book: the book of the rows that it names, possibly none
 abbrev pub reads : MarkKind → Book → Book
 reads m b = record { entries = filter (names_entry m) b.entries; agents = filter (names_agent m) b.agents; bundles = filter (names_bundle m) b.bundles; tokens = filter (names_token m) b.tokens }
 
@@ -56,14 +56,14 @@ is_of_entry k (mark.Entry id) = bytes_eq k id
 is_of_entry k mark.All = true
 is_of_entry k m = false
 
--- The old row or the new one is among the rows that the mark names. A write of an entry also hits the mark of its id, and that of all entries.
+-- The mark names the old row or the new one. A write of an entry also hits the mark of the entry's id, and that of all entries.
 abbrev pub hits : RowWrite → MarkKind → Bool
 hits (wrote_entry c) m = is_of_entry c.key m || (passes (names_entry m) c.old || passes (names_entry m) c.new)
 hits (wrote_agent c) m = passes (names_agent m) c.old || passes (names_agent m) c.new
 hits (wrote_bundle c) m = passes (names_bundle m) c.old || passes (names_bundle m) c.new
 hits (wrote_token c) m = passes (names_token m) c.old || passes (names_token m) c.new
 
--- ---- what a mark sees of a write
+-- ---- the part of a write that a mark sees
 
 abbrev pub kept : {X : Type 0} → (X → Bool) → Option X → Option X
 kept p None = None

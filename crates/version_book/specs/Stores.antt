@@ -1,4 +1,4 @@
--- What the shelves of a version stand for.
+-- What the shelves of a version represent, for this crate's own contracts.
 use Rattle.std.specs.Prelude.{◌≡◌, ◌+◌, ℕ, List, [], ◌∷◌, map, length, Option, Some, None}
 use Rattle.std.specs.declared.cmp.Ordering.{Ordering}
 use Rattle.std.specs.List.{AllByRecursion}
@@ -9,22 +9,22 @@ use Rattle.entry_book.specs.Order.{Within}
 use Rattle.version_book.specs.declared.committed_row.CommittedRow.{CommittedRow}
 use Rattle.version_book.specs.CommittedRows.{CommittedRows}
 
--- each row stands under its own key
+-- each row is stored under its own key
 abbrev pub IsKeyed : {X : Type 0} → (X → Bytes) → List (Bytes × CommittedRow X) → Type 0
 IsKeyed key shelf = AllByRecursion (λ row. row.0 ≡ key row.1.row) shelf
 
--- the same rows under the bytes of their keys
+-- the same values under the bytes of their keys
 abbrev pub by_bytes : {K V : Type 0} → (K → Bytes) → List (K × V) → List (Bytes × V)
 by_bytes bytes shelf = map (λ row. (bytes row.0, row.1)) shelf
 
--- what is compared where a range is asked to be unchanged: which row, and which commit last wrote it
+-- what `unchanged` compares for each row of a range: the entry's id, and the commit that last wrote it
 abbrev pub stamp : {K : Type 0} → K × CommittedRow Entry → Bytes × ℕ
 stamp row = (row.1.row.id, row.1.commit)
 
 abbrev pub stamps : {K : Type 0} → List (K × CommittedRow Entry) → List (Bytes × ℕ)
 stamps rows = map stamp rows
 
--- how many keys the rows have, all in all
+-- the total number of keys of the rows
 abbrev pub count_of_keys : {K : Type 0} → (Entry → List K) → List (CommittedRow Entry) → ℕ
 count_of_keys keys [] = 0
 count_of_keys keys (r ∷ rs) = length (keys r.row) + count_of_keys keys rs
@@ -33,14 +33,14 @@ count_of_keys keys (r ∷ rs) = length (keys r.row) + count_of_keys keys rs
 abbrev pub IsAbsent : {X : Type 0} → (X → Bytes) → Bytes → List (CommittedRow X) → Type 0
 IsAbsent key k rows = AllByRecursion (λ r. key r.row ≡ k → ⊥) rows
 
--- the rows of a shelf after a write of this key
+-- the rows of a shelf after a write at this key: with the new row, if there is one, in place of the old one
 abbrev pub shelf_after : {K V : Type 0} → (K → K → Ordering) → K → Option V → List (K × V) → List (K × V)
 shelf_after cmp key None shelf = without_key cmp shelf key
 shelf_after cmp key (Some value) shelf = with_key cmp shelf key value
 
--- ---- what the numbers of rows tell of an older and a newer version of one history
+-- ---- what equal numbers imply for an older and a newer version of one history
 
--- a row of a key with the number that a row of this key had before is that row
+-- an older and a newer row with the same key and the same number are equal
 abbrev pub TellRows : {X : Type 0} → (X → Bytes) → List (CommittedRow X) → List (CommittedRow X) → Type 0
 TellRows key older newer = (r s : _) → Within older r → Within newer s → key r.row ≡ key s.row → r.commit ≡ s.commit → r ≡ s
 

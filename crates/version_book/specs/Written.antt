@@ -1,18 +1,19 @@
--- The writes of the crate's own type, in the words of the book. A token's write doesn't say yet which book the batch adds: its place is left open, as 0.
+-- The writes of the crate's own type as writes of a book. The write of a token has no place yet: it is 0, because the number of
+-- the book that the batch adds isn't known.
 use Rattle.std.specs.Prelude.{ℕ, List, map, None, Some, option_map}
 use Rattle.entry_book.specs.declared.kept.KeptBatch.{KeptBatch}
 use Rattle.entry_book.specs.Writes.{RowWrite as BookWrite, wrote_entry, wrote_agent, wrote_bundle, wrote_token}
 use Rattle.version_book.specs.declared.changes.RowWrite.{RowWrite}
 use Rattle.version_book.specs.declared.changes.RowWrite.TheVariants as write
 
--- a token is written where none is kept
+-- the write of a token has no old row
 abbrev pub write_of : RowWrite → BookWrite
 write_of (write.Entry c) = wrote_entry (record { key = c.key; old = c.old; new = c.new })
 write_of (write.Agent c) = wrote_agent (record { key = c.key; old = c.old; new = c.new })
 write_of (write.Bundle c) = wrote_bundle (record { key = c.key; old = c.old; new = c.new })
 write_of (write.Token c) = wrote_token (record { key = c.token; old = None; new = Some (record { token = c.token; ops = c.ops; place = 0; replies = c.replies }) })
 
--- ---- the place of the book that a batch adds, put into what is kept of the batch
+-- ---- setting the number of the book that a batch adds as the place of its stored batch
 
 abbrev pub at_place : ℕ → KeptBatch → KeptBatch
 at_place n k = record k { place = n }

@@ -9,7 +9,7 @@ use std::alloc::{AllocError, Global};
 use std::marker::Model;
 use uuid::Uuid;
 
-/// One row's change: the row of a key as it was found, and as it is put. Either may be absent.
+/// The change of one row: its key, the row that was found there, and the row that is written. Either row may be absent.
 #[derive(Drop)]
 pub struct RowChange<K, T> {
     pub key: K,
@@ -17,22 +17,21 @@ pub struct RowChange<K, T> {
     pub new: Option<T>,
 }
 
-/// What is kept of a batch under its token, where nothing was kept. The number of the book that the batch adds is left
-/// open: other batches may commit before it does, so the version that takes the write puts its own number.
+/// Stores a batch under a token that wasn't in use. The place (commit number) is missing: other batches may commit first, so
+/// the version that takes the write sets its own number.
 #[derive(Drop)]
 pub struct TokenWrite {
     pub token: Uuid,
     /// The batch's operations, in order.
     pub ops: Shared<Sequence<Op>>,
-    /// The answers to the operations, in order.
+    /// The replies to the operations, in order.
     pub replies: Shared<Sequence<OpReply>>,
 }
 
 impl TokenWrite {
     ghost use Rattle.std.specs.Prelude.{◌≡◌, IfOk, None, Some};
 
-    /// The change of what is kept under the token, where the batch adds the book of this number. The error is that no more
-    /// owners can be counted.
+    /// Returns the change of the stored batch, with this number as its place. The error is a reference count at its maximum.
     pub(crate) fn at_place(&self, place: u64) -> Result<RowChange<Uuid, KeptBatch>, AllocError>
         ensures { IfOk result (λ change. change ≡ record {
           key = self.now.token;
@@ -54,7 +53,7 @@ impl TokenWrite {
     }
 }
 
-/// The change of one row, of whichever kind.
+/// The write of one row, of any kind.
 #[derive(Drop)]
 pub enum RowWrite {
     Entry(RowChange<Uuid, Entry>),
@@ -63,9 +62,9 @@ pub enum RowWrite {
     Token(TokenWrite),
 }
 
-/// The writes of a batch, in order. Each names the row that it finds on the book that the earlier ones left, if there is
-/// one, and the row that it puts there, if there is one. A contract sees a write of a token with the place 0, which is
-/// no commit's.
+/// The writes of a batch, in order. Each has the row that it finds in the book that the earlier writes left, and the row that
+/// it writes; either may be absent. `Version::apply` requires that the rows were found there. In the model, the write of a
+/// token has the place 0, which no commit has.
 #[derive(Drop)]
 pub struct Changes {
     writes: Vec<RowWrite>,
@@ -81,7 +80,7 @@ impl Model for Changes {
     ghost view = { λ changes. map write_of changes.writes.items };
 }
 
-/// A copy of a row, where there is one. The error is want of memory.
+/// Returns a copy of the row, if there is one. The error is out of memory.
 fn copy_of<T: Clone + Drop>(row: &Option<T>) -> Result<Option<T>, AllocError>
     requires clones { ClonesEqual T.is_clone }
     ensures { IfOk result (λ copy. copy ≡ row.now) }
@@ -104,8 +103,8 @@ impl Clone for TokenWrite {
     }
 }
 
-/// A copy of a write counts one more owner of each of its parts, and copies no text. The error is that no more owners can
-/// be counted.
+/// A clone of a write increments the reference counts of its parts, and copies no text. The error is a reference count at its
+/// maximum.
 impl Clone for RowWrite {
     ghost is_clone = { λ original copy. copy ≡ original };
 
@@ -134,7 +133,7 @@ impl Changes {
     ghost use Rattle.entry_book.specs.Writes.{wrote_agent, wrote_bundle, wrote_entry};
     ghost use Rattle.version_book.specs.Written.{write_of};
 
-    /// No writes. Takes no memory.
+    /// Makes an empty list of writes. Allocates no memory.
     pub fn new(alloc: Global) -> Changes
         ensures { result ≡ [] }
     {
@@ -143,7 +142,7 @@ impl Changes {
         }
     }
 
-    /// How many writes there are.
+    /// Returns the number of writes.
     pub fn len(&self) -> usize
         ensures { result ≡ length self.now }
     {
@@ -156,7 +155,7 @@ impl Changes {
         self.writes.is_empty()
     }
 
-    /// Adds a write of the entry of an id. The error is want of memory, and nothing has changed then.
+    /// Appends a write of the entry of an id. The error is out of memory, and then nothing has changed.
     pub fn put_entry(
         &mut self,
         id: Uuid,
@@ -172,7 +171,7 @@ impl Changes {
         Ok(())
     }
 
-    /// Adds a write of the agent of an id. The error is want of memory, and nothing has changed then.
+    /// Appends a write of the agent of an id. The error is out of memory, and then nothing has changed.
     pub fn put_agent(
         &mut self,
         id: Shared<SpiffeId>,
@@ -188,7 +187,7 @@ impl Changes {
         Ok(())
     }
 
-    /// Adds a write of the bundle of a trust domain. The error is want of memory, and nothing has changed then.
+    /// Appends a write of the bundle of a trust domain. The error is out of memory, and then nothing has changed.
     pub fn put_bundle(
         &mut self,
         domain: Shared<TrustDomain>,
@@ -204,8 +203,8 @@ impl Changes {
         Ok(())
     }
 
-    /// Adds a write of what is kept of a batch under its token, whose place is left open. The error is want of memory, and
-    /// nothing has changed then.
+    /// Appends a write that stores a batch under its token, without a place. The error is out of memory, and then nothing has
+    /// changed.
     pub fn put_token(
         &mut self,
         token: Uuid,
@@ -224,7 +223,7 @@ impl Changes {
         Ok(())
     }
 
-    /// Adds other writes behind these. The error is want of memory, and nothing has changed then.
+    /// Appends other writes. The error is out of memory, and then nothing has changed.
     pub fn append(&mut self, others: Changes) -> Result<(), AllocError>
         ensures put { OnOk result (self.new ≡ self.old ++ others) }
         ensures err { OnErr result (self.new ≡ self.old) }
@@ -233,7 +232,7 @@ impl Changes {
         self.writes.append(&mut writes)
     }
 
-    /// The writes, in order. Takes no memory.
+    /// Returns the writes, in order. Allocates no memory.
     pub fn writes(&self) -> &[RowWrite]
         ensures { map write_of result.now ≡ self.now }
     {
@@ -241,7 +240,7 @@ impl Changes {
     }
 }
 
-/// A copy has the same writes, of the same rows: it copies no text. The error is want of memory.
+/// A clone has the same writes. It shares their rows and copies no text. The error is out of memory.
 impl Clone for Changes {
     ghost is_clone = { λ original copy. copy ≡ original };
 

@@ -7,8 +7,7 @@ ghost use Rattle.version_book.specs.CommittedRows.{row_of};
 
 use std::alloc::{AllocError, Global};
 
-/// A row with the number of the commit that last wrote it. A copy of it copies no text where a copy of the row copies
-/// none.
+/// A row with the number of the commit that last wrote it. If a clone of the row copies no text, neither does a clone of this.
 #[derive(Drop)]
 pub struct CommittedRow<T> {
     pub(crate) row: T,
@@ -26,7 +25,7 @@ impl<T: Clone> Clone for CommittedRow<T> {
     }
 }
 
-/// The row without its number, lent, where there is one.
+/// Returns the row without its number, borrowed, if there is one.
 pub(crate) fn lent<T>(row: Option<&CommittedRow<T>>) -> Option<&T>
     ensures { option_copied result ≡ option_map row_of (option_copied row.entry) }
 {
@@ -36,7 +35,7 @@ pub(crate) fn lent<T>(row: Option<&CommittedRow<T>>) -> Option<&T>
     }
 }
 
-/// The row, where there is one, alone. The error is want of memory.
+/// Returns a list of the row, without its number, or an empty list if there is none. The error is out of memory.
 pub(crate) fn row_alone<T: Clone + Drop>(
     alloc: Global,
     row: Option<&CommittedRow<T>>,
@@ -51,7 +50,7 @@ pub(crate) fn row_alone<T: Clone + Drop>(
     Ok(rows)
 }
 
-/// Is there no row in either, or one in both, last written by the same commit?
+/// Returns true if there is neither row, or both were last written by the same commit.
 pub(crate) fn is_same_row<T>(one: Option<&CommittedRow<T>>, other: Option<&CommittedRow<T>>) -> bool
     ensures { IsTrue result ↔ (option_map (λ row. row.commit) (option_copied one.entry)
         ≡ option_map (λ row. row.commit) (option_copied other.entry)) }

@@ -1,4 +1,4 @@
-//! How are the entries of a version kept?
+//! How are the entries of a version stored?
 
 ghost use Rattle.std.specs.Prelude.{◌≡◌, IfOk};
 ghost use Rattle.version_book.specs.Index.{group_keys, user_keys, expiry_keys};
@@ -18,8 +18,8 @@ use std::marker::Model;
 use uuid::Uuid;
 use version_shelf::Shelf;
 
-/// The entries of a version, by id, and an index of them for each question. A contract sees the entries with their
-/// numbers, in the order of their ids.
+/// The entries of a version by id, with indexes by parent and identity, by trust domain, and by expiry. The model in contracts
+/// is the list of entries with their commit numbers, in the order of their ids.
 #[derive(Drop)]
 pub(crate) struct Entries {
     rows: Shelf<Uuid, CommittedRow<Entry>>,
@@ -48,7 +48,7 @@ impl Model for Entries {
         × IsIndex expiry_keys rows entries.expiries };
 }
 
-/// The key of an entry under its parent and identity.
+/// Returns the key of an entry under its parent and identity, in a list. The error is out of memory.
 fn group_keys(alloc: Global, entry: &Entry) -> Result<Vec<GroupKey>, AllocError>
     ensures { IfOk result (λ keys. keys.items ≡ group_keys entry.now) }
 {
@@ -60,7 +60,7 @@ fn group_keys(alloc: Global, entry: &Entry) -> Result<Vec<GroupKey>, AllocError>
     Ok(keys)
 }
 
-/// The keys of an entry under the trust domains that it names.
+/// Returns the keys of an entry under the trust domains that it names. The error is out of memory.
 fn user_keys(alloc: Global, entry: &Entry) -> Result<Vec<UserKey>, AllocError>
     ensures { IfOk result (λ keys. keys.items ≡ user_keys entry.now) }
 {
@@ -71,7 +71,7 @@ fn user_keys(alloc: Global, entry: &Entry) -> Result<Vec<UserKey>, AllocError>
     Ok(keys)
 }
 
-/// The key of an entry under its expiry, where it has one.
+/// Returns the key of an entry under its expiry, or an empty list if it has none. The error is out of memory.
 fn expiry_keys(alloc: Global, entry: &Entry) -> Result<Vec<ExpiryKey>, AllocError>
     ensures { IfOk result (λ keys. keys.items ≡ expiry_keys entry.now) }
 {
@@ -94,7 +94,7 @@ impl Entries {
     ghost use Rattle.version_book.specs.Room.{count_of_names};
     ghost use Rattle.version_book.specs.Stores.{IsAbsent, TellRows};
 
-    /// No entries. Takes no memory.
+    /// No entries. Allocates no memory.
     pub(crate) fn empty(alloc: Global) -> Entries
         ensures { result ≡ [] }
     {
@@ -106,7 +106,7 @@ impl Entries {
         }
     }
 
-    /// How many entries there are.
+    /// Returns the number of entries.
     pub(crate) fn len(&self) -> usize
         ensures count { result ≡ length self.now }
         ensures order { Ascending (of_row entry_key) self.now }
@@ -114,7 +114,7 @@ impl Entries {
         self.rows.len()
     }
 
-    /// The entries without one of them. The error is want of memory.
+    /// Returns the entries without this one, which must be among them. The error is out of memory.
     fn without(&self, alloc: Global, entry: &Entry) -> Result<Entries, AllocError>
         requires there { Within (map row_of self.now) entry.now }
         ensures { IfOk result (λ entries. entries ≡ with_row (of_row entry_key) entry.now.id None self.now) }
@@ -131,7 +131,8 @@ impl Entries {
         })
     }
 
-    /// The entries with one of whose id there is none yet. The error is want of memory.
+    /// Returns the entries with this one added. No entry may have its id yet, and there must be room for it. The error is out
+    /// of memory.
     fn with(&self, alloc: Global, row: CommittedRow<Entry>) -> Result<Entries, AllocError>
         requires absent { IsAbsent entry_key row.row.id self.now }
         requires room { length self.now + 1 ≤ most_rows }
@@ -154,7 +155,7 @@ impl Entries {
         })
     }
 
-    /// The entries without the one of an id, if there is one. The error is want of memory.
+    /// Returns the entries without the one of an id, if there is one. The error is out of memory.
     fn rest_of(&self, alloc: Global, id: &Uuid) -> Result<Entries, AllocError>
         ensures { IfOk result (λ rest. rest ≡ with_row (of_row entry_key) id.now None self.now) }
     {
@@ -164,7 +165,7 @@ impl Entries {
         }
     }
 
-    /// The entries after a change of one of them, by this commit. The error is want of memory.
+    /// Returns the entries after a change of one of them by this commit. The error is out of memory.
     pub(crate) fn after(
         &self,
         alloc: Global,
@@ -186,14 +187,14 @@ impl Entries {
         }
     }
 
-    /// The entry of an id, where there is one. Takes no memory.
+    /// Returns the entry of an id, if there is one. Allocates no memory.
     pub(crate) fn get(&self, id: &Uuid) -> Option<&Entry>
         ensures { option_copied result ≡ first (filter (λ (entry : EntryRow). bytes_eq entry.id id.now) (map row_of self.now)) }
     {
         lent(self.rows.get(id))
     }
 
-    /// The entries of a parent, lent, in the order of their ids. The error is want of memory.
+    /// Returns the entries of a parent, borrowed, in the order of their ids. The error is out of memory.
     pub(crate) fn children(
         &self,
         alloc: Global,
@@ -209,8 +210,8 @@ impl Entries {
         )
     }
 
-    /// The entries that a page lists, lent, and the id after which the next page begins, where there is one. The error is want
-    /// of memory.
+    /// Returns the entries that a page lists, borrowed, and the id after which the next page begins, if there is one. The error
+    /// is out of memory.
     pub(crate) fn page(
         &self,
         alloc: Global,
@@ -229,7 +230,7 @@ impl Entries {
         }
     }
 
-    /// The entries that a mark names, in the order of their ids. The error is want of memory.
+    /// Returns the entries that a mark names, in the order of their ids. The error is out of memory.
     pub(crate) fn at(&self, alloc: Global, mark: &Mark) -> Result<Vec<Entry>, AllocError>
         ensures { IfOk result (λ found. found.items ≡ filter (names_entry mark.now) (map row_of self.now)) }
     {
@@ -244,7 +245,8 @@ impl Entries {
         }
     }
 
-    /// Are the entries at a mark those of older entries of the same history, each last written by the same commit?
+    /// Returns true if these entries and the older ones have the same ids at a mark, each last written by the same commit. In
+    /// one history, true implies that the entries are equal.
     pub(crate) fn is_same_at(&self, older: &Entries, mark: &Mark) -> bool
         ensures same { filter (of_row (names_entry mark.now)) older.now ≡ filter (of_row (names_entry mark.now)) self.now → IsTrue result }
         ensures tells { TellRows entry_key older.now self.now → IsTrue result
@@ -267,7 +269,7 @@ impl Entries {
     }
 }
 
-/// Copies of both indexes. The error is out of memory.
+/// Clones both indexes. The error is out of memory.
 fn copies_of(
     groups: &Shelf<GroupKey, CommittedRow<Entry>>,
     users: &Shelf<UserKey, CommittedRow<Entry>>,

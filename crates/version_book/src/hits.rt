@@ -10,7 +10,7 @@ use crate::mark::{Mark, MarkKind};
 use crate::row::BookRow;
 use uuid::Uuid;
 
-/// Is there a row that the mark names?
+/// Returns true if there is a row and the mark names it.
 fn is_passed<T: BookRow>(mark: &Mark, row: &Option<T>) -> bool
     ensures { result ≡ passes (T.names mark.now) row.now }
 {
@@ -20,7 +20,7 @@ fn is_passed<T: BookRow>(mark: &Mark, row: &Option<T>) -> bool
     }
 }
 
-/// Does the mark name the entry of an id, or all entries?
+/// Returns true if the mark is that of the entry of an id, or of all entries.
 fn is_of_entry(id: &Uuid, mark: &Mark) -> bool
     ensures { result ≡ is_of_entry id.now mark.now }
 {
@@ -31,7 +31,7 @@ fn is_of_entry(id: &Uuid, mark: &Mark) -> bool
     }
 }
 
-/// Does the mark name what is kept under a token?
+/// Returns true if the mark is that of a token.
 fn is_of_token(token: &Uuid, mark: &Mark) -> bool
     ensures { result ≡ is_of_token token.now mark.now }
 {
@@ -41,7 +41,7 @@ fn is_of_token(token: &Uuid, mark: &Mark) -> bool
     }
 }
 
-/// Does the write hit the mark?
+/// Returns true if the write hits the mark.
 fn is_hit(write: &RowWrite, mark: &Mark) -> bool
     ensures { result ≡ hits (write_of write.now) mark.now }
 {
@@ -61,7 +61,7 @@ impl Changes {
     ghost use Rattle.std.specs.List.{list_any};
     ghost use Rattle.version_book.specs.Marks.{hits};
 
-    /// Does one of the writes hit the mark? Takes no memory.
+    /// Returns true if one of the writes hits the mark. Allocates no memory.
     pub fn hits(&self, mark: &Mark) -> bool
         ensures { result ≡ list_any (λ write. hits write mark.now) self.now }
     {

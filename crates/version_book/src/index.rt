@@ -1,6 +1,6 @@
-//! How is an index of entries read and kept?
+//! How is an index of entries searched and updated?
 //!
-//! An index is a shelf with an entry's row under each of its keys. Its keys end with the entry's id.
+//! An index is a shelf with an entry's row under each of its keys. The last part of a key is the entry's id.
 
 ghost use Rattle.std.specs.Prelude.{◌≡◌, ◌+◌, ◌≤◌, ◌↔◌, Bool, List, None, Some, IfOk, IsTrue, filter, length, map};
 ghost use Rattle.entry_book.specs.Order.{Ascending, Within, with_row};
@@ -17,10 +17,10 @@ use entry_book::Entry;
 use std::alloc::{AllocError, Global};
 use version_shelf::{Bound, Shelf};
 
-/// There is room for so many entries of a range from the first one on. Most parents have no more.
+/// The capacity that is reserved for the entries of a range when the first one is found. Most parents have no more.
 const FEW: usize = 16;
 
-/// The index without these keys: those of a row that is taken away. The error is want of memory.
+/// Returns the index without these keys, which must be those of a removed row. The error is out of memory.
 pub(crate) fn without_keys<K: Ord + Clone + Drop>(
     index: &Shelf<K, CommittedRow<Entry>>,
     keys: &[K],
@@ -38,7 +38,7 @@ pub(crate) fn without_keys<K: Ord + Clone + Drop>(
     Ok(rest)
 }
 
-/// The index with a row under these keys: those of a row that is put. The error is want of memory.
+/// Returns the index with a row under these keys, which must be those of the row. The error is out of memory.
 pub(crate) fn with_keys<K: Ord + Clone + Drop>(
     index: &Shelf<K, CommittedRow<Entry>>,
     keys: Vec<K>,
@@ -59,14 +59,14 @@ pub(crate) fn with_keys<K: Ord + Clone + Drop>(
     Ok(more)
 }
 
-/// The rows of an index stand in the order of their keys, so that none stands twice.
+/// The rows of an index are in strictly ascending order of their keys. The function only brings this fact into a proof.
 fn in_order<K: Ord + Clone>(index: &Shelf<K, CommittedRow<Entry>>)
     ensures { IsInOrder K.cmp index.now }
 {
     let _ = index.len();
 }
 
-/// The entries of the keys `lo <= key < hi`, lent, in the order of their ids. The error is want of memory.
+/// Returns the entries with keys `lo <= key < hi`, borrowed, in the order of their ids. The error is out of memory.
 pub(crate) fn lent_between<'a, K: Ord + Clone, L: Bound<K>, H: Bound<K>>(
     alloc: Global,
     index: &'a Shelf<K, CommittedRow<Entry>>,
@@ -88,7 +88,7 @@ pub(crate) fn lent_between<'a, K: Ord + Clone, L: Bound<K>, H: Bound<K>>(
     Ok(found)
 }
 
-/// The entries of the keys `lo <= key < hi`, in the order of their ids. The error is want of memory.
+/// Returns the entries with keys `lo <= key < hi`, in the order of their ids. The error is out of memory.
 pub(crate) fn entries_between<K: Ord + Clone>(
     alloc: Global,
     index: &Shelf<K, CommittedRow<Entry>>,
@@ -105,7 +105,8 @@ pub(crate) fn entries_between<K: Ord + Clone>(
     entries
 }
 
-/// Have the keys `lo <= key < hi` the same rows in both indexes, each last written by the same commit?
+/// Returns true if both indexes have the same entry ids in the range `lo <= key < hi`, in the same order. Each entry must also
+/// have been last written by the same commit in both.
 pub(crate) fn same_between<K: Ord + Clone>(
     one: &Shelf<K, CommittedRow<Entry>>,
     other: &Shelf<K, CommittedRow<Entry>>,

@@ -1,11 +1,11 @@
-//! Which laws hold of marks and versions?
+//! Which theorems hold about marks and versions?
 //!
-//! Each function does nothing. What it ensures is a law of the definitions, stated in `specs/Laws.antt`; a caller
-//! that calls it may rest on the law.
+//! The bodies do nothing. Each contract is a theorem about the definitions, stated in `specs/Laws.antt`; a caller may rely on
+//! it after the call.
 
 ghost use Rattle.version_book.specs.Laws.{AgreeAfter, BatchCommits, BookAfter, BookReads, BooksFollow, BooksJoin, CommitsJoin, DomainStays, FollowsJoined, HitsAtAnyPlace, HitsInBooks, LimitsFollow, PlacesPut, ReadsAfter, ReadsAgent, ReadsAll, ReadsBundle, ReadsChildren, ReadsEntry, ReadsExpiring, ReadsGroup, ReadsToken, ReadsUsers, RepliesFollow, RoomInRun, RunMayApply, Unhit, UnhitHistory, UnhitMarks};
 
-/// What each mark reads, in the words of the book's own questions.
+/// What each mark reads, in terms of the book's own lookups.
 pub fn marks()
     ensures entry { ReadsEntry }
     ensures group { ReadsGroup }
@@ -25,7 +25,8 @@ pub fn reads_after_writes()
     ensures unhit { Unhit }
 {}
 
-/// The place of what a batch keeps under its token may be left open until the batch commits.
+/// A batch's writes get the place of its stored batch when it commits. They then are its writes as that commit, and hit the
+/// same marks as before.
 pub fn places()
     ensures put { PlacesPut }
     ensures hits { HitsAtAnyPlace }
@@ -48,24 +49,24 @@ pub fn histories()
     ensures unhit_marks { UnhitMarks }
 {}
 
-/// There is room for what a batch writes.
+/// There is room for the writes of a batch that runs on a lawful book within the limits.
 pub fn room()
     ensures { RoomInRun }
 {}
 
-/// What a batch writes may be applied.
+/// The writes of a batch that runs on a lawful version within the limits may be applied to it, if its token isn't in use.
 pub fn applying()
     ensures { RunMayApply }
 {}
 
-/// What follows from lists of batches, on versions and on the plain book's list of books.
+/// Books, commits and replies for lists of batches, on versions and on the list of all books.
 pub fn batches()
     ensures books { BooksJoin }
     ensures commits { CommitsJoin }
     ensures replies { RepliesFollow }
 {}
 
-/// Which batches of a history wrote what.
+/// Whether a batch of a history hits a mark, in terms of the list of all books.
 pub fn writers()
     ensures hits { HitsInBooks }
 {}

@@ -1,4 +1,4 @@
-//! How is a row lent to a reader?
+//! A borrowed row.
 
 ghost use Rattle.std.specs.Prelude.{◌≡◌, IfOk};
 ghost use Rattle.version_shelf.specs.Shelf.{ClonesEqual};
@@ -7,7 +7,7 @@ use std::alloc::{AllocError, Global};
 use std::cmp::Ordering;
 use std::marker::Model;
 
-/// A value that whoever has it lends: to pass it on counts no owner. A contract sees the value itself.
+/// A borrowed value: to make one or to pass it on doesn't change a reference count. The model in contracts is the value itself.
 #[derive(Drop)]
 pub struct Lent<'a, T: 'a> {
     value: &'a T,
@@ -22,14 +22,14 @@ impl<'a, T: 'a> Model for Lent<'a, T> {
 impl<'a, T: 'a> Lent<'a, T> {
     ghost use Rattle.std.specs.Prelude.{◌≡◌};
 
-    /// The value, lent.
+    /// Borrows the value.
     pub fn of(value: &'a T) -> Lent<'a, T>
         ensures { result ≡ value.now }
     {
         Lent { value }
     }
 
-    /// The value.
+    /// Returns the value, borrowed.
     pub fn get(&self) -> &'a T
         ensures { result.now ≡ self.now }
     {
@@ -37,7 +37,7 @@ impl<'a, T: 'a> Lent<'a, T> {
     }
 }
 
-/// Two are equal where their values are.
+/// Two are equal if their values are.
 impl<'a, T: PartialEq + 'a> PartialEq for Lent<'a, T> {
     ghost eq = { T.eq };
 
@@ -62,7 +62,7 @@ impl<'a, T: PartialOrd + 'a> PartialOrd for Lent<'a, T> {
     }
 }
 
-/// The order is that of the values.
+/// They are ordered as their values are.
 impl<'a, T: Ord + 'a> Ord for Lent<'a, T> {
     ghost cmp = { T.cmp };
 
@@ -77,7 +77,7 @@ impl<'a, T: Ord + 'a> Ord for Lent<'a, T> {
     }
 }
 
-/// Copies of the values, in their order. The error is want of memory.
+/// Clones the values, in order. The error is out of memory.
 pub fn owned<T: Clone + Drop>(alloc: Global, values: &[Lent<'_, T>]) -> Result<Vec<T>, AllocError>
     requires clones { ClonesEqual T.is_clone }
     ensures { IfOk result (λ owned. owned.items ≡ values.now) }

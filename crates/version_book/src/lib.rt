@@ -1,48 +1,52 @@
 //! What is a version of the book, and what may a reader of one rely on?
 //!
-//! A version is the book after some commits. It is cheap to hand to a reader and never changes. It has an index for every
-//! question that an operation asks, and it can say whether what was read at an older version still stands.
+//! A version is a snapshot of the book after some commits. It is cheap to clone and never changes. It has an index for every
+//! range that an operation reads. It can also check whether what was read from an older version is unchanged.
 //!
-//! What a reader gets, and what a writer pays. No call copies the text of a row: a copy of a row counts one more owner of
-//! what it is made of. A row stands in a shelf of `version_shelf` for each of its keys, which are its own one and, of an entry,
-//! its parent with its identity, each trust domain that it names, and its expiry, if it has one. A search in a shelf compares at
-//! most 32 keys, and two of them find a range; a change of a shelf makes three of its pages anew, some 90 parts of a shelf of
-//! 16,384 rows, and never more than 1,024.
+//! Costs for readers and writers. No call copies the text of a row: cloning a row increments the reference counts of its parts.
+//! A row is stored in a shelf of `version_shelf` once for each of its keys. Each row has its own key. An entry also has one for
+//! its parent and identity, one for each trust domain that it names, and one for an expiry. A search in a shelf compares at
+//! most 32 keys, and two searches find a range. A change of a shelf builds new nodes on the path from the root to the row. They
+//! have about 90 parts at 16,384 rows, and at most 1,024.
 //!
-//! | Call | Rows that it looks at | Owners that it counts | Memory |
+//! | Call | Rows that it reads, besides those that a search compares | Reference counts that it increments | Memory that it allocates |
 //! |---|---|---|---|
-//! | `clone` | none | one, of all that the version holds | none |
+//! | `clone` | none | one, for all that the version has | none |
 //! | `number`, `domain`, `server`, `count`, `Changes::hits` | none | none | none |
-//! | `entry`, `agent`, `bundle` | the one that is asked for, once a search has found it | none | none |
-//! | `children` | those of the parent, once a search has found them | none | for a list of them, and for sorting it |
-//! | `page` | from the id from which it goes on, once a search has found it, to the one that shows that more come | none | for a list of them |
-//! | `unchanged` | those that the mark names, up to the first difference, once a search has found them | none | none |
-//! | `read` | those that the mark names, once a search has found them | those of these rows | for two lists of them, and for sorting one |
-//! | `read_after` | the same, and these again for each change | those of these rows, again for each change | for a list of them, again for each change |
-//! | `apply` | for each key of a row that goes or comes, those that a search compares | one of each part of the pages made anew; one of each other shelf, and one of the server's names | for these pages, and for a row that comes, once for each of its keys |
+//! | `entry`, `agent`, `bundle` | the one with the key | none | none |
+//! | `children` | those of the parent | none | a list of them, and for sorting it |
+//! | `page` | from its start id to the one that shows that more follow | none | a list of those that it returns |
+//! | `unchanged` | those that the mark names, up to the first difference | none | none |
+//! | `read` | those that the mark names | those of these rows | two lists of them, and for sorting one |
+//! | `read_after` | as `read` | those of these rows, again for each change | as `read`, and a list for each change |
+//! | `apply` | none | see below | the new nodes, and a written row once for each of its keys |
 //!
-//! What sharing means: a version has in common with the one before it each page that no change touched, and of the others
-//! each row that stays. They are let go with the last version that has them.
+//! For each key of a removed or written row, `apply` makes a search and builds new nodes. It increments a reference count for
+//! each part of a new node, for each other shelf, and for the server's names. It increments those of a written row once for
+//! each of its keys.
 //!
-//! - [`Version`]: the rows of the book, each with the number of the commit that last wrote it. [`RowCounts`] tells how many there
-//!   are of each kind.
-//! - [`Lent`]: a row that a version lends to whoever asks it; [`owned`] makes copies of such rows, which are kept as long as anyone
-//!   likes.
-//! - [`Mark`]: one thing that a batch can read, such as the entries of a parent, or what is kept under a token; [`MarkKind`]
-//!   says which. [`RowsRead`]: the rows that it reads.
-//! - [`Changes`]: the writes of a batch, in order, which make the next version. Each is a [`RowWrite`]: the [`RowChange`] of one
-//!   row, or the [`TokenWrite`] of what is kept under the batch's token, whose place the next version puts.
-//! - [`laws`]: what holds of marks, writes and histories of versions, such as that a mark that no write hits reads the same.
+//! Sharing: a version has in common with the previous one each node that no change touched, and in the other nodes each row
+//! that is unchanged. The last version that has them frees them.
 //!
-//! The definitions stand in `specs/`: what marks read and which writes hit them in `Marks`, the rows of versions in `CommittedRows`,
-//! how versions follow one another in `History`, what there has to be room for in `Room`, the writes of [`Changes`] and the
-//! places that are put into them in `Written`; the others are for this crate's own contracts. Nothing outside this crate knows how the rows are kept:
+//! - [`Version`]: the rows of the book, each with the number of the commit that last wrote it. [`RowCounts`] has the number of
+//!   rows of each kind.
+//! - [`Lent`]: a row borrowed from a version. [`owned`] clones such rows, so that they outlive the version.
+//! - [`Mark`]: an entry of a read set: one thing that a batch can read, such as the entries of a parent, or the batch stored
+//!   under a token. [`MarkKind`] says which. [`RowsRead`]: the rows that it reads.
+//! - [`Changes`]: the writes of a batch, in order, which make the next version. Each is a [`RowWrite`]: the [`RowChange`] of
+//!   one row, or the [`TokenWrite`] that stores the batch under its token, with a place that the next version sets.
+//! - [`laws`]: theorems about marks, writes and histories of versions, such as that a mark that no write hits reads the same.
 //!
-//! - `store`: the sets of rows of a version; `entries` and `row_shelf`: the shelves of a set; `index` and `key`: how an index is
-//!   kept and ordered, and `parent` where the keys of a parent stand in it; `committed_row`: their rows.
+//! The definitions are in `specs/`. `Marks` defines what marks read and which writes hit them, `CommittedRows` the rows of
+//! versions, and `History` how versions follow one another. `Applying` defines which writes may be applied, `Room` what there
+//! has to be room for, and `Written` the writes of [`Changes`] with the places that are set in them. `Index` and `Stores` are
+//! for this crate's own contracts. No other crate depends on how the rows are stored:
+//!
+//! - `store`: the sets of rows of a version; `entries` and `row_shelf`: the shelves of a set; `index` and `key`: how an index
+//!   is stored and ordered; `parent`: the bounds of a parent's keys; `committed_row`: rows with their commit numbers.
 //! - `names`: what all versions of a book have in common.
-//! - `row`: what marks and writes ask of a row; `hits`: which writes hit a mark; `overlay`: what a mark reads after writes; `page`:
-//!   which rows a page lists.
+//! - `row`: the key of a row, and whether a mark names it; `hits`: which writes hit a mark; `overlay`: what a mark reads after
+//!   writes; `page`: which rows a page lists.
 #![tactic(auto)]
 
 mod changes;

@@ -9,12 +9,12 @@ use std::alloc::AllocError;
 use std::marker::Model;
 use uuid::Uuid;
 
-/// The rows of a book that a mark names.
+/// Which rows of a book a mark names.
 #[derive(Drop, PartialEq, Eq)]
 pub enum MarkKind {
     /// The entry of an id, or its absence.
     Entry(Uuid),
-    /// The entries of a parent and an identity, in this order.
+    /// The entries of a parent (the first ID) and an identity (the second).
     Group(Shared<SpiffeId>, Shared<SpiffeId>),
     /// The entries of a parent.
     Children(Shared<SpiffeId>),
@@ -28,11 +28,11 @@ pub enum MarkKind {
     Agent(Shared<SpiffeId>),
     /// The bundle of a trust domain, or its absence.
     Bundle(Shared<TrustDomain>),
-    /// What is kept under a token, or that nothing is.
+    /// The batch stored under a token, or its absence.
     Token(Uuid),
 }
 
-/// Where the rows lie that a mark names: the two bounds of a range of an index, where it is no single row.
+/// Where the rows are that a mark names: the two bounds of a range of an index, or a single row.
 #[derive(Drop)]
 pub(crate) enum IndexRange {
     SingleRow,
@@ -41,8 +41,8 @@ pub(crate) enum IndexRange {
     Expiries(ExpiryKey, ExpiryKey),
 }
 
-/// One thing that a batch can read. It is made with the bounds of its range, so that `unchanged` takes no memory.
-/// What it names is all that a contract sees of it: marks that name the same are equal.
+/// An entry of a read set: one thing that a batch can read. It is made with the bounds of its range, so that `unchanged`
+/// allocates no memory. The model in contracts is its kind alone: marks that name the same are equal.
 #[derive(Drop)]
 pub struct Mark {
     kind: MarkKind,
@@ -66,7 +66,7 @@ impl Mark {
     ghost use Rattle.version_book.specs.declared.mark.MarkKind.TheVariants as mark;
     ghost use Rattle.version_book.specs.Index.{index_range_of};
 
-    /// The entry of an id, or its absence.
+    /// Makes the mark of the entry of an id, or its absence.
     pub fn entry(id: Uuid) -> Mark
         ensures { result ≡ mark.Entry id }
     {
@@ -76,7 +76,7 @@ impl Mark {
         }
     }
 
-    /// The entries of a parent and an identity. The error is want of memory.
+    /// Makes the mark of the entries of a parent and an identity. The error is a reference count at its maximum.
     pub fn group(parent: &Shared<SpiffeId>, identity: &Shared<SpiffeId>) -> Result<Mark, AllocError>
         ensures { IfOk result (λ made. made ≡ mark.Group parent.now identity.now) }
     {
@@ -96,7 +96,7 @@ impl Mark {
         })
     }
 
-    /// The entries of a parent. The error is want of memory.
+    /// Makes the mark of the entries of a parent. The error is a reference count at its maximum.
     pub fn children(parent: &Shared<SpiffeId>) -> Result<Mark, AllocError>
         ensures { IfOk result (λ made. made ≡ mark.Children parent.now) }
     {
@@ -108,7 +108,7 @@ impl Mark {
         })
     }
 
-    /// The entries that name a trust domain. The error is want of memory.
+    /// Makes the mark of the entries that name a trust domain. The error is a reference count at its maximum.
     pub fn users(domain: &Shared<TrustDomain>) -> Result<Mark, AllocError>
         ensures { IfOk result (λ made. made ≡ mark.Users domain.now) }
     {
@@ -120,7 +120,7 @@ impl Mark {
         })
     }
 
-    /// The entries that expire before a moment, in seconds since the epoch; an expiry of 0 is none.
+    /// Makes the mark of the entries that expire before a moment, in seconds since the epoch; an expiry of 0 is none.
     pub fn expiring(moment: u64) -> Mark
         ensures { result ≡ mark.Expiring moment }
     {
@@ -130,7 +130,7 @@ impl Mark {
         }
     }
 
-    /// All entries.
+    /// Makes the mark of all entries.
     pub fn all() -> Mark
         ensures { result ≡ mark.All }
     {
@@ -142,7 +142,7 @@ impl Mark {
         }
     }
 
-    /// The agent of an id, or its absence.
+    /// Makes the mark of the agent of an id, or its absence.
     pub fn agent(id: Shared<SpiffeId>) -> Mark
         ensures { result ≡ mark.Agent id }
     {
@@ -152,7 +152,7 @@ impl Mark {
         }
     }
 
-    /// The bundle of a trust domain, or its absence.
+    /// Makes the mark of the bundle of a trust domain, or its absence.
     pub fn bundle(domain: Shared<TrustDomain>) -> Mark
         ensures { result ≡ mark.Bundle domain }
     {
@@ -162,7 +162,7 @@ impl Mark {
         }
     }
 
-    /// What is kept under a token, or that nothing is.
+    /// Makes the mark of the batch stored under a token, or its absence.
     pub fn token(token: Uuid) -> Mark
         ensures { result ≡ mark.Token token }
     {
@@ -172,14 +172,14 @@ impl Mark {
         }
     }
 
-    /// Which rows the mark names.
+    /// Returns which rows the mark names.
     pub fn kind(&self) -> &MarkKind
         ensures { result.now ≡ self.now }
     {
         &self.kind
     }
 
-    /// Where these rows lie.
+    /// Returns where these rows are.
     pub(crate) fn index_range(&self) -> &IndexRange
         ensures { result.now ≡ index_range_of self.now }
     {
@@ -187,7 +187,7 @@ impl Mark {
     }
 }
 
-/// A clone names the same. The error is that memory, or one more owner of an ID, was refused.
+/// A clone names the same rows. The error is a reference count at its maximum.
 impl Clone for Mark {
     ghost is_clone = { λ original copy. copy ≡ original };
 

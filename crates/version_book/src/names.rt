@@ -5,7 +5,7 @@ use spiffe_name::{SpiffeId, TrustDomain};
 use std::alloc::{AllocError, Global};
 use std::marker::Model;
 
-/// The trust domain of a book's server, and the server's ID. A contract sees the trust domain.
+/// The trust domain of a book's server, and the server's ID. The model in contracts is the trust domain.
 #[derive(Drop)]
 pub(crate) struct ServerNames {
     domain: TrustDomain,
@@ -27,7 +27,7 @@ impl ServerNames {
     ghost use Rattle.std.specs.Prelude.{◌≡◌, IfOk};
     ghost use Rattle.spiffe_name.specs.Id.{server_text};
 
-    /// The names of a trust domain's server. The error is want of memory.
+    /// Makes the names of a trust domain's server. The error is out of memory.
     pub(crate) fn of(alloc: Global, domain: TrustDomain) -> Result<ServerNames, AllocError>
         ensures { IfOk result (λ names. names ≡ domain) }
     {
@@ -37,14 +37,14 @@ impl ServerNames {
         Ok(ServerNames { domain, server })
     }
 
-    /// The trust domain.
+    /// Returns the trust domain.
     pub(crate) fn domain(&self) -> &TrustDomain
         ensures { result.now ≡ self.now }
     {
         &self.domain
     }
 
-    /// The server's ID.
+    /// Returns the server's ID.
     pub(crate) fn server(&self) -> &Shared<SpiffeId>
         ensures { result.now ≡ server_text self.now }
     {

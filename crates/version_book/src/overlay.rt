@@ -14,7 +14,7 @@ use crate::rows_read::RowsRead;
 use entry_book::KeptBatch;
 use std::alloc::{AllocError, Global};
 
-/// Do these bytes stand before the others?
+/// Returns true if these bytes are less than the others.
 #[tactic(auto, unfolding(entry_book::specs::Order::is_before))]
 fn is_before(bytes: &[u8], others: &[u8]) -> bool
     ensures { result ≡ is_before bytes.now others.now }
@@ -22,7 +22,7 @@ fn is_before(bytes: &[u8], others: &[u8]) -> bool
     bytes.cmp(others).is_lt()
 }
 
-/// Copies the rows whose keys stand before this one.
+/// Appends copies of the rows whose keys are less than this one. The error is out of memory.
 fn push_before<T: BookRow>(rows: &[T], key: &[u8], out: &mut Vec<T>) -> Result<(), AllocError>
     ensures { OnOk result (out.new.items ≡ out.old.items ++ filter (λ row. is_before (T.key row) key.now) rows.now) }
 {
@@ -34,7 +34,7 @@ fn push_before<T: BookRow>(rows: &[T], key: &[u8], out: &mut Vec<T>) -> Result<(
     Ok(())
 }
 
-/// Copies the rows whose keys stand behind this one.
+/// Appends copies of the rows whose keys are greater than this one. The error is out of memory.
 fn push_behind<T: BookRow>(rows: &[T], key: &[u8], out: &mut Vec<T>) -> Result<(), AllocError>
     ensures { OnOk result (out.new.items ≡ out.old.items ++ filter (λ row. is_before key.now (T.key row)) rows.now) }
 {
@@ -46,7 +46,7 @@ fn push_behind<T: BookRow>(rows: &[T], key: &[u8], out: &mut Vec<T>) -> Result<(
     Ok(())
 }
 
-/// The rows with the new one, or none, in the place of those of a key. The error is want of memory.
+/// Returns the rows with the new row, if any, in place of the row with this key. The error is out of memory.
 #[tactic(auto, unfolding(entry_book::specs::Order::with_row))]
 fn with_row<T: BookRow>(
     alloc: Global,
@@ -65,7 +65,7 @@ fn with_row<T: BookRow>(
     Ok(out)
 }
 
-/// The row, where there is one and the mark names it. The error is want of memory.
+/// Returns a copy of the row, if there is one and the mark names it. The error is out of memory.
 fn kept<T: BookRow>(mark: &Mark, row: &Option<T>) -> Result<Option<T>, AllocError>
     ensures { IfOk result (λ found. found ≡ kept (T.names mark.now) row.now) }
 {
@@ -77,7 +77,7 @@ fn kept<T: BookRow>(mark: &Mark, row: &Option<T>) -> Result<Option<T>, AllocErro
     Ok(None)
 }
 
-/// The rows that a mark names, after a write that puts this row, or none, under a key. The error is want of memory.
+/// Returns the rows that a mark names, after a write of this row, or of none, under a key. The error is out of memory.
 fn rows_after<T: BookRow>(
     alloc: Global,
     rows: &[T],
@@ -91,7 +91,8 @@ fn rows_after<T: BookRow>(
     with_row(alloc, rows, key, new)
 }
 
-/// What is kept under the token that a mark names, after a write whose place is left open. The error is want of memory.
+/// Returns the stored batches that a mark names, after a write that has no place yet: its place is 0. The error is out of
+/// memory.
 fn tokens_after(
     alloc: Global,
     tokens: &[KeptBatch],
@@ -110,7 +111,7 @@ fn tokens_after(
     rows_after(alloc, tokens, mark, key, &change.new)
 }
 
-/// What the mark reads after one write more. The error is want of memory.
+/// Returns what the mark reads after one more write. The error is out of memory.
 fn after_write(
     alloc: Global,
     reading: RowsRead,
@@ -144,7 +145,7 @@ fn after_write(
     Ok(reading)
 }
 
-/// What the mark reads after these writes. The error is want of memory.
+/// Returns what the mark reads after these writes. The error is out of memory.
 pub(crate) fn after_changes(
     alloc: Global,
     reading: RowsRead,

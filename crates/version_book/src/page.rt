@@ -1,6 +1,7 @@
 //! Which entries of a version does a page list?
 //!
-//! No row is looked at before the id from which the page goes on, and none after the one that shows that more come than it lists.
+//! The search starts at the id after which the page begins. It ends with the row that shows that more follow than the page
+//! lists.
 
 ghost use Rattle.std.specs.Prelude.{◌≡◌, ◌&&◌, ◌++◌, ◌∷◌, [], IfOk, OnOk, None, filter, length, map, nat_lt, take, if◌then◌else◌};
 ghost use Rattle.std.specs.Map.{values_of};
@@ -15,7 +16,7 @@ use std::alloc::{AllocError, Global};
 use uuid::Uuid;
 use version_shelf::Range;
 
-/// Puts the entry behind those listed, and answers its id, which is the last one then. The error is want of memory.
+/// Appends the entry to the list, and returns its id, which now is the last one. The error is out of memory.
 #[tactic(auto, using(entry_book::proofs::Pages::last_of))]
 fn push_last<'a>(
     listed: &mut Vec<Lent<'a, Entry>>,
@@ -28,8 +29,8 @@ fn push_last<'a>(
     Ok(Some(*entry.id()))
 }
 
-/// The first of these rows that the page lists, lent, as many as it has room for, and the id after which the next page begins, where
-/// there is one. The error is want of memory.
+/// Returns those of these rows that the page lists, borrowed, up to its size. Also returns the id after which the next page
+/// begins, if there is one. The error is out of memory.
 pub(crate) fn page_of<'a>(
     alloc: Global,
     query: &PageQuery,

@@ -6,13 +6,14 @@ use spiffe_name::SpiffeId;
 use std::cmp::Ordering;
 use version_shelf::Bound;
 
-/// Before the keys of a parent's entries. No key is made, so no owner of the parent's ID is counted.
+/// The bound before the keys of a parent's entries. It borrows the parent's ID, so that no reference count is incremented for a
+/// key.
 #[derive(Drop)]
 pub(crate) struct ParentStart<'a> {
     pub(crate) parent: &'a Shared<SpiffeId>,
 }
 
-/// Behind the keys of a parent's entries.
+/// The bound after the keys of a parent's entries.
 #[derive(Drop)]
 pub(crate) struct ParentEnd<'a> {
     pub(crate) parent: &'a Shared<SpiffeId>,

@@ -1,4 +1,4 @@
-//! What do marks and writes ask of a row?
+//! What do marks and writes need to know of a row?
 
 ghost use Rattle.std.specs.Prelude.{◌≡◌, Bool, IfOk, List, MatchOption, bytes_eq, false, refl, ℕ};
 ghost use Rattle.std.specs.Cmp.Lexicographic.{slice_cmp};
@@ -10,7 +10,7 @@ use spiffe_name::{SpiffeId, TrustDomain};
 use std::alloc::AllocError;
 use uuid::Uuid;
 
-/// A row of a book: it has a key, by whose bytes rows are ordered, and there are marks that name it.
+/// A row of a book. It has a key, by whose bytes rows are ordered, and marks that name it.
 pub(crate) trait BookRow: Drop {
     ghost use Rattle.version_book.specs.declared.mark.MarkKind.{MarkKind};
 
@@ -18,24 +18,24 @@ pub(crate) trait BookRow: Drop {
 
     ghost names: { MarkKind → Self → Bool };
 
-    /// The bytes of its key.
+    /// Returns the bytes of its key.
     fn key(&self) -> &[u8]
         ensures { result.now ≡ key self.now };
 
-    /// Is it one of the rows that the mark names?
+    /// Returns true if it is one of the rows that the mark names.
     fn is_named(&self, mark: &Mark) -> bool
         ensures { result ≡ names mark.now self.now };
 
-    /// One more owner of the same row. The error is that no more can be counted.
+    /// Returns a clone of the row, which shares its texts. The error is a reference count at its maximum.
     fn again(&self) -> Result<Self, AllocError>
         ensures { IfOk result (λ copy. copy ≡ self.now) };
 }
 
-/// A row that marks name by its key alone. The key has a type of its own, and is ordered by its bytes.
+/// A row that marks name only by its key. The key has a type of its own, and is ordered by its bytes.
 pub(crate) trait KeyedRow<K: Ord>: BookRow {
     ghost bytes: { K → List ℕ };
 
-    /// The key of the row that the mark names, where it names one of these rows.
+    /// Returns the key of the row that the mark names, or `None` if it names no row of this type.
     fn key_in(mark: &Mark) -> Option<&K>
         ensures { MatchOption result ((row : Self) → Self.names mark.now row ≡ false)
             (λ key. (row : Self) → Self.names mark.now row ≡ bytes_eq (Self.key row) (bytes key.now)) };

@@ -1,4 +1,4 @@
-//! How are the rows of a set kept that marks name one at a time?
+//! How is a set of rows stored that marks name only by their keys?
 
 ghost use Rattle.std.specs.Prelude.{◌≡◌, ◌≤◌, ◌+◌, IfOk, IfSome, length, option_map};
 ghost use Rattle.version_shelf.specs.Shelf.{ClonesEqual, with_key, without_key, most_rows};
@@ -13,7 +13,8 @@ use std::alloc::{AllocError, Global};
 use std::marker::Model;
 use version_shelf::Shelf;
 
-/// The rows of a set, each under its own key. A contract sees the rows with their numbers, in the order of their keys.
+/// The rows of a set, each under its own key. The model in contracts is the list of rows with their commit numbers, in the
+/// order of their keys.
 #[derive(Drop)]
 pub(crate) struct RowShelf<K: Ord, T: KeyedRow<K>> {
     rows: Shelf<K, CommittedRow<T>>,
@@ -40,7 +41,7 @@ impl<K: Ord + Clone + Drop, T: KeyedRow<K> + Clone> RowShelf<K, T> {
     ghost use Rattle.version_book.specs.Stores.{TellRows};
     ghost use Rattle.version_shelf.specs.Shelf.{ClonesEqual, most_rows};
 
-    /// No rows. Takes no memory.
+    /// No rows. Allocates no memory.
     pub(crate) fn empty(alloc: Global) -> RowShelf<K, T>
         ensures { result ≡ [] }
     {
@@ -49,7 +50,7 @@ impl<K: Ord + Clone + Drop, T: KeyedRow<K> + Clone> RowShelf<K, T> {
         }
     }
 
-    /// The same rows. The error is that no more owners can be counted.
+    /// Returns a clone of the set. The error is a reference count at its maximum.
     pub(crate) fn again(&self) -> Result<RowShelf<K, T>, AllocError>
         ensures { IfOk result (λ shelf. shelf ≡ self.now) }
     {
@@ -58,7 +59,7 @@ impl<K: Ord + Clone + Drop, T: KeyedRow<K> + Clone> RowShelf<K, T> {
         })
     }
 
-    /// How many rows there are.
+    /// Returns the number of rows.
     pub(crate) fn len(&self) -> usize
         ensures count { result ≡ length self.now }
         ensures order { Ascending (of_row T.key) self.now }
@@ -66,7 +67,7 @@ impl<K: Ord + Clone + Drop, T: KeyedRow<K> + Clone> RowShelf<K, T> {
         self.rows.len()
     }
 
-    /// The rows after a change of one of them, by this commit. The error is want of memory.
+    /// Returns the rows after a change of one of them by this commit. The error is out of memory.
     pub(crate) fn after(
         &self,
         change: &RowChange<K, T>,
@@ -82,14 +83,15 @@ impl<K: Ord + Clone + Drop, T: KeyedRow<K> + Clone> RowShelf<K, T> {
         Ok(RowShelf { rows })
     }
 
-    /// The row of a key, where there is one. Takes no memory.
+    /// Returns the row of a key, if there is one. Allocates no memory.
     pub(crate) fn get(&self, key: &K) -> Option<&T>
         ensures { option_copied result ≡ first (filter (λ row. bytes_eq (T.key row) (T.bytes key.now)) (map row_of self.now)) }
     {
         lent(self.rows.get(key))
     }
 
-    /// The row that a mark names, where it names one of these rows and there is one. The error is want of memory.
+    /// Returns a list of the row that a mark names; it is empty if the mark names no row of this set. The error is out of
+    /// memory.
     pub(crate) fn at(&self, alloc: Global, mark: &Mark) -> Result<Vec<T>, AllocError>
         requires { ClonesEqual T.is_clone }
         ensures { IfOk result (λ found. found.items ≡ filter (T.names mark.now) (map row_of self.now)) }
@@ -100,7 +102,8 @@ impl<K: Ord + Clone + Drop, T: KeyedRow<K> + Clone> RowShelf<K, T> {
         }
     }
 
-    /// Is the row at a mark that of older rows of the same history, last written by the same commit?
+    /// Returns true if both sets have a row at a mark that was last written by the same commit, or neither has one. In one
+    /// history, true implies that the rows are equal.
     pub(crate) fn is_same_at(&self, older: &RowShelf<K, T>, mark: &Mark) -> bool
         ensures same { filter (of_row (T.names mark.now)) older.now ≡ filter (of_row (T.names mark.now)) self.now → IsTrue result }
         ensures tells { TellRows T.key older.now self.now → IsTrue result
@@ -113,8 +116,8 @@ impl<K: Ord + Clone + Drop, T: KeyedRow<K> + Clone> RowShelf<K, T> {
     }
 }
 
-/// The shelf with a row under a key, in the place of the one that it has there. A shelf that is full has room once that one is
-/// gone. The error is want of memory.
+/// Returns the shelf with a row under a key, in place of the one that has this key. If the shelf is full, that one is removed
+/// first, which makes room. The error is out of memory.
 fn put_row<K: Ord + Clone + Drop, T: Clone + Drop>(
     shelf: &Shelf<K, CommittedRow<T>>,
     key: K,
@@ -131,7 +134,7 @@ fn put_row<K: Ord + Clone + Drop, T: Clone + Drop>(
     shelf.without(&key)?.with(key, row)
 }
 
-/// The shelf after a change of one row, by this commit. The error is want of memory.
+/// Returns the shelf after a change of one row by this commit. The error is out of memory.
 fn after_change<K: Ord + Clone + Drop, T: Clone + Drop>(
     shelf: &Shelf<K, CommittedRow<T>>,
     change: &RowChange<K, T>,

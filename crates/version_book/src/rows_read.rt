@@ -5,8 +5,8 @@ ghost use Rattle.std.specs.Prelude.{◌≡◌};
 use entry_book::{Agent, Bundle, Entry, KeptBatch};
 use std::marker::Model;
 
-/// The rows that a mark reads, whole, in the order of their keys: entries, or an agent, or a bundle, or what is kept under
-/// a token; perhaps none. A contract sees the part of the book that they are.
+/// The rows that a mark reads, whole and in the order of their keys: entries, an agent, a bundle or a stored batch, possibly
+/// none. The model in contracts is the book of these rows alone.
 #[derive(Drop)]
 pub struct RowsRead {
     pub(crate) entries: Vec<Entry>,
@@ -31,35 +31,35 @@ impl Model for RowsRead {
 impl RowsRead {
     ghost use Rattle.std.specs.Prelude.{◌≡◌};
 
-    /// The entries that were read, in the order of their ids.
+    /// Returns the entries that were read, in the order of their ids.
     pub fn entries(&self) -> &[Entry]
         ensures { result.now ≡ self.now.entries }
     {
         self.entries.as_slice()
     }
 
-    /// The agent that was read; at most one.
+    /// Returns the agent that was read; at most one.
     pub fn agents(&self) -> &[Agent]
         ensures { result.now ≡ self.now.agents }
     {
         self.agents.as_slice()
     }
 
-    /// The bundle that was read; at most one.
+    /// Returns the bundle that was read; at most one.
     pub fn bundles(&self) -> &[Bundle]
         ensures { result.now ≡ self.now.bundles }
     {
         self.bundles.as_slice()
     }
 
-    /// What was read that is kept under a token; at most one.
+    /// Returns the stored batch that was read; at most one.
     pub fn tokens(&self) -> &[KeptBatch]
         ensures { result.now ≡ self.now.tokens }
     {
         self.tokens.as_slice()
     }
 
-    /// The entries that were read, in the order of their ids, to keep.
+    /// Returns the entries that were read, in the order of their ids, by value.
     pub fn into_entries(self) -> Vec<Entry>
         ensures { result.items ≡ self.entries }
     {
@@ -67,7 +67,7 @@ impl RowsRead {
         entries
     }
 
-    /// The agent that was read, to keep; at most one.
+    /// Returns the agent that was read, by value; at most one.
     pub fn into_agents(self) -> Vec<Agent>
         ensures { result.items ≡ self.agents }
     {
@@ -75,7 +75,7 @@ impl RowsRead {
         agents
     }
 
-    /// The bundle that was read, to keep; at most one.
+    /// Returns the bundle that was read, by value; at most one.
     pub fn into_bundles(self) -> Vec<Bundle>
         ensures { result.items ≡ self.bundles }
     {
@@ -83,7 +83,7 @@ impl RowsRead {
         bundles
     }
 
-    /// What was read that is kept under a token, to keep; at most one.
+    /// Returns the stored batch that was read, by value; at most one.
     pub fn into_tokens(self) -> Vec<KeptBatch>
         ensures { result.items ≡ self.tokens }
     {

@@ -1,4 +1,4 @@
-//! How are the rows of a version kept?
+//! How are the rows of a version stored?
 
 ghost use Rattle.std.specs.Prelude.{◌≡◌};
 
@@ -14,7 +14,8 @@ use std::alloc::{AllocError, Global};
 use std::marker::Model;
 use uuid::Uuid;
 
-/// The four sets of rows of a version. A contract sees the rows with their numbers, in the order of their keys.
+/// The four sets of rows of a version. The model in contracts is their rows with their commit numbers, in the order of their
+/// keys.
 #[derive(Drop)]
 pub(crate) struct Store {
     entries: Entries,
@@ -52,7 +53,7 @@ impl Store {
     ghost use Rattle.version_book.specs.declared.changes.RowWrite.TheVariants as write;
     ghost use Rattle.version_book.specs.Written.{placed, placed_write, write_of};
 
-    /// No rows. Takes no memory.
+    /// No rows. Allocates no memory.
     pub(crate) fn empty(alloc: Global) -> Store
         ensures { result ≡ no_rows }
     {
@@ -64,7 +65,7 @@ impl Store {
         }
     }
 
-    /// How many entries there are.
+    /// Returns the number of entries.
     pub(crate) fn count_of_entries(&self) -> usize
         ensures count { result ≡ length self.now.entries }
         ensures order { Ascending (of_row entry_key) self.now.entries }
@@ -72,7 +73,7 @@ impl Store {
         self.entries.len()
     }
 
-    /// How many agents there are.
+    /// Returns the number of agents.
     pub(crate) fn count_of_agents(&self) -> usize
         ensures count { result ≡ length self.now.agents }
         ensures order { Ascending (of_row agent_key) self.now.agents }
@@ -80,7 +81,7 @@ impl Store {
         self.agents.len()
     }
 
-    /// How many bundles there are.
+    /// Returns the number of bundles.
     pub(crate) fn count_of_bundles(&self) -> usize
         ensures count { result ≡ length self.now.bundles }
         ensures order { Ascending (of_row bundle_key) self.now.bundles }
@@ -88,7 +89,7 @@ impl Store {
         self.bundles.len()
     }
 
-    /// Under how many tokens something is kept.
+    /// Returns the number of tokens under which a batch is stored.
     pub(crate) fn count_of_tokens(&self) -> usize
         ensures count { result ≡ length self.now.tokens }
         ensures order { Ascending (of_row token_key) self.now.tokens }
@@ -96,7 +97,7 @@ impl Store {
         self.tokens.len()
     }
 
-    /// The sets of rows together, where memory was there for each of them.
+    /// Makes a store of the four sets. It fails if making one of them failed.
     fn of(
         entries: Result<Entries, AllocError>,
         agents: Result<RowShelf<Shared<SpiffeId>, Agent>, AllocError>,
@@ -120,8 +121,8 @@ impl Store {
         })
     }
 
-    /// The rows after one write, by this commit, whose number is put where the place was left open. The error is want of
-    /// memory.
+    /// Returns the rows after one write by this commit. The commit's number is set as the place of a stored batch. The error is
+    /// out of memory.
     fn after_write(&self, alloc: Global, write: &RowWrite, commit: u64) -> Result<Store, AllocError>
         requires fits { FitsBook (placed_write commit (write_of write.now)) (book_of self.now) }
         requires room { RoomFor (placed_write commit (write_of write.now)) (book_of self.now) }
@@ -153,7 +154,7 @@ impl Store {
         }
     }
 
-    /// What is kept under tokens after a write, by this commit. The error is want of memory.
+    /// Returns the stored batches after a write by this commit. The error is out of memory.
     fn tokens_after(
         &self,
         token: &TokenWrite,
@@ -166,8 +167,8 @@ impl Store {
         self.tokens.after(&change, commit)
     }
 
-    /// The rows after these writes, one after another, by this commit, whose number is put where the place was left open.
-    /// The error is want of memory.
+    /// Returns the rows after these writes, one after another, by this commit. The commit's number is set as the place of a
+    /// stored batch. The error is out of memory.
     pub(crate) fn after_writes(
         &self,
         alloc: Global,
@@ -185,28 +186,28 @@ impl Store {
         Ok(store)
     }
 
-    /// The entry of an id, where there is one. Takes no memory.
+    /// Returns the entry of an id, if there is one. Allocates no memory.
     pub(crate) fn entry(&self, id: &Uuid) -> Option<&Entry>
         ensures { option_copied result ≡ entry_at id.now (book_of self.now) }
     {
         self.entries.get(id)
     }
 
-    /// The agent of an id, where there is one. Takes no memory.
+    /// Returns the agent of an id, if there is one. Allocates no memory.
     pub(crate) fn agent(&self, id: &Shared<SpiffeId>) -> Option<&Agent>
         ensures { option_copied result ≡ agent_at id.now (book_of self.now) }
     {
         self.agents.get(id)
     }
 
-    /// The bundle of a trust domain, where there is one. Takes no memory.
+    /// Returns the bundle of a trust domain, if there is one. Allocates no memory.
     pub(crate) fn bundle(&self, domain: &Shared<TrustDomain>) -> Option<&Bundle>
         ensures { option_copied result ≡ bundle_at domain.now (book_of self.now) }
     {
         self.bundles.get(domain)
     }
 
-    /// The entries of a parent, lent, in the order of their ids. The error is want of memory.
+    /// Returns the entries of a parent, borrowed, in the order of their ids. The error is out of memory.
     pub(crate) fn children(
         &self,
         alloc: Global,
@@ -217,8 +218,8 @@ impl Store {
         self.entries.children(alloc, parent)
     }
 
-    /// The entries that a page lists, lent, and the id after which the next page begins, where there is one. The error is want
-    /// of memory.
+    /// Returns the entries that a page lists, borrowed, and the id after which the next page begins, if there is one. The error
+    /// is out of memory.
     pub(crate) fn page(
         &self,
         alloc: Global,
@@ -230,7 +231,7 @@ impl Store {
         self.entries.page(alloc, query)
     }
 
-    /// The rows that a mark names. The error is want of memory.
+    /// Returns the rows that a mark names. The error is out of memory.
     pub(crate) fn read(&self, alloc: Global, mark: &Mark) -> Result<RowsRead, AllocError>
         ensures { IfOk result (λ reading. reading ≡ reads mark.now (book_of self.now)) }
     {
@@ -242,7 +243,8 @@ impl Store {
         })
     }
 
-    /// Are the rows at a mark those of older rows of the same history, each last written by the same commit?
+    /// Returns true if these rows and the older ones have the same keys at a mark, each last written by the same commit. In one
+    /// history, true implies that the rows are equal.
     pub(crate) fn is_same_at(&self, older: &Store, mark: &Mark) -> bool
         ensures same { marked mark.now older.now ≡ marked mark.now self.now → IsTrue result }
         ensures tells { NumbersTell older.now self.now → IsTrue result → marked mark.now older.now ≡ marked mark.now self.now }

@@ -1,4 +1,4 @@
-//! What can a version of the book be asked, and how is the next one made?
+//! What can be read from a version of the book, and how is the next one made?
 
 ghost use Rattle.std.specs.Prelude.{◌≡◌};
 
@@ -15,7 +15,7 @@ use std::alloc::{AllocError, Global};
 use std::marker::Model;
 use uuid::Uuid;
 
-/// How many rows of each kind a version has.
+/// The number of rows of each kind in a version.
 #[derive(Clone, Copy, PartialEq, Eq)]
 pub struct RowCounts {
     pub entries: usize,
@@ -24,20 +24,19 @@ pub struct RowCounts {
     pub tokens: usize,
 }
 
-/// What all owners of a version share.
+/// What all clones of a version share.
 #[derive(Drop)]
 struct Body {
     names: Shared<ServerNames>,
     store: Store,
 }
 
-/// One version of the book of a trust domain's server. It is never changed: a reader keeps it for as long as it likes,
-/// and a writer makes the next one. Each row has the number of the commit that last wrote it. A contract sees the trust
-/// domain, the number, and the rows with their numbers.
+/// A snapshot of the book of a trust domain's server. It never changes: a reader may keep it for any time, and a writer makes
+/// the next one. Each row has the number of the commit that last wrote it. The model in contracts is the trust domain, the
+/// number, and the rows with their numbers.
 ///
-/// A reader's clone is one more owner of what the version holds, however many rows there are, and every question is
-/// answered from it as on the first day. A writer pays for the next version: the table at the head of this crate says
-/// what each call copies and counts.
+/// A clone increments one reference count, whatever the number of rows, and every read from it gives the same result at any
+/// later time. A writer pays for the next version: the table at the head of this crate says what each call costs.
 #[derive(Drop)]
 pub struct Version {
     alloc: Global,
@@ -78,7 +77,7 @@ impl Version {
     ghost use Rattle.version_book.specs.CommittedRows.{AllUpTo, book_of, marked, next_state, no_rows};
     ghost use Rattle.version_book.specs.Written.{placed};
 
-    /// The first version: no rows, at number 0. The error is want of memory.
+    /// Makes the first version, with no rows and the number 0. The error is out of memory.
     pub fn empty(alloc: Global, domain: TrustDomain) -> Result<Version, AllocError>
         ensures { IfOk result (λ version. version ≡ record { domain = domain; number = 0; rows = no_rows }) }
     {
@@ -94,22 +93,22 @@ impl Version {
         })
     }
 
-    /// The server's trust domain. Takes no memory.
+    /// Returns the server's trust domain. Allocates no memory.
     pub fn domain(&self) -> &TrustDomain
         ensures { result.now ≡ self.now.domain }
     {
         self.body.get().names.get().domain()
     }
 
-    /// The ID of the server. Takes no memory.
+    /// Returns the ID of the server. Allocates no memory.
     pub fn server(&self) -> &Shared<SpiffeId>
         ensures { result.now ≡ server_text self.now.domain }
     {
         self.body.get().names.get().server()
     }
 
-    /// The number of this version's book in its history. Takes no memory. The book is lawful, and no row was written by a
-    /// later commit.
+    /// Returns the number of this version's book in its history. The book is lawful, and no row was written by a later commit.
+    /// Allocates no memory.
     pub fn number(&self) -> u64
         ensures number { result ≡ self.now.number }
         ensures lawful { Lawful self.now.domain (64 * self.now.number) (book_of self.now.rows) }
@@ -118,7 +117,7 @@ impl Version {
         self.number
     }
 
-    /// How many rows of each kind there are. Takes no memory.
+    /// Returns the number of rows of each kind. Allocates no memory.
     pub fn count(&self) -> RowCounts
         ensures { result ≡ record {
           entries = length self.now.rows.entries;
@@ -136,37 +135,37 @@ impl Version {
         }
     }
 
-    /// The entry of an id, where there is one. Takes no memory.
+    /// Returns the entry of an id, if there is one. Allocates no memory.
     pub fn entry(&self, id: &Uuid) -> Option<&Entry>
         ensures { option_copied result ≡ entry_at id.now (book_of self.now.rows) }
     {
         self.body.get().store.entry(id)
     }
 
-    /// The agent of an id, where there is one. Takes no memory.
+    /// Returns the agent of an id, if there is one. Allocates no memory.
     pub fn agent(&self, id: &Shared<SpiffeId>) -> Option<&Agent>
         ensures { option_copied result ≡ agent_at id.now (book_of self.now.rows) }
     {
         self.body.get().store.agent(id)
     }
 
-    /// The bundle of a trust domain, where there is one. Takes no memory.
+    /// Returns the bundle of a trust domain, if there is one. Allocates no memory.
     pub fn bundle(&self, domain: &Shared<TrustDomain>) -> Option<&Bundle>
         ensures { option_copied result ≡ bundle_at domain.now (book_of self.now.rows) }
     {
         self.body.get().store.bundle(domain)
     }
 
-    /// The entries of a parent, lent, in the order of their ids. No owner is counted, neither of a row nor of the parent's ID.
-    /// The error is want of memory.
+    /// Returns the entries of a parent, borrowed, in the order of their ids. It increments no reference count, neither of a row
+    /// nor of the parent's ID. The error is out of memory.
     pub fn children(&self, parent: &Shared<SpiffeId>) -> Result<Vec<Lent<'_, Entry>>, AllocError>
         ensures { IfOk result (λ found. found.items ≡ children_of parent.now (book_of self.now.rows)) }
     {
         self.body.get().store.children(self.alloc, parent)
     }
 
-    /// The entries that a page lists, lent, and the id after which the next page begins, where there is one. They are those of
-    /// this version, whatever place the query asks about. The error is want of memory.
+    /// Returns the entries that a page lists, borrowed, and the id after which the next page begins, if there is one. They are
+    /// those of this version, whichever book the query names. The error is out of memory.
     pub fn page(
         &self,
         query: &PageQuery,
@@ -177,15 +176,15 @@ impl Version {
         self.body.get().store.page(self.alloc, query)
     }
 
-    /// What a mark reads on this version's book. The error is want of memory.
+    /// Returns what a mark reads from this version's book. The error is out of memory.
     pub fn read(&self, mark: &Mark) -> Result<RowsRead, AllocError>
         ensures { IfOk result (λ reading. reading ≡ reads mark.now (book_of self.now.rows)) }
     {
         self.body.get().store.read(self.alloc, mark)
     }
 
-    /// What a mark reads on the book after these changes, none of which is applied. What they keep under a token has the
-    /// place 0 there. The error is want of memory.
+    /// Returns what a mark reads from the book after these changes, without applying them. A batch that they store under a
+    /// token has the place 0. The error is out of memory.
     pub fn read_after(&self, mark: &Mark, changes: &Changes) -> Result<RowsRead, AllocError>
         ensures { IfOk result (λ reading. reading ≡ reads mark.now (after changes.now (book_of self.now.rows))) }
     {
@@ -193,12 +192,12 @@ impl Version {
         after_changes(self.alloc, reading, mark, changes)
     }
 
-    /// The next version: the book after these changes, whose rows get its number, and so does the place that is kept under a
-    /// token. The caller sees to it that the number is the one after this version's, that each change in turn finds the row
-    /// that it names and puts a row of its own key, that the book that comes out is lawful, and that there is room for its
-    /// rows: the law `applying` says so of what a batch writes. The error is want of memory; this version stays as it is.
-    /// That the next version's book is the book after the changes is the law `books`, and that it is lawful is told by its
-    /// `number`.
+    /// Returns the next version: the book after these changes. The rows that they write get its number, which is also the place
+    /// of a stored batch. The caller ensures that the number is one more than this version's. Each change in turn must find its
+    /// old row and write a row with its own key. The resulting book must be lawful, and there must be room for its rows. The
+    /// theorem `laws::applying` says this of the writes of a batch. The error is out of memory; this version is unchanged. The
+    /// theorem `laws::books` says that the next version's book is the book after the changes, and the contract of `number` that
+    /// it is lawful.
     pub fn apply(&self, changes: &Changes, number: u64) -> Result<Version, AllocError>
         requires may { MayApply (placed number changes.now) number self.now }
         ensures { IfOk result (λ version. version ≡ next_state (placed number changes.now) self.now) }
@@ -216,9 +215,9 @@ impl Version {
         })
     }
 
-    /// Are the rows at a mark those of an older version of the same history, each last written by the same commit? Takes
-    /// no memory. Where they are, both versions read the same at the mark; where they aren't, a batch that committed since
-    /// made a write that hits the mark.
+    /// Returns true if this version and an older one have the same keys at a mark, each last written by the same commit. Let
+    /// the older one be an earlier version of the same history, or the same version. If the result is true, both versions read
+    /// the same at the mark; if it is false, a batch committed in between made a write that hits the mark. Allocates no memory.
     pub fn unchanged(&self, mark: &Mark, older: &Version) -> bool
         ensures same { marked mark.now older.now.rows ≡ marked mark.now self.now.rows → IsTrue result }
         ensures rows { IsEarlier older.now self.now
@@ -233,7 +232,8 @@ impl Version {
     }
 }
 
-/// A clone is one more owner of the same rows: one count, and no copy. The error is that no more owners can be counted.
+/// A clone shares the rows: it increments one reference count and copies nothing. The error is a reference count at its
+/// maximum.
 impl Clone for Version {
     ghost is_clone = { λ original copy. copy ≡ original };
 

@@ -9,7 +9,7 @@ use Rattle.version_book.specs.CommittedRows.{row_of}
 use Rattle.version_book.proofs.Listed.{listed_from, lists}
 use Rattle.version_book.proofs.entries.Entries.page.Goals as goal
 
--- of the rows from that id on it lists what it lists of all
+-- from the rows at that id and after it, the page lists what it lists from all rows
 
 pub returns-in-Some-clause-listed : goal.returns-in-Some-clause-listed
 returns-in-Some-clause-listed c =
