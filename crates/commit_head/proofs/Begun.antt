@@ -1,4 +1,4 @@
--- How the version on which a work began stays an earlier one of a head's history.
+-- The version on which a work began remains one of a head's history.
 use Rattle.std.proofs.Common.{◌≡◌, ℕ, zero, suc, ◌-◌, ◌⊎◌, List, [], ◌∷◌, ◌++◌, length, drop, take, Some, None, refl, sym, ap, subst, ◌∙◌, inl, inr, ⊎_elim}
 use Rattle.std.proofs.lemmas.List.{append_assoc, append-nil, take-append-drop}
 use Rattle.version_book.specs.History.{state_with}
@@ -13,7 +13,7 @@ use Rattle.commit_head.proofs.Journals.{leads_in_parts, leads_more, leads_to_one
 pub began_here : BeganHere
 began_here base h e = ([], e, inr (h.kept, sym (append-nil h.kept)))
 
--- two endings of one list agree
+-- two suffixes of one list agree
 endings_agree : (before since front kept : List Item) → before ++ since ≡ front ++ kept → Agrees since kept
 endings_agree [] since front kept e = inl (front, e)
 endings_agree (b ∷ bs) since [] kept e = inr (b ∷ bs, sym e)
@@ -56,7 +56,7 @@ began_goes_on (Some base) item old new b j a =
       subst (Agrees (b.0 ++ item ∷ [])) (sym a.kept) (agrees_more b.0 old.kept item b.2),
     )
 
--- what is left of two parts, of which the first ones are dropped
+-- after the first n items of two parts are dropped, the rest and the second part agree
 dropped : (n : ℕ) (front items : List Item) → IsEnding (drop n (front ++ items)) items ⊎ IsEnding items (drop n (front ++ items))
 dropped zero front items = inl (front, refl)
 dropped (suc n) [] items = inr (take (suc n) items, sym (take-append-drop (suc n) items))

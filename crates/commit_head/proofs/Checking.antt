@@ -1,4 +1,4 @@
--- What the writes of later items, and the rows of two versions, say of a batch's marks.
+-- What the writes of later items, and the rows of two versions, imply for a batch's marks.
 use Rattle.std.proofs.Common.{◌≡◌, ℕ, ◌+◌, ◌-◌, ◌≤◌, Bool, false, ◌||◌, List, [], ◌∷◌, ◌++◌, length, length-append, length-drop, drop, take, Ok, Err, IfOk, refl, sym, ap, subst, ◌∙◌, ⊎_elim, arith}
 use Rattle.std.specs.List.{AllByRecursion, list_any}
 use Rattle.std.proofs.lemmas.List.{take_all}
@@ -25,7 +25,7 @@ none_before : {X : Type 0} (front xs : List X) → length (front ++ xs) ≤ leng
 none_before [] xs h = refl
 none_before (x ∷ front) xs h = let n = length-append (x ∷ front) xs in absurd (omega arith)
 
--- as many of the kept ones as there are items
+-- as many of the last retained items as there are items
 last_of : (items kept : List Item) → Agrees items kept → length items ≤ length kept → drop (length kept - length items) kept ≡ items
 last_of items kept a h = ⊎_elim
     (λ e. let n = length-append e.0 kept in let front : e.0 ≡ [] = none_before e.0 kept (let q = ap length e.1 in omega arith) in
@@ -67,7 +67,7 @@ pub marks_hit : (marks : List MarkKind) (items : List Item) (older newer : State
 marks_hit [] items older newer l = refl
 marks_hit (m ∷ ms) items older newer l = λ i. items_hit items older newer m l i || marks_hit ms items older newer l i
 
--- ---- what the two ways of looking say
+-- ---- the results of the two checks
 
 pub hit_since : (marks : List MarkKind) (since items : List Item) (older newer : State) (result : Bool) → Leads older items newer → since ≡ items → result ≡ list_any (λ m. list_any (λ item. list_any (λ w. hits w m) item.changes) since) marks → list_any (λ m. any_hits m older (batches_of items)) marks ≡ result
 hit_since marks since items older newer result l e r = sym (marks_hit marks items older newer l) ∙ (ap (λ is. list_any (λ m. list_any (λ item. list_any (λ w. hits w m) item.changes) is) marks) (sym e) ∙ sym r)

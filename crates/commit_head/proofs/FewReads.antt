@@ -1,4 +1,4 @@
--- The books of a journal are those of a history, so that no batch makes many reads on them.
+-- The books of a journal are those of a history, so the footprint of a batch on them is bounded.
 use Rattle.std.proofs.Common.{◌≡◌, ℕ, ◌+◌, ◌*◌, ◌<◌, true, false, List, [], ◌∷◌, length, Option, Some, None, refl, ap, ◌∙◌, arith}
 use Rattle.std.specs.Prelude.{slice_get, nat_lt, cond, IfSome}
 use Rattle.entry_book.specs.Rows.{Bytes}

@@ -1,4 +1,4 @@
--- Journals: what their items lead to, beside the plain book.
+-- Journals: where their items lead, in relation to the list of all books.
 use Rattle.std.proofs.Common.{◌≡◌, ℕ, ◌+◌, ◌-◌, ◌≤◌, ◌^◌, List, [], ◌∷◌, ◌++◌, length, take, refl, sym, ap, subst, ◌∙◌, arith}
 use Rattle.std.proofs.lemmas.List.{append_assoc, map-append, take-append-drop}
 use Rattle.entry_book.specs.declared.reply.Reply.{Reply}
@@ -49,7 +49,7 @@ leads_to_one (item ∷ items) older newer other l k = leads_to_one items (state_
 first_last : (own : Bytes) → IsLast (first_state own) first_books
 first_last own = record { book = refl; place = refl }
 
--- the plain book adds the book of the version after an item
+-- after an item, the list of books has the book of the next version
 books_more : (item : Item) (s : State) (books : List Book) → IsLast s books → Joins item s → books_after item.batch books ≡ books ++ book_in (state_with item.batch s) ∷ []
 books_more item s books k j = ap (books_with books) (verdict_last item.batch s books k.book k.place (newest_read item.batch s (commits item s j)) ∙ j.added)
 
@@ -121,7 +121,7 @@ journal_is_lawful own items s l once =
       once = once;
     }
 
--- ---- how many commits there are
+-- ---- the number of commits
 
 pub low : (items : List Item) (h : Head) → IsJournal items h → h.window.newest.number ≤ 2 ^ 48
 low items h k =
@@ -134,7 +134,7 @@ low items h k =
     let count = k.shown.count in
     omega arith
 
--- ---- what a finish and a checkpoint leave
+-- ---- the journal after a finish and after a checkpoint
 
 pub finished : (old : Head) (p : Prepared) (window : Window) (kept : List Item) (room : ℕ) → HasJournal old → Goes (newest_of old) p → window ≡ pushed p.version old.window → kept ≡ old.kept ++ p.item ∷ [] → HasJournal (record { window = window; kept = kept; room = room })
 finished old p window kept room k g w e =

@@ -1,4 +1,4 @@
--- What a head's answer to a commit is to the list of all books of its journal.
+-- What the outcome of a commit means for the list of all books of the head's journal.
 use Rattle.std.proofs.Common.{◌≡◌, ℕ, ◌+◌, List, ◌∷◌, ◌++◌, length, length-append, take, drop, Some, None, refl, sym, ap, subst, ◌∙◌, arith}
 use Rattle.std.proofs.lemmas.List.{append_assoc, length-map, map-append, take-append-drop}
 use Rattle.entry_book.specs.declared.limit.Limit.{Limit}
@@ -38,7 +38,7 @@ count_of_batches items = length-map items (λ item. item.batch)
 pub batches_join : (items more : List Item) → batches_of (items ++ more) ≡ batches_of items ++ batches_of more
 batches_join items more = map-append (λ item. item.batch) items more
 
--- a version to which items lead from the first one stands for the last of the books of their batches, and each of them commits
+-- A version to which items lead from the first one has the last of the books of their batches, and each of them commits.
 pub record LedTo (items : List Item) (s : State) : Type 0 where
   pub commit : CommitAll first_books (batches_of items)
   pub last : IsLast s (books_of (batches_of items))
@@ -54,9 +54,9 @@ led_to own items s l =
       number = let c = f.count in omega arith;
     }
 
--- ---- the answers
+-- ---- the outcomes
 
--- what a limit that is passed at the newest version is to the list of all books
+-- if the newest version passes a limit, the specification refuses the batch for it on the list of all books
 pub full_on_books : (items : List Item) (h : Head) (batch : Batch) (limit : Limit) (n : ℕ) → IsJournal items h → past_place batch.ops ≡ None → n ≡ place_of h → verdict batch (place_of h) (Some (book_of (newest_of h).rows)) ≡ refuses (TooMuch limit) → reply_to batch (books_of (batches_of items)) ≡ record { place = n; outcome = WasRefused (TooMuch limit) }
 full_on_books items h batch limit n k newest e v =
     let books = books_of (batches_of items) in
@@ -64,7 +64,7 @@ full_on_books items h batch limit n k newest e v =
     ap (reply_with (place_in books)) (verdict_last batch (newest_of h) books last.book last.place newest ∙ v)
     ∙ ap (λ m. record { place = m; outcome = WasRefused (TooMuch limit) }) (last.place ∙ sym e)
 
--- where each list of items that leads to the newest version has a batch that hits, the journal has one
+-- if each list of items that leads to the newest version has a batch that hits, the journal has one
 pub due_on_books : (items : List Item) (h : Head) (batch : Batch) (base : Base) → IsJournal items h → Leads (first_state h.window.newest.domain) (take base.newest.number items) base.newest → IsDue (Some base) batch (newest_of h) h.kept → IsHitSince (batches_of items) base.newest.number (footprint_there batch base)
 due_on_books items h batch base k leads due =
     let own = h.window.newest.domain in
@@ -100,7 +100,7 @@ due_on_books items h batch base k leads due =
       hit = some.hit;
     }
 
--- a batch that awaits its commit asks for no earlier book
+-- a batch that awaits its commit doesn't read an earlier book
 asks_newest : (own : Bytes) (w : Work) → IsMadeFor own w.batch → status_of w ≡ Ready → past_place w.batch.ops ≡ None
 asks_newest own w made ready =
     let read = ready_has_read own w made ready in

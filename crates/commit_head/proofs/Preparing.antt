@@ -1,4 +1,4 @@
--- What a work that is ready comes to at the newest version.
+-- The outcome of a ready work on the newest version.
 use Rattle.std.proofs.Common.{◌≡◌, ℕ, ◌+◌, ◌*◌, ◌≤◌, true, List, Option, Some, None, Ok, Err, IfOk, sym, ap, subst, ◌∙◌, arith}
 use Rattle.std.specs.Prelude.{option_map}
 use Rattle.std.specs.List.{AllByRecursion, list_any}
@@ -122,7 +122,7 @@ module _ (newest : State) (kept : List Item) (w : Work) (made : IsMadeFor newest
               version = version_is ∙ (sym commit.1 ∙ ap (λ x. state_with x newest) (sym b));
             }
 
--- a conflict is due
+-- a conflict is justified
 pub due : (newest : State) (kept : List Item) (w : Work) → IsMadeFor newest.domain w.batch → status_of w ≡ Ready → (start : State) → option_map (λ b. b.newest) w.base ≡ Some start → (marks : List MarkKind) → marks ≡ marks_so_far w → ((items : List Item) → Leads start items newest → Agrees items kept → list_any (λ m. any_hits m start (batches_of items)) marks ≡ true) → IsDue w.base w.batch newest kept
 due newest kept w made ready start start_is marks marks_are hit =
     let read = ready_has_read newest.domain w made ready in

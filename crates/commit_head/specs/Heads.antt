@@ -13,7 +13,8 @@ use Rattle.commit_head.specs.declared.commit.Commit.TheVariants.{Conflict, Full,
 use Rattle.commit_head.specs.declared.item.Item.{Item}
 use Rattle.commit_head.specs.Journals.{Joins, Leads, Agrees, IsEnding, batches_of, first_state}
 
--- What a head is: the window that is handed to those who begin, the items of the journal that it keeps, and for how many more it has room.
+-- A head as contracts see it: the window on which works begin, the retained items of the journal, and the number of items for
+-- which it has room.
 pub record Head : Type 0 where
   pub window : Window
   pub kept : List Item
@@ -25,7 +26,8 @@ newest_of h = h.window.newest
 abbrev pub place_of : Head → ℕ
 place_of h = h.window.newest.number
 
--- These are all items of its journal, from the first book on: they lead to the newest version, those that it keeps are the last ones, and its window stands for the list of all their books.
+-- These are all items of the head's journal, from the first book on. They lead to the newest version, the retained items are
+-- the last of them, and the window represents the list of all their books.
 pub record IsJournal (items : List Item) (h : Head) : Type 0 where
   pub leads : Leads (first_state h.window.newest.domain) items h.window.newest
   pub ending : IsEnding items h.kept
@@ -34,37 +36,37 @@ pub record IsJournal (items : List Item) (h : Head) : Type 0 where
 abbrev pub HasJournal : Head → Type 0
 HasJournal h = (items : List Item) × IsJournal items h
 
--- the item of a commit, where it is kept
+-- the item of commit n, if it is retained
 abbrev pub item_at : ℕ → Head → Option Item
 item_at n h = if nat_lt (place_of h) (n + length h.kept) then slice_get h.kept (n + length h.kept - (place_of h + 1)) else None
 
--- the last 64 items
+-- the last 64 items, or all if there are fewer
 abbrev pub last_items : List Item → List Item
 last_items items = drop (length items - 64) items
 
--- nothing has changed but the room, which is no less
+-- nothing has changed but the room, which hasn't shrunk
 pub record Stays (old new : Head) : Type 0 where
   pub window : new.window ≡ old.window
   pub kept : new.kept ≡ old.kept
   pub room : old.room ≤ new.room
 
--- ---- a commit that is prepared
+-- ---- a prepared commit
 
 pub record Prepared : Type 0 where
   pub item : Item
   pub version : State
 
--- It fits a version: its item joins it, and its version is the one after the item's batch.
+-- It fits a version: its item joins the version, and its version is the one after the item's batch.
 pub record Goes (newest : State) (p : Prepared) : Type 0 where
   pub joins : Joins p.item newest
   pub version : p.version ≡ state_with p.item.batch newest
 
--- It fits the head, which has room for the item.
+-- It fits the head's newest version, and the head has room for the item.
 pub record Fits (h : Head) (p : Prepared) : Type 0 where
   pub goes : Goes (newest_of h) p
   pub room : 0 < h.room
 
--- It is that of this seat, call and work: the work's batch, replies and writes.
+-- The item is that of this seat, call and work: it has the work's batch, replies and writes.
 pub record IsItemOf (seat call : ℕ) (w : Work) (item : Item) : Type 0 where
   pub seat_is : item.seat ≡ seat
   pub call_is : item.call ≡ call
@@ -72,24 +74,26 @@ pub record IsItemOf (seat call : ℕ) (w : Work) (item : Item) : Type 0 where
   pub replies : HasReplies w item.replies
   pub changes : HasWrites w item.changes
 
--- The item is the last of the journal, and the window has the version after its batch.
+-- The item is appended to the retained ones, and the version after its batch is appended to the window.
 pub record IsAppended (old : Head) (item : Item) (new : Head) : Type 0 where
   pub window : new.window ≡ pushed (state_with item.batch (newest_of old)) old.window
   pub kept : new.kept ≡ old.kept ++ item ∷ []
 
--- ---- what a commit asks of a work, and what it answers
+-- ---- what a commit requires of a work, and its outcome
 
--- The version on which the work began is the newest one of the history or an earlier one: items that agree with those that are kept lead from it to the newest one.
+-- The work began on the newest version or an earlier one of its history: some items lead from there to the newest version and
+-- agree with the retained ones.
 abbrev pub BeganBefore : Option Base → State → List Item → Type 0
 BeganBefore None newest kept = ⊥
 BeganBefore (Some base) newest kept = (items : List Item) × Leads base.newest items newest × Agrees items kept
 
--- Whatever items have led there from the version on which the batch began, one of their batches hits a mark of its footprint.
+-- Consider any items that agree with the retained ones and lead from the version on which the batch began to the newest one.
+-- Among them is a batch that hits a mark of the batch's footprint.
 abbrev pub IsDue : Option Base → Batch → State → List Item → Type 0
 IsDue None batch newest kept = ⊥
 IsDue (Some base) batch newest kept = (items : List Item) → Leads base.newest items newest → Agrees items kept → list_any (λ m. any_hits m base.newest (batches_of items)) (footprint_there batch base) ≡ true
 
--- why a work that is ready isn't committed on this version, while these items are kept; of want of memory it says nothing
+-- why a ready work isn't committed on this version, with these retained items; running out of memory is always allowed
 abbrev pub IsRefusal : State → List Item → Work → Commit → Type 0
 IsRefusal newest kept w (Conflict n) = (n ≡ newest.number) × IsDue w.base w.batch newest kept
 IsRefusal newest kept w (Full limit n) = (n ≡ newest.number) × (verdict w.batch newest.number (Some (book_of newest.rows)) ≡ refuses (TooMuch limit))
@@ -102,7 +106,7 @@ BeganOn base h = BeganBefore base (newest_of h) h.kept
 abbrev pub IsRefused : Head → Work → Commit → Type 0
 IsRefused h w c = IsRefusal (newest_of h) h.kept w c
 
--- The batch is committed: its item, which joins the newest version, is the last of the journal.
+-- The batch is committed: its item joins the newest version and is appended.
 pub record IsCommitted (old : Head) (seat call : ℕ) (w : Work) (n : ℕ) (new : Head) : Type 0 where
   pub item : Item
   pub of_work : IsItemOf seat call w item

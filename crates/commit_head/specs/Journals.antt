@@ -1,4 +1,4 @@
--- The journal: one item for each commit, and how the items lead from version to version.
+-- The journal (commit log): one item for each commit, and how the items lead from version to version.
 use Rattle.std.specs.Prelude.{◌≡◌, ◌⊎◌, ⊤, ℕ, ◌+◌, List, [], ◌∷◌, ◌++◌, map, Some}
 use Rattle.std.specs.List.{AllByRecursion}
 use Rattle.entry_book.specs.declared.reply.Outcome.TheVariants.{Committed}
@@ -14,13 +14,14 @@ use Rattle.commit_head.specs.declared.item.Item.{Item}
 abbrev pub first_state : Bytes → State
 first_state own = record { domain = own; number = 0; rows = no_rows }
 
--- The item is that of a batch that commits on the version: its replies are the plain book's, and its writes those of the batch, with their place left open.
+-- The item's batch commits on the version. Its replies are those of the specification, and its writes are those of the batch,
+-- with the place 0.
 pub record Joins (item : Item) (s : State) : Type 0 where
   pub made : IsMadeFor s.domain item.batch
   pub added : verdict item.batch s.number (Some (book_of s.rows)) ≡ adds item.replies (book_of (state_with item.batch s).rows)
   pub writes : item.changes ≡ writes_of item.batch 0 (book_of s.rows)
 
--- the items lead from one version to the other, each joining in turn
+-- the items lead from the older version to the newer one: each joins the version that the items before it left
 abbrev pub Leads : State → List Item → State → Type 0
 Leads older [] newer = older ≡ newer
 Leads older (item ∷ items) newer = Joins item older × Leads (state_with item.batch older) items newer
@@ -28,22 +29,22 @@ Leads older (item ∷ items) newer = Joins item older × Leads (state_with item.
 abbrev pub batches_of : List Item → List Batch
 batches_of items = map (λ item. item.batch) items
 
--- the second list is an ending of the first
+-- the second list is a suffix of the first
 abbrev pub IsEnding : List Item → List Item → Type 0
 IsEnding whole end = (front : List Item) × (whole ≡ front ++ end)
 
--- two lists of items agree, as far as both reach back
+-- one list is a suffix of the other
 abbrev pub Agrees : List Item → List Item → Type 0
 Agrees items others = IsEnding items others ⊎ IsEnding others items
 
--- ---- beside the plain book
+-- ---- in relation to the specification
 
--- the replies of committed batches, after n commits
+-- the replies of these committed batches, if n commits came before them
 abbrev pub committed_after : ℕ → List Item → List Reply
 committed_after n [] = []
 committed_after n (item ∷ items) = record { place = n + 1; outcome = Committed item.replies } ∷ committed_after (n + 1) items
 
--- a later item has another seat or another call
+-- The two items differ in seat or call.
 pub record IsOther (item other : Item) : Type 0 where
   pub apart : item.seat ≡ other.seat → item.call ≡ other.call → ⊥
 
@@ -51,7 +52,8 @@ abbrev pub EachCallOnce : List Item → Type 0
 EachCallOnce [] = ⊤
 EachCallOnce (item ∷ items) = AllByRecursion (IsOther item) items × EachCallOnce items
 
--- A lawful journal: the plain book, run through the batches, commits each at its number with these replies, and no two items have the same seat and call.
+-- A lawful journal. Its batches were made for the trust domain. The specification commits each of them in turn at its number,
+-- with the item's replies. No two items have the same seat and call.
 pub record IsLawfulJournal (own : Bytes) (items : List Item) : Type 0 where
   pub made : AllByRecursion (IsMadeFor own) (batches_of items)
   pub committed : CommitAll first_books (batches_of items)

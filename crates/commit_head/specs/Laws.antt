@@ -1,4 +1,4 @@
--- The laws of journals and heads. Each is a clause of a function of the module `laws`.
+-- Theorems about journals and heads. Each is a clause of a function of the module `laws`.
 use Rattle.std.specs.Prelude.{◌≡◌, ℕ, ◌+◌, ◌≤◌, ◌^◌, List, [], ◌∷◌, ◌++◌, length, Option, Some}
 use Rattle.entry_book.specs.Rows.{Bytes}
 use Rattle.entry_book.specs.declared.reply.Outcome.TheVariants.{Committed}
@@ -12,7 +12,7 @@ use Rattle.commit_head.specs.declared.item.Item.{Item}
 use Rattle.commit_head.specs.Heads.{BeganOn, Head, IsAppended, IsJournal, Stays, last_items, newest_of, place_of}
 use Rattle.commit_head.specs.Journals.{Agrees, Joins, Leads, EachCallOnce, IsLawfulJournal, batches_of, first_state}
 
--- items that lead from one version to another are batches that follow one another there, one for each commit
+-- The batches of the items lead from the older version to the newer one, whose number has grown by one for each item.
 pub record AreBatches (older : State) (items : List Item) (newer : State) : Type 0 where
   pub follows : Follows older (batches_of items) newer
   pub count : length items + older.number ≡ newer.number
@@ -20,19 +20,20 @@ pub record AreBatches (older : State) (items : List Item) (newer : State) : Type
 abbrev pub ItemsFollow : Type 0
 ItemsFollow = (items : List Item) (older newer : State) → Leads older items newer → AreBatches older items newer
 
--- a new head has the journal without items
+-- a new head's journal has no items
 abbrev pub JournalBegins : Type 0
 JournalBegins = (own : Bytes) (h : Head) → h.window ≡ record { older = []; newest = first_state own } → h.kept ≡ [] → IsJournal [] h
 
--- where nothing has changed but the room, its journal is what it was
+-- if nothing has changed but the room, the journal is the same
 abbrev pub JournalKept : Type 0
 JournalKept = (items : List Item) (old new : Head) → IsJournal items old → Stays old new → IsJournal items new
 
--- an item that is appended is the last one of a head's journal
+-- an item that joins the newest version and is appended is the last one of the journal
 abbrev pub JournalGoesOn : Type 0
 JournalGoesOn = (items : List Item) (item : Item) (old new : Head) → IsJournal items old → Joins item (newest_of old) → IsAppended old item new → IsJournal (items ++ item ∷ []) new
 
--- On the list of all books the plain book commits the item's batch at the next number with the item's replies, and the list goes on as that of the longer journal.
+-- On the list of all books, the specification commits the item's batch at this number with the item's replies. The list after
+-- it is that of the longer journal.
 pub record IsCommittedOnBooks (items : List Item) (item : Item) (n : ℕ) : Type 0 where
   pub reply : reply_to item.batch (books_of (batches_of items)) ≡ record { place = n; outcome = Committed item.replies }
   pub books : books_after item.batch (books_of (batches_of items)) ≡ books_of (batches_of (items ++ item ∷ []))
@@ -40,35 +41,37 @@ pub record IsCommittedOnBooks (items : List Item) (item : Item) (n : ℕ) : Type
 abbrev pub JoinsOnBooks : Type 0
 JoinsOnBooks = (items : List Item) (item : Item) (h : Head) → IsJournal items h → Joins item (newest_of h) → IsCommittedOnBooks items item (place_of h + 1)
 
--- the newest version stands for the last of the journal's books
+-- the newest version has the last book of the journal, and its number
 abbrev pub JournalLast : Type 0
 JournalLast = (items : List Item) (h : Head) → IsJournal items h → IsLast (newest_of h) (books_of (batches_of items))
 
--- a journal in which no two items have the same seat and call is a lawful one
+-- if no two items have the same seat and call, a journal is lawful
 abbrev pub JournalIsLawful : Type 0
 JournalIsLawful = (own : Bytes) (items : List Item) (s : State) → Leads (first_state own) items s → EachCallOnce items → IsLawfulJournal own items
 
--- on the list of a journal's books no batch makes more reads than this number
+-- on the books of a journal, the footprint of a batch has at most 2^21 marks
 abbrev pub JournalReadsFew : Type 0
 JournalReadsFew = (own : Bytes) (items : List Item) (s : State) (batch : Batch) → Leads (first_state own) items s → IsMadeFor own batch → length (footprint_of batch (books_of (batches_of items))) ≤ 2 ^ 21
 
--- a checkpoint leaves the journal as it was
+-- a checkpoint doesn't change the journal
 abbrev pub JournalStays : Type 0
 JournalStays = (items : List Item) (old new : Head) → IsJournal items old → new.window ≡ old.window → new.kept ≡ last_items old.kept → IsJournal items new
 
--- items in two parts lead to a version between them, which is the only one to which the first part leads
+-- items in two parts lead to a version in between, and a list of items leads to only one version
 abbrev pub LeadsInParts : Type 0
 LeadsInParts = (first second : List Item) (older newer : State) → Leads older (first ++ second) newer → (between : State) × Leads older first between × Leads between second newer
 
 abbrev pub LeadsToOne : Type 0
 LeadsToOne = (items : List Item) (older newer other : State) → Leads older items newer → Leads older items other → newer ≡ other
 
--- ---- the version on which a work began is an earlier one of the head's history: where it is the newest, or the one after the first items of its journal; once an item more is appended; where nothing changed but the room; and after a checkpoint
+-- ---- A work began on the newest version of a head or an earlier one of its history: if it is the newest; if the first items
+-- of the journal lead to it; after an item is appended; if nothing changed but the room; and after a checkpoint.
 
 abbrev pub BeganHere : Type 0
 BeganHere = (base : Base) (h : Head) → base.newest ≡ newest_of h → BeganOn (Some base) h
 
--- What a version inside a journal is to a head.
+-- A version inside a journal: the items since then lead to the newest version and agree with the retained ones, so a work may
+-- have begun on it.
 pub record IsInside (base : Base) (since : List Item) (h : Head) : Type 0 where
   pub leads : Leads base.newest since (newest_of h)
   pub agrees : Agrees since h.kept

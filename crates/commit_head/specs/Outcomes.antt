@@ -1,4 +1,4 @@
--- What a commit comes to, in the words of the plain book.
+-- The outcome of a commit, in terms of the specification.
 use Rattle.std.specs.Prelude.{◌≡◌, ℕ, ◌+◌, ◌≤◌, true, List, [], ◌∷◌, ◌++◌, length, take, Some}
 use Rattle.entry_book.specs.declared.reply.Outcome.TheVariants.{Committed as WasCommitted, Refused as WasRefused}
 use Rattle.entry_book.specs.declared.reply.Refusal.TheVariants.{Full as TooMuch}
@@ -18,7 +18,8 @@ use Rattle.commit_head.specs.declared.item.Item.{Item}
 use Rattle.commit_head.specs.Heads.{Head, IsCommit, IsItemOf, IsJournal}
 use Rattle.commit_head.specs.Journals.{Leads, batches_of, first_state}
 
--- These committed batches have one, `other`, that was committed as book `length before + 1`, which is after book `base`. One of its writes, on the book that it found, hits one of these marks.
+-- Among these committed batches is one, `other`, after the first `base` ones: it was committed as book `length before + 1`. One
+-- of its writes, made on the last book before it, hits one of these marks.
 pub record IsHitSince (journal : List Batch) (base : ℕ) (marks : List MarkKind) : Type 0 where
   pub before : List Batch
   pub other : Batch
@@ -31,14 +32,16 @@ pub record IsHitSince (journal : List Batch) (base : ℕ) (marks : List MarkKind
   pub is_made : Within (writes_of other (length before + 1) (last_book (books_of before))) write
   pub hit : hits write mark ≡ true
 
--- The work is ready, its batch was made for the trust domain, and it began on the version that the first items of this journal led to.
+-- The work is ready, its batch was made for the trust domain, and it began on a version. The first items of this journal, as
+-- many as the version's number, lead to that version.
 pub record IsReadyOn (own : Bytes) (items : List Item) (w : Work) (base : Base) : Type 0 where
   pub made : IsMadeFor own w.batch
   pub ready : status_of w ≡ Ready
   pub base_is : w.base ≡ Some base
   pub leads : Leads (first_state own) (take base.newest.number items) base.newest
 
--- The plain book commits the batch as the next book, with the replies of an item that is made of the work, and the head's journal is longer by this item.
+-- The specification commits the batch as the next book, with the replies of an item made from the work. The head's journal is
+-- longer by this item.
 pub record CommitsOnBooks (items : List Item) (seat call : ℕ) (w : Work) (n : ℕ) (new : Head) : Type 0 where
   pub item : Item
   pub of_work : IsItemOf seat call w item
@@ -47,13 +50,15 @@ pub record CommitsOnBooks (items : List Item) (seat call : ℕ) (w : Work) (n : 
   pub books : books_after w.batch (books_of (batches_of items)) ≡ books_of (batches_of (items ++ item ∷ []))
   pub journal : IsJournal (items ++ item ∷ []) new
 
--- Committed, the plain book commits the batch on the books of this journal. Full, it refuses the batch there for the same limit. A conflict, a batch that was committed since the work began has a write that hits what the work has read. Where the batch isn't committed, the journal stays.
+-- If the outcome is `Committed`, the specification commits the batch on the books of this journal. If it is `Full`, the
+-- specification refuses the batch there for the same limit. If it is a conflict, a batch that was committed since the work
+-- began has a write that hits what the work has read. If the batch isn't committed, the journal is unchanged.
 abbrev pub AnswersOnBooks : List Item → ℕ → ℕ → Work → Base → Commit → Head → Type 0
 AnswersOnBooks items seat call w base (Committed n) new = CommitsOnBooks items seat call w n new
 AnswersOnBooks items seat call w base (Full limit n) new = (n ≡ length items) × (reply_to w.batch (books_of (batches_of items)) ≡ record { place = n; outcome = WasRefused (TooMuch limit) }) × IsJournal items new
 AnswersOnBooks items seat call w base (Conflict n) new = (n ≡ length items) × IsHitSince (batches_of items) base.newest.number (footprint_there w.batch base) × IsJournal items new
 AnswersOnBooks items seat call w base NoMemory new = IsJournal items new
 
--- what a head answers to a commit, and where it is then
+-- the outcome of committing a ready work, and the head after it
 abbrev pub CommitOnBooks : Type 0
 CommitOnBooks = (items : List Item) (old : Head) (seat call : ℕ) (w : Work) (base : Base) (answer : Commit) (new : Head) → IsJournal items old → IsReadyOn old.window.newest.domain items w base → IsCommit old seat call w answer new → AnswersOnBooks items seat call w base answer new

@@ -12,21 +12,22 @@ ghost use Rattle.commit_head.specs.declared.item.Item.{Item as JournalItem};
 use crate::item::Item;
 use version_book::{Mark, Version};
 
-/// Does a write of one of these items hit the mark?
+/// Returns true if a write of one of these items hits the mark.
 fn is_hit(items: &[Item], mark: &Mark) -> bool
     ensures { result ≡ list_any (λ item. list_any (λ w. hits w mark.now) item.changes) items.now }
 {
     items.iter().any(|item| item.changes.hits(mark))
 }
 
-/// Does a write of one of these items hit one of the marks?
+/// Returns true if a write of one of these items hits one of the marks.
 fn are_hit(items: &[Item], marks: &[Mark]) -> bool
     ensures { result ≡ list_any (λ mark. list_any (λ item. list_any (λ w. hits w mark) item.changes) items.now) marks.now }
 {
     marks.iter().any(|mark| is_hit(items, mark))
 }
 
-/// Has one of the marks other rows than in an older version of the same history, or rows that were written since?
+/// Returns true if the rows at one of the marks differ from those in an older version of the same history, or were written
+/// since.
 fn are_changed(newest: &Version, older: &Version, marks: &[Mark]) -> bool
     ensures agree { IsEarlier older.now newest.now → result ≡ false
         → AllByRecursion (Agree (book_of older.now.rows) (book_of newest.now.rows)) marks.now }
@@ -41,7 +42,7 @@ fn are_changed(newest: &Version, older: &Version, marks: &[Mark]) -> bool
     false
 }
 
-/// The items since the version, where they are no more than 63 and all of them are kept.
+/// Returns the items since the version, if they are at most 63 and all of them are retained.
 fn items_since<'a>(kept: &'a [Item], newest: &Version, older: &Version) -> Option<&'a [Item]>
     ensures { (items : List JournalItem) → Leads older.now items newest.now → Agrees items kept.now
         → IfSome result (λ since. since.now ≡ items) }
@@ -53,8 +54,8 @@ fn items_since<'a>(kept: &'a [Item], newest: &Version, older: &Version) -> Optio
     Some(&kept[kept.len() - commits as usize..])
 }
 
-/// Did a batch since the older version write what these marks read? Where few commits were made since and their items are
-/// kept, each write of them is looked at, and else the rows of both versions.
+/// Returns true if a batch since the older version wrote what these marks read. If at most 63 commits were made since and their
+/// items are retained, it checks their writes; otherwise it compares the rows of both versions.
 pub(crate) fn is_conflict(kept: &[Item], newest: &Version, older: &Version, marks: &[Mark]) -> bool
     ensures agree { (items : List JournalItem) → Leads older.now items newest.now → Agrees items kept.now → result ≡ false
         → AllByRecursion (Agree (book_of older.now.rows) (book_of newest.now.rows)) marks.now }

@@ -1,16 +1,16 @@
-//! What became of a commit?
+//! What is the outcome of a commit?
 
 use entry_book::Limit;
 
-/// What became of a commit. A number is that of the new book where there is one, and else the head's place.
+/// The outcome of a commit. The number is that of the new book, or the head's place if there is none.
 #[derive(Drop)]
 pub enum Commit {
-    /// The batch is committed, at this place.
+    /// The batch is committed, as the book with this number.
     Committed(u64),
     /// A batch that was committed since the work began wrote what the work has read.
     Conflict(u64),
-    /// The limit doesn't let the changes in.
+    /// The book after the changes would pass this limit.
     Full(Limit, u64),
-    /// Memory was wanting, and nothing has changed.
+    /// Out of memory; the journal and the window are unchanged.
     NoMemory,
 }

@@ -1,4 +1,4 @@
-//! What does a head keep, and which work may commit?
+//! What does a head store, and which work may commit?
 
 ghost use Rattle.std.specs.Prelude.{◌≡◌, ◌+◌, ◌-◌, ◌≤◌, ◌<◌, ◌++◌, ◌∷◌, [], length, vec_capacity, vec_len};
 ghost use Rattle.commit_head.specs.Heads.{last_items};
@@ -13,7 +13,7 @@ use std::alloc::{AllocError, Global};
 use std::marker::Model;
 use version_book::Version;
 
-/// One item more, for which there is room.
+/// Appends an item, for which there is room.
 fn push_reserved(items: &mut Vec<Item>, item: Item)
     requires room { vec_len items.old < vec_capacity items.old }
     ensures { items.new.items ≡ items.old.items ++ item ∷ [] }
@@ -23,7 +23,7 @@ fn push_reserved(items: &mut Vec<Item>, item: Item)
     };
 }
 
-/// Drops all items but the last 64, and answers how many it dropped. The capacity stays.
+/// Drops all items but the last 64, and returns the number of dropped items. The capacity is unchanged.
 fn drop_older(items: &mut Vec<Item>) -> usize
     ensures dropped { result + length items.new.items ≡ length items.old.items }
     ensures kept { items.new.items ≡ last_items items.old.items }
@@ -34,13 +34,13 @@ fn drop_older(items: &mut Vec<Item>) -> usize
     dropped
 }
 
-/// The one place where the book changes. It has the window that is handed to those who begin, and the journal: one item for
+/// The only place where the book changes. It has the window on which works begin, and the journal (commit log): one item for
 /// each commit, of which a checkpoint drops all but the last 64.
 ///
-/// A reader is handed a clone of the window, and begins on it without the head. A writer prepares a commit, which checks what
-/// the work read and makes all growth, and then finishes it, which takes no memory. A check looks at the writes of the items
-/// since the work's begin, where these are at most 63 and kept, and else at the rows of both versions at each mark. A commit
-/// costs this check and what the version's `apply` costs. That no seat commits a call twice is for the callers to see to.
+/// A reader gets a clone of the window, and begins on it without the head. A writer first prepares a commit, which checks what
+/// the work has read and allocates all memory, and then finishes it, which allocates none. If the items since the work's begin
+/// are at most 63 and retained, the check looks at their writes. Otherwise it compares the rows of both versions at each mark.
+/// A commit costs this check and the version's `apply`. The caller ensures that no seat commits a call twice.
 #[derive(Drop)]
 pub struct Head {
     window: Window,
@@ -73,7 +73,7 @@ impl Head {
     ghost use Rattle.commit_head.specs.Heads.{BeganOn, Fits, Goes, HasJournal, IsAppended, IsCommit, IsItemOf, IsRefused, Stays, item_at, place_of};
     ghost use Rattle.commit_head.specs.Journals.{first_state};
 
-    /// A head with book 0 and no item. The error is want of memory.
+    /// Makes a head with book 0 and no item. The error is out of memory.
     pub fn new(alloc: Global, domain: TrustDomain) -> Result<Head, AllocError>
         ensures window { IfOk result (λ head. head.window ≡ record { older = []; newest = first_state domain }) }
         ensures kept { IfOk result (λ head. head.kept ≡ []) }
@@ -85,8 +85,8 @@ impl Head {
         })
     }
 
-    /// The window on which works begin. Takes no memory. The number of its newest version is within the limit on commits, and
-    /// there is a journal that leads to it.
+    /// Returns the window on which works begin. The number of its newest version is within the limit on commits, and there is a
+    /// journal that leads to it. Allocates no memory.
     pub fn window(&self) -> &Window
         ensures window { result.now ≡ self.now.window }
         ensures low { self.now.window.newest.number ≤ 2 ^ 48 }
@@ -95,21 +95,21 @@ impl Head {
         &self.window
     }
 
-    /// How many batches were committed: the number of the newest version. Takes no memory.
+    /// Returns the number of committed batches, which is that of the newest version. Allocates no memory.
     pub fn place(&self) -> u64
         ensures { result ≡ place_of self.now }
     {
         self.window.newest().number()
     }
 
-    /// How many items of the journal are kept. Takes no memory.
+    /// Returns the number of retained items of the journal. Allocates no memory.
     pub fn kept(&self) -> u64
         ensures { result ≡ length self.now.kept }
     {
         self.kept.len() as u64
     }
 
-    /// The item of a commit, where it is kept. Takes no memory.
+    /// Returns the item of the commit with this number, if it is retained. Allocates no memory.
     pub fn item(&self, number: u64) -> Option<&Item>
         ensures { option_copied result ≡ item_at number self.now }
     {
@@ -118,8 +118,9 @@ impl Head {
         self.kept.as_slice().get(index as usize)
     }
 
-    /// What a work that is ready comes to here: a commit that is prepared, for this seat and call, or why there is none. It
-    /// makes all growth; nothing has changed but the room. The work began on an earlier version of this head's history.
+    /// Prepares the commit of a ready work for this seat and call, or returns why it can't be committed. It allocates all
+    /// memory that the commit needs; nothing has changed but the room for items. The work must have begun on the newest version
+    /// of this head or an earlier one of its history.
     pub fn prepare(&mut self, seat: u32, call: u64, work: &Work) -> Result<Prepared, Commit>
         requires ready { status_of work.now ≡ Status.Ready }
         requires domain { work.now.batch.domain ≡ self.old.window.newest.domain }
@@ -136,7 +137,7 @@ impl Head {
         }
     }
 
-    /// Adds a commit that was prepared, no other one having come between, and answers its number. Takes no memory.
+    /// Finishes a prepared commit and returns its number. No other commit may come in between. Allocates no memory.
     pub fn finish(&mut self, prepared: Prepared) -> u64
         requires fits { Fits self.old prepared }
         ensures number { result ≡ place_of self.old + 1 }
@@ -149,8 +150,8 @@ impl Head {
         number
     }
 
-    /// Commits a work that is ready, for this seat and call, or tells why not; then nothing has changed but the room. The work
-    /// began on an earlier version of this head's history.
+    /// Commits a ready work for this seat and call, or returns why it can't; then nothing has changed but the room for items.
+    /// The work must have begun on the newest version of this head or an earlier one of its history.
     pub fn commit(&mut self, seat: u32, call: u64, work: &Work) -> Commit
         requires ready { status_of work.now ≡ Status.Ready }
         requires domain { work.now.batch.domain ≡ self.old.window.newest.domain }
@@ -163,8 +164,8 @@ impl Head {
         }
     }
 
-    /// Drops all items but the last 64, and answers how many it dropped. Place, window and versions stay, and the room is no
-    /// less, so that a commit that was prepared before can still be finished. Takes no memory.
+    /// Drops all items but the last 64, and returns the number of dropped items. Place, window and versions are unchanged. The
+    /// room for items hasn't shrunk, so that a commit that was prepared before can still be finished. Allocates no memory.
     pub fn checkpoint(&mut self) -> u64
         ensures dropped { result + length self.new.kept ≡ length self.old.kept }
         ensures kept { self.new.kept ≡ last_items self.old.kept }
@@ -174,7 +175,7 @@ impl Head {
         drop_older(&mut self.kept) as u64
     }
 
-    /// What a work that is ready comes to at the newest version.
+    /// Makes the prepared commit of a ready work on the newest version, or returns why it can't be committed.
     fn prepared(&self, seat: u32, call: u64, work: &Work) -> Result<Prepared, Commit>
         requires ready { status_of work.now ≡ Status.Ready }
         requires domain { work.now.batch.domain ≡ self.now.window.newest.domain }

@@ -1,12 +1,12 @@
-//! Which laws hold of journals and heads?
+//! Which theorems hold about journals and heads?
 //!
-//! Each function does nothing. What it ensures is a law of the definitions, stated in `specs/Laws.antt` or
-//! `specs/Outcomes.antt`; a caller that calls it may rest on the law.
+//! The bodies do nothing. Each contract is a theorem about the definitions, stated in `specs/Laws.antt` or
+//! `specs/Outcomes.antt`; a caller may rely on it after the call.
 
 ghost use Rattle.commit_head.specs.Laws.{BeganGoesOn, BeganHere, BeganInside, BeganKept, BeganStays, ItemsFollow, JoinsOnBooks, JournalBegins, JournalGoesOn, JournalIsLawful, JournalKept, JournalLast, JournalReadsFew, JournalStays, LeadsInParts, LeadsToOne};
 ghost use Rattle.commit_head.specs.Outcomes.{CommitOnBooks};
 
-/// What a head's journal says of its versions and of the plain book.
+/// What a head's journal implies for its versions and for the list of all books.
 pub fn journals()
     ensures follow { ItemsFollow }
     ensures parts { LeadsInParts }
@@ -21,12 +21,12 @@ pub fn journals()
     ensures few { JournalReadsFew }
 {}
 
-/// What a head's answer to a commit says in the words of the plain book.
+/// What the outcome of a commit means in terms of the specification.
 pub fn commits()
     ensures { CommitOnBooks }
 {}
 
-/// How the version on which a work began stays an earlier one of a head's history.
+/// The version on which a work began remains one of a head's history.
 pub fn begun()
     ensures here { BeganHere }
     ensures inside { BeganInside }

@@ -1,21 +1,22 @@
-//! When may a batch commit, and what does a commit make?
+//! When may a batch commit, and what does a commit change?
 //!
-//! A batch was run on an older version, and touched nothing that is shared. A head takes its work: where no batch that was
-//! committed since then wrote what the work has read, the work's replies and writes are those of the plain book on the newest
-//! version, and the head adds the book after them; or a limit doesn't let it in. Else it may be a conflict, and nothing changes.
+//! A batch was run on an older version, and changed no shared state. A head decides whether its work commits. If no batch
+//! committed since then wrote what the work has read, its replies and writes are those of the specification on the newest
+//! version. The head then adds the book after these writes, unless it would pass a limit. Otherwise the outcome may be a
+//! conflict, and nothing changes.
 //!
-//! - [`Head`]: the one place where the book changes: the window that is handed to those who begin, and the journal.
-//! - [`Item`]: what the journal has of one commit: seat, call, batch, replies and writes.
-//! - [`Commit`]: what became of a commit. [`Prepared`]: one that has passed its checks and has all its memory, so that it can be
-//!   shown to others before it is finished. [`Window`]: the window that a head shows.
-//! - [`laws`]: what a head's journal says of its versions and of the plain book, and how the version on which a work began stays
-//!   an earlier one of its history.
+//! - [`Head`]: the only place where the book changes: the window on which works begin, and the journal (commit log).
+//! - [`Item`]: what the journal stores of one commit: seat, call, batch, replies and writes.
+//! - [`Commit`]: the outcome of a commit. [`Prepared`]: a commit that has passed its checks and needs no more memory, so that
+//!   it can be published before it is finished. [`Window`]: the newest version of a head and up to 63 before it.
+//! - [`laws`]: theorems. What a head's journal implies for its versions and the specification; what the outcome of a commit
+//!   means; the version on which a work began remains one of the head's history.
 //!
-//! The definitions stand in `specs/`: items and where they lead in `Journals`, what a head is and what a commit does to it in
-//! `Heads`, what its answer says of the plain book in `Outcomes`, the laws in `Laws`. Nothing outside this crate knows how a
-//! commit is checked:
+//! The definitions are in `specs/`. `Journals` defines items and where they lead, `Heads` what a head is and what a commit does
+//! to it. `Outcomes` says what the outcome means in terms of the specification, and `Laws` has the theorems. No other crate
+//! depends on how a commit is checked:
 //!
-//! - `check`: whether a later batch wrote what a work has read; `prepare`: what a work that is ready comes to.
+//! - `check`: whether a later batch wrote what a work has read; `prepare`: the outcome of a ready work on the newest version.
 #![tactic(auto)]
 
 mod check;

@@ -1,4 +1,4 @@
-//! What does a work that is ready come to at the newest version?
+//! What is the outcome of a ready work on the newest version?
 
 ghost use Rattle.std.specs.Prelude.{◌≡◌, ◌≤◌, ◌^◌, IfErr, IfOk};
 ghost use Rattle.entry_book.specs.Laws.{IsWithinLimits};
@@ -16,7 +16,7 @@ use entry_book::{Batch, Limit, OpReply, Sequence, Shared, limit_passed};
 use std::alloc::AllocError;
 use version_book::{Changes, Version};
 
-/// The first limit that a version's book passes that is to follow the book at this place.
+/// Returns the first limit that the book of a version passes, if any. `place` is that of the book before it.
 fn limit_of(place: u64, version: &Version) -> Option<Limit>
     ensures { result ≡ limit_passed place (book_of version.now.rows) }
 {
@@ -30,7 +30,7 @@ fn limit_of(place: u64, version: &Version) -> Option<Limit>
     )
 }
 
-/// What the journal is to keep of a commit. It shares what it keeps; the error is want of memory.
+/// Makes the journal's item of a commit, which copies no text. The error is out of memory.
 fn item_of(
     seat: u32,
     call: u64,
@@ -55,8 +55,8 @@ fn item_of(
     })
 }
 
-/// What a work that is ready comes to at the newest version, while these items of the journal are kept: a commit that is
-/// prepared, or why there is none.
+/// Makes the prepared commit of a ready work on the newest version, or returns why it can't be committed. `kept` are the
+/// retained items of the journal.
 pub(crate) fn prepared(
     seat: u32,
     call: u64,

@@ -1,4 +1,4 @@
-//! What is a commit that is prepared?
+//! What is a prepared commit?
 
 ghost use Rattle.std.specs.Prelude.{◌≡◌};
 
@@ -6,8 +6,8 @@ use crate::item::Item;
 use std::marker::Model;
 use version_book::Version;
 
-/// A commit that has passed its checks and has all its memory: the item of the journal, and the version after its batch. It
-/// lends both; the head that made it finishes it.
+/// A commit that has passed its checks and needs no more memory: the item for the journal, and the version after its batch.
+/// Both can be borrowed; the head that prepared the commit finishes it.
 #[derive(Drop)]
 pub struct Prepared {
     pub(crate) item: Item,
@@ -28,14 +28,14 @@ impl Model for Prepared {
 impl Prepared {
     ghost use Rattle.std.specs.Prelude.{◌≡◌};
 
-    /// The item that the journal is to have.
+    /// Returns the item for the journal.
     pub fn item(&self) -> &Item
         ensures { result.now ≡ self.now.item }
     {
         &self.item
     }
 
-    /// The version that the window is to have.
+    /// Returns the version for the window.
     pub fn version(&self) -> &Version
         ensures { result.now ≡ self.now.version }
     {
