@@ -35,7 +35,7 @@ kept_same : (token : Option Bytes) (b c : Book) → AllByRecursion (Agree b c) (
 kept_same None b c h = refl
 kept_same (Some k) b c h = ap (λ r. first r.tokens) h.0
 
--- what it meets on a book under whose token this is kept
+-- the case that it meets on a book that stores this under its token
 abbrev case_with : Option KeptBatch → Book → Case
 case_with o b = option_map_or kept o (runs b)
 
@@ -61,7 +61,7 @@ batch_decided batch b c u v h =
     let o = one_case batch b c u v (kept_under batch.token b) (kept_under batch.token c) k h in
     record { kept = k; marks = o.0; runs = o.1; wait = o.2 }
 
--- ---- at its place, nothing being kept under its token
+-- ---- at its place, if its token isn't in use
 
 pub verdict_there : (batch : Batch) (s : State) (t : RunEffect) → batch.after ≤ s.number → kept_under batch.token (book_of s.rows) ≡ None → is_query batch.ops ≡ false → run batch.domain batch.ops (book_of s.rows) ≡ Ok t → verdict batch s.number (Some (book_of s.rows)) ≡ adds_within (limit_passed s.number (after (batch_writes batch (s.number + 1) t) (book_of s.rows))) t.replies (after (batch_writes batch (s.number + 1) t) (book_of s.rows))
 verdict_there batch s t a k q r =
@@ -88,7 +88,7 @@ commit_check batch base newest t m a l w u h q r =
       is_full = λ limit n. there ∙ ap (λ x. adds_within x t.replies (after (batch_writes batch (newest.number + 1) t) c)) n;
     }
 
--- ---- a batch that doesn't wait isn't committed
+-- ---- a batch that doesn't await its commit isn't committed
 
 -- neither committed nor refused for a limit
 abbrev Settles : ℕ → Verdict → Type 0
@@ -114,11 +114,11 @@ others_dont_commit batch books h =
     let place = place_of books in
     subst (λ v. Settles place v) (sym (verdict_by_case batch place (book_for (past_place batch.ops) books))) (case_settles batch place (case_of batch books) h)
 
--- nor is one that doesn't await its commit on what its work began on
+-- the same for a batch that doesn't await its commit on what its work began on
 pub answers_no_commit : (batch : Batch) (base : Base) → awaits_there batch base ≡ false → is_committed (reply_there batch base).outcome ≡ false
 answers_no_commit batch base h = (subst (λ v. Settles base.newest.number v) (sym (verdict_by_case batch base.newest.number (book_read batch base))) (case_settles batch base.newest.number (case_there batch base) h)).0
 
--- ---- which batches wait
+-- ---- which batches await their commit
 
 last_read : (b c : Book) → Some b ≡ Some c → b ≡ c
 last_read b c e = cc

@@ -1,4 +1,4 @@
--- How many reads an operation makes at most, and a batch.
+-- The maximum number of reads of an operation, and of a batch.
 use Rattle.std.proofs.Common.{◌≡◌, ℕ, suc, ◌+◌, ◌*◌, ◌^◌, ◌≤◌, Bool, true, false, cond, List, [], ◌∷◌, ◌++◌, length, map, Option, Some, None, Result, Ok, Err, refl, sym, ap, subst, IfSome, IfOk, arith, length-append}
 use Rattle.std.specs.Prelude.{flat_map, is_some, nat_lt, option_to_list}
 use Rattle.std.specs.List.{AllByRecursion}
@@ -165,7 +165,7 @@ all_put batch ops b inside = All-from_within (PutsNamed (identities batch b) (do
   domain = All-from_within (Within (domains ops b)) (domain_set op) (λ d v. within_right (map (λ d. d.domain) b.bundles) (flat_map domain_set ops) d (within_flat domain_set ops op d w v));
 })
 
--- ---- the laws
+-- ---- the theorems
 
 ok_is : {X E : Type 0} (P : X → Type 0) (r : Result X E) (x : X) → r ≡ Ok x → IfOk r P → P x
 ok_is {E = E} P r x e h = let k : IfOk {E = E} (Ok x) P = subst (λ r. IfOk r P) e h in k

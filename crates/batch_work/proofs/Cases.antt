@@ -1,4 +1,4 @@
--- What a batch meets, and what follows from it.
+-- The case that a batch meets, and what follows from it.
 use Rattle.std.proofs.Common.{◌≡◌, ℕ, ◌≤◌, Bool, true, false, cond, not, ◌&&◌, Option, Some, None, Ok, Err, refl, sym, ap, ◌∙◌}
 use Rattle.std.specs.Prelude.{nat_lt, is_ok}
 use Rattle.std.specs.Option.{option_map_or}
@@ -12,7 +12,7 @@ use Rattle.entry_book.specs.Runs.{RunEffect, RunResult, run}
 use Rattle.batch_work.specs.Laws.{VerdictByCase}
 use Rattle.batch_work.specs.Reads.{Case, early, gone, kept, runs, case_on, case_at, awaits_in, verdict_in}
 
--- ---- the plain book's verdict
+-- ---- the specification's verdict
 
 verdict_kept : (o : Option KeptBatch) (batch : Batch) (place : ℕ) (b : Book) → verdict_over o batch place b ≡ verdict_in batch place (option_map_or kept o (runs b))
 verdict_kept (Some k) batch place b = refl
@@ -38,7 +38,7 @@ pub unkept : (o : Option KeptBatch) (b c : Book) → option_map_or kept o (runs 
 unkept (Some k) b c e = cc
 unkept None b c e = let q : b ≡ c = cc in (refl, q)
 
--- only where it doesn't come too early, on the book that it reads, and nothing is kept there under its token
+-- only if it doesn't come too early, it reads this book, and its token isn't in use there
 pub of_runs : (t : Bool) (batch : Batch) (o : Option Book) (b : Book) → cond t early (option_map_or (case_on batch) o gone) ≡ runs b → (t ≡ false) × (o ≡ Some b) × (kept_under batch.token b ≡ None)
 of_runs true batch o b e = cc
 of_runs false batch None b e = cc
@@ -51,7 +51,7 @@ ok_waits true r e = cc
 ok_waits false (Err s) e = cc
 ok_waits false (Ok t) e = (refl, t, refl)
 
--- where it runs on this book, some operation changes it, and all are accepted
+-- it runs on this book, isn't read-only, and its operations are accepted
 abbrev pub Waits : Batch → Case → Type 0
 Waits batch c = (b : Book) × (c ≡ runs b) × (is_query batch.ops ≡ false) × (t : RunEffect) × (run batch.domain batch.ops b ≡ Ok t)
 

@@ -1,4 +1,4 @@
--- How long a list is that has each of its items once.
+-- The length of a list without repeats.
 use Rattle.std.proofs.Common.{◌≡◌, ◌<◌, ◌≤◌, suc, true, false, not, cond, List, [], ◌∷◌, length, refl, subst, inl, inr, ⊎_elim, arith}
 use Rattle.std.specs.Prelude.{filter, bytes_eq}
 use Rattle.std.proofs.lemmas.Bool.{both_ways, not_from_false, false_from_ne_true}
@@ -14,7 +14,7 @@ fewer_without x (y ∷ ys) w = elim (bytes_eq y x) as (λ t. bytes_eq y x ≡ t 
   | false ↦ λ e. let l = fewer_without x ys (⊎_elim (λ q. absurd (both_ways _ e (text_same y x q))) (λ v. v) w) in omega arith
 ] refl
 
--- it is no longer than a list that has all its items
+-- it isn't longer than a list that has all its items
 pub no_longer : (xs ys : List Bytes) → EachOnce xs → ((x : Bytes) → Within xs x → Within ys x) → length xs ≤ length ys
 no_longer [] ys d h = omega arith
 no_longer (x ∷ xs) ys d h =

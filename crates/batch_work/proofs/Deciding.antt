@@ -35,7 +35,7 @@ plays_same s op b c p (m ∷ ms) o h all = (
       (goes_on (advance s op p (reads (mark_of s op p) b)) ms o (λ q. Plays s op q b ms o) (λ q. Plays s op q c ms o) (λ q t. plays_same s op b c q ms o t all.1) h.1),
 )
 
--- ---- steps on one book come to one end
+-- ---- steps on one book have one end
 
 Same : List MarkKind → List MarkKind → OpResult → OpResult → Type 0
 Same ms ns o q = (ms ≡ ns) × (o ≡ q)

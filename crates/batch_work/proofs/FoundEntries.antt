@@ -1,4 +1,4 @@
--- What a walk is after the entries of a read.
+-- The walk after the entries of a read.
 use Rattle.std.proofs.Common.{◌≡◌, ◌<◌, ◌≤◌, arith, true, false, ◌&&◌, List, [], ◌∷◌, ◌++◌, length, Some, refl}
 use Rattle.std.specs.Prelude.{filter}
 use Rattle.std.specs.List.{list_all}
@@ -8,11 +8,11 @@ use Rattle.entry_book.specs.Rows.{Bytes, Entry, entry_key}
 use Rattle.batch_work.specs.Reads.{is_one_of}
 use Rattle.batch_work.specs.WalkStates.{WalkState, is_empty, met_when, with_text, with_found, walked}
 
--- one entry more, by its three sets
+-- one more entry, by its three sets
 pub walked_next : (a : Agent) (e : Entry) (es : List Entry) (m w m' w' : List Bytes) (f f' : List Entry) → m' ≡ met_when (is_one_of e.identity m) e.identity m → w' ≡ met_when (is_one_of e.identity m) e.identity w → f' ≡ with_row entry_key e.id (Some e) f → walked es (record { agent = a; met = m'; waiting = w'; found = f' }) ≡ walked (e ∷ es) (record { agent = a; met = m; waiting = w; found = f })
 walked_next a e es m w m' w' f f' p q r = rw (p, q, r) refl
 
--- ---- whether an identity waits in the end
+-- ---- whether an identity is pending at the end
 
 text_stands : (x : Bytes) (xs : List Bytes) → is_empty (with_text x xs) ≡ false
 unfolding with_row
@@ -28,7 +28,7 @@ still_waits (e ∷ es) w h = still_waits es (with_found e w) (elim (is_one_of e.
   | false ↦ text_stands e.identity w.waiting
 ])
 
--- where none waits, none does after the entries if the identities of all were met
+-- if none is pending, none is after the entries exactly if the identities of all were met
 pub ends_when : (es : List Entry) (w : WalkState) → is_empty w.waiting ≡ true → is_empty (walked es w).waiting ≡ list_all (λ (e : Entry). is_one_of e.identity w.met) es
 ends_when [] w h = h
 ends_when (e ∷ es) w h = elim (is_one_of e.identity w.met) as (λ t. is_one_of e.identity w.met ≡ t → is_empty (walked es (record w { met = met_when t e.identity w.met; waiting = met_when t e.identity w.waiting; found = with_row entry_key e.id (Some e) w.found })).waiting ≡ (t && list_all (λ (e : Entry). is_one_of e.identity w.met) es)) [

@@ -1,4 +1,4 @@
--- In which order the reads of a batch stand.
+-- The order of the reads of a batch.
 use Rattle.std.proofs.Common.{◌≡◌, List, [], ◌∷◌, ◌++◌, Option, Some, None, Ok, Err, refl, sym, ap, ◌∙◌}
 use Rattle.std.specs.Option.{option_map_or}
 use Rattle.std.proofs.lemmas.List.{append_assoc}
@@ -48,7 +48,7 @@ module _ (own : Bytes) (op : Op) (later : List Op) where
 pub reads_in_order : ReadsInOrder
 reads_in_order own before op later b t e = splits own op later before b t e
 
--- what a batch meets on a book under whose token this is kept
+-- the case that a batch meets on a book that stores this under its token
 meets : (batch : Batch) (b : Book) (k : Bytes) (o : Option KeptBatch) → batch.token ≡ Some k → token_at k b ≡ o → case_on batch b ≡ option_map_or kept o (runs b)
 meets batch b k o e n = ap (λ x. option_map_or kept x (runs b)) (ap (λ t. kept_under t b) e ∙ n)
 

@@ -1,4 +1,4 @@
--- What a read may rest on, and what it comes to.
+-- What a read may assume, and what follows from it.
 use Rattle.std.proofs.Common.{◌≡◌, ℕ, zero, suc, ◌+◌, ◌*◌, ◌≤◌, ◌^◌, List, [], ◌∷◌, get_or, drop, Some, sym, ap, subst, ◌∙◌, arith}
 use Rattle.spiffe_name.specs.Id.{server_text}
 use Rattle.entry_book.specs.declared.op.Op.{Op}

@@ -1,4 +1,4 @@
--- Which identities and domains the rows of a book have along a run: those that they had, and those that operations put.
+-- The identities and domains of a book's rows along a run: those that it had, and those that operations put.
 use Rattle.std.proofs.Common.{ℕ, ◌+◌, true, false, List, [], ◌∷◌, ◌++◌, map, Option, Some, None, Ok, Err, subst, ⊎_elim, IfSome, IfOk}
 use Rattle.std.specs.Prelude.{⊤, Bool, option_to_list}
 use Rattle.std.specs.List.{AllByRecursion}

@@ -1,4 +1,4 @@
--- Which mark a work that runs reads next.
+-- The mark that a running work reads next.
 use Rattle.std.proofs.Common.{◌≡◌, ℕ, List, [], ◌∷◌, ◌++◌, length, get_or, Some, None, Ok, Err, IfOk, refl, sym, ap, ◌∙◌}
 use Rattle.std.specs.Prelude.{MatchResult, Result, slice_get}
 use Rattle.spiffe_name.specs.Id.{server_text}
@@ -21,7 +21,7 @@ use Rattle.batch_work.specs.Standing.{AtStart, AtToken, Going, InTime, StandsRea
 use Rattle.batch_work.proofs.Looking.{op_is}
 use Rattle.batch_work.proofs.Standing.{meets_none, token_first}
 
--- the item behind these
+-- the item after these
 at_length : {X : Type 0} (xs : List X) (y : X) (ys : List X) → slice_get (xs ++ y ∷ ys) (length xs) ≡ Some y
 at_length [] y ys = refl
 at_length (x ∷ xs) y ys = at_length xs y ys
@@ -43,7 +43,7 @@ module _ (batch : Batch) (base : Base) (marks : List MarkKind) where
         let read = token_first batch base a.in_time t.s t.read_is k t.token_is in
         behind (mark.Token k) read.0 (ap (λ l. l ++ mark.Token k ∷ read.0) a.no_marks ∙ sym read.1)
 
-    -- a read that was made and is to be taken down
+    -- a read that was made and is to be recorded
     pub next_read : (m : MarkKind) (f : Found) → StandsRead m f batch base marks changes replies → slice_get (footprint_there batch base) (length marks) ≡ Some m
     next_read m (found.Op n next) l = behind m (l.left ++ later_marks l.at_hand) l.reads_are
     next_read m (found.Kept o) h = next_token h.1.0 h.0 h.1.1 ∙ ap Some (sym h.1.2)
@@ -55,7 +55,7 @@ module _ (batch : Batch) (base : Base) (marks : List MarkKind) where
         first_left (server_text batch.domain) g.at_hand.op p _ g.left g.at_hand.answer g.plays (later_marks g.at_hand) g.reads_are
         ∙ ap Some (sym (e ∙ (ap (λ t. mark_of t op p) k ∙ ap (λ o. mark_of (server_text batch.domain) o p) (sym here))))
 
--- what holds of a value holds of its copy
+-- a property of a value is one of its copy
 pub when_copied : {T E : Type 0} (P : T → Type 0) (value : T) → P value → (other : E → Type 0) (r : Result T E) → MatchResult r (λ copy. copy ≡ value) other → IfOk r P
 when_copied P value h other (Ok copy) is = rw is h
 when_copied P value h other (Err e) is = tt

@@ -1,4 +1,4 @@
--- What a search finds in rows in order, and what is put at its place.
+-- What a search finds in rows in order, and what is put at its index.
 use Rattle.std.proofs.Common.{◌≡◌, ℕ, zero, suc, ◌+◌, ◌<◌, ◌≤◌, Bool, true, false, List, [], ◌∷◌, ◌++◌, length, get_or, set, take, drop, Some, Result, Ok, Err, refl, sym, ap, subst, ◌∙◌, inl, inr, ⊎_elim, arith}
 use Rattle.std.specs.Prelude.{filter, bytes_eq}
 use Rattle.std.specs.List.{AllByRecursion, HoldsAt, list_any, insert}
@@ -19,7 +19,7 @@ use Rattle.batch_work.specs.Places.{IsPlace}
 use Rattle.batch_work.specs.Reads.{is_one_of}
 use Rattle.batch_work.specs.WalkStates.{met_when, with_text}
 
--- ---- what passes a test in front, and what fails it
+-- ---- the items before the first that fails a test, and those after
 
 none_pass : {X : Type 0} (p : X → Bool) (xs : List X) → AllByRecursion (λ x. p x ≡ false) xs → filter p xs ≡ []
 none_pass p [] h = refl
@@ -40,7 +40,7 @@ not_before x y h = ⊎_elim (λ t. absurd (before-irrefl x (before-trans x y x h
 not_itself : (x : Bytes) → is_before x x ≡ false
 not_itself x = ⊎_elim (λ t. absurd (before-irrefl x t)) (λ f. f) (cases_Bool (is_before x x))
 
--- ---- the order of a search's answers
+-- ---- the order of a search's results
 
 less : (x y : Bytes) → slice_cmp nat_cmp x y ≡ Less → is_before x y ≡ true
 unfolding is_before
@@ -54,7 +54,7 @@ equal : (x y : Bytes) → slice_cmp nat_cmp x y ≡ Equal → x ≡ y
 equal x y h = slice_cmp-IsAntisymmetric nat_cmp-IsAntisymmetric x y h
 
 module _ {X : Type 0} (key : X → Bytes) where
-  -- no later row is before an earlier one
+  -- no later row is less than an earlier one
   adjacent : (xs : List X) → Ascending key xs → (n : ℕ) (d : X) → suc n < length xs → is_before (key (get_or xs (suc n) d)) (key (get_or xs n d)) ≡ false
   adjacent [] a n d h = absurd (omega arith)
   adjacent (x ∷ []) a n d h = absurd (omega arith)
@@ -69,7 +69,7 @@ module _ {X : Type 0} (key : X → Bytes) where
   rises xs k a = searchable_from_sorted nat_list_cmp_total key xs k (λ n d l h. rw (ap (λ m. is_lt (slice_cmp nat_cmp (key (get_or xs m d)) (key (get_or xs n d)))) (next n)) (adjacent xs a n d (omega arith)))
 
   module _ (k : Bytes) where
-    -- the rows below the key, and those above it, by their places
+    -- the rows below the key, and those above it, by their indexes
     abbrev LowBelow : List X → ℕ → Type 0
     LowBelow xs n = (i : ℕ) (d : X) → i < n → is_before (key (get_or xs i d)) k ≡ true
 
@@ -110,7 +110,7 @@ module _ {X : Type 0} (key : X → Bytes) where
         let f : is_before k (key x) ≡ false = not_before (key x) k b in
         (rw b (ap (λ l. x ∷ l) r.0), rw f r.1)
 
-    -- what a binary search answers is the key's place
+    -- the result of a binary search is the key's index
     pub searched : (xs : List X) (r : Result ℕ ℕ) → Ascending key xs → IsSearchInRange r (length xs) → IsBinarySearchResult (λ y. slice_cmp nat_cmp (key y) k) xs r → IsPlace key xs k r
     searched xs (Ok n) a h p =
         let e : HoldsAt (λ x. key x ≡ k) xs n = λ d. equal (key (get_or xs n d)) k (p d) in
@@ -121,7 +121,7 @@ module _ {X : Type 0} (key : X → Bytes) where
         let r = gap xs n h (λ i d l. less (key (get_or xs i d)) k (q.0 i d (omega arith) l)) (λ i d l m. greater (key (get_or xs i d)) k (q.1 i d l m)) in
         (h, r.0, r.1)
 
-    -- ---- is the key there?
+    -- ---- whether the key is there
 
     pub is_there : (xs : List X) (n : ℕ) → IsPlace key xs k (Ok n) → list_any (λ y. bytes_eq (key y) k) xs ≡ true
     is_there [] n p = let h = p.0 in absurd (omega arith)
@@ -142,7 +142,7 @@ module _ {X : Type 0} (key : X → Bytes) where
         (λ f. f)
         (cases_Bool (list_any (λ y. bytes_eq (key y) k) xs))
 
-    -- ---- a row that is put at the place
+    -- ---- a row that is put at the index
 
     pub put_at : (xs : List X) (n : ℕ) (x : X) → IsPlace key xs k (Ok n) → set xs n x ≡ with_row key k (Some x) xs
     unfolding with_row
@@ -152,7 +152,7 @@ module _ {X : Type 0} (key : X → Bytes) where
     unfolding with_row
     put_in xs n x p = ap (λ l. l ++ x ∷ drop n xs) p.1 ∙ ap (λ l. filter (λ x. is_before (key x) k) xs ++ x ∷ l) p.2
 
--- a text of the set that is put there again
+-- adding a text that is in the set
 pub put_again : (x : Bytes) (xs : List Bytes) → Ascending (λ t. t) xs → is_one_of x xs ≡ true → with_text x xs ≡ xs
 put_again x xs a h =
     let v = from_any (λ y. bytes_eq y x) xs h in
@@ -165,7 +165,7 @@ put_again x xs a h =
     (λ t. within_with_row (λ t. t) x (Some x) xs y u (λ e. before-irrefl x (subst (λ z. is_before x z ≡ true) e t))) v)
     (before-total y x))
 
--- a text that is put into the set where it is missing
+-- adding a text to the set adds it if it is missing
 pub put_missing : (x : Bytes) (xs : List Bytes) → Ascending (λ t. t) xs → with_text x xs ≡ met_when (is_one_of x xs) x xs
 put_missing x xs a = elim (is_one_of x xs) as (λ t. is_one_of x xs ≡ t → with_text x xs ≡ met_when t x xs) [
   | true ↦ λ e. put_again x xs a e

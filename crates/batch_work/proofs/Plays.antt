@@ -1,4 +1,4 @@
--- The steps of an operation are its reads, and come to its answer.
+-- The steps of an operation are its reads, and end with its result.
 use Rattle.std.proofs.Common.{◌≡◌, ℕ, zero, suc, ◌+◌, ◌≤◌, Bool, true, false, cond, List, [], ◌∷◌, ◌++◌, length, map, drop, Option, Some, None, refl, sym, ap, subst, ◌∙◌, arith}
 use Rattle.std.specs.Prelude.{filter, bytes_eq, flat_map, is_some, slice_get}
 use Rattle.std.specs.List.{AllByRecursion}
@@ -39,7 +39,7 @@ use Rattle.batch_work.proofs.TrustedBundles.{named_bundles}
 abbrev Turn : Bytes → Op → Book → Next → List MarkKind → OpResult → Type 0
 Turn s op b n ms o = GoesOn n ms o (λ q. Plays s op q b ms o)
 
--- ---- lists by places
+-- ---- lists by index
 
 at_place : {X : Type 0} (xs : List X) (n : ℕ) → drop n xs ≡ [] → slice_get xs n ≡ None
 at_place [] n e = refl
@@ -122,7 +122,7 @@ module _ (s : Bytes) (op : Op) (b : Book) where
     ended : (rs : List Bytes) (w : WalkState) → Reached a rs (found s a rs b) w → AllByRecursion (Known s a b) rs → unread a rs (found s a rs b) ≡ [] → Turn s op b (walk_end ask w.found) tail o
     ended rs w r k u = subst (λ es. Turn s op b (walk_end ask es) tail o) (sym (walk_gives s a b ordered.entries rs k u w.found r.found_order r.from_found r.into_found)) ending
 
-    -- the children of one identity more were read
+    -- the children of one more identity were read
     goes_on : (rs : List Bytes) (w : WalkState) (i : Bytes) (is : List Bytes) → Reached a rs (found s a rs b) w → w.waiting ≡ i ∷ is → Reached a (i ∷ rs) (found s a (i ∷ rs) b) (walked (children_of i b) (record w { waiting = is }))
     goes_on rs w i is r h = all_found_in a b.entries ordered.entries (i ∷ rs) (children_of i b) (found s a rs b) (record w { waiting = is }) (one_read a rs (found s a rs b) w i is r h) (found_inside s a b rs) (child_inside i)
 

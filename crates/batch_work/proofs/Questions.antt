@@ -1,4 +1,4 @@
--- A read-only batch, answered in one pass: its operations one after another, and the walk to an agent's authorised entries.
+-- A read-only batch, evaluated in one pass: its operations one after another, and the walk to an agent's authorised entries.
 use Rattle.std.proofs.Common.{◌≡◌, ℕ, zero, suc, ◌+◌, ◌<◌, ◌≤◌, Bool, true, false, cond, List, [], ◌∷◌, ◌++◌, append_assoc, length, get_or, drop, Option, Some, None, Ok, Err, refl, sym, ap, ◌∙◌, arith, subst}
 use Rattle.std.specs.Prelude.{IfSome, filter, bytes_eq, is_some, nat_lt, option_map, option_to_list}
 use Rattle.std.specs.List.{AllByRecursion}
@@ -44,7 +44,7 @@ question_at (x ∷ ops) zero op q less e = ap is_question e ∙ (and_parts (is_q
 question_at (x ∷ ops) (suc n) op q less e = question_at ops n op (and_parts (is_question x) _ q).1 (omega arith) e
 
 module _ (domain : Bytes) (ops : List Op) (b : Book) where
-  -- what is left of the run after n operations with these replies
+  -- the rest of the run after n operations with these replies
   abbrev pub left : ℕ → List OpReply → RunResult
   left n replies = going_on replies [] n (run domain (drop n ops) b)
 
@@ -85,7 +85,7 @@ no_token : (token : Option Bytes) → (is_some token ≡ true → true ≡ false
 no_token None h = refl
 no_token (Some k) h = let q = h refl in cc
 
--- on the version that it reads, where that is there and it may run
+-- on the version that it reads, if this is there and the batch may run
 pub asked_there : (batch : Batch) (base : Base) (s : State) → IsMadeFor batch.domain batch → is_query batch.ops ≡ true → nat_lt base.newest.number batch.after ≡ false → Some s ≡ version_read (past_place batch.ops) base → reply_there batch base ≡ reply_with base.newest.number (verdict_run batch base.newest.number (book_in s))
 asked_there batch base s made query early e =
     let n = base.newest.number in
@@ -96,7 +96,7 @@ asked_there batch base s made query early e =
     ∙ (ap (λ t. reply_with n (cond t (refuses NotYet) (verdict_on batch n (Some b)))) early
     ∙ ap (λ t. reply_with n (verdict_over (kept_under t b) batch n b)) none)
 
--- where it reads no version, it is refused for that
+-- if it reads no version, it is refused for this reason
 pub refused_there : (batch : Batch) (base : Base) (refusal : Refusal) → ReadsNone batch base refusal → reply_there batch base ≡ record { place = base.newest.number; outcome = Refused refusal }
 refused_there batch base NotYet none = sym (early_settles batch base none _ refl).reply_is
 refused_there batch base TokenReused none = absurd none
@@ -124,7 +124,8 @@ bundles_more b ordered ds n d found more less e is =
 -- ---- the walk
 
 module _ (s : Bytes) (a : Agent) (b : Book) where
-  -- After n reads these identities were read. The entries that have another one, and n, are together no more than all entries.
+  -- After n reads, these identities were read. The number of entries with another identity and n add up to at most the number
+  -- of entries.
   pub record Walking (n : ℕ) (w : WalkState) : Type 0 where
     pub read : List Bytes
     pub reached : Reached a read (found s a read b) w
@@ -165,7 +166,7 @@ module _ (s : Bytes) (a : Agent) (b : Book) where
           left = let f = fewer s a b k.read i is u in let l = k.left in omega arith;
         }
 
-    -- after as many reads as there are entries none waits
+    -- after as many reads as there are entries, no identity is pending
     pub none_waits : (n : ℕ) (w : WalkState) → Walking n w → length b.entries ≤ n → w.waiting ≡ []
     none_waits n w k end = none w.waiting refl
       where

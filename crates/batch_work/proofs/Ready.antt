@@ -1,4 +1,4 @@
--- What a work that is at its end has read.
+-- What a work has read at its end.
 use Rattle.std.proofs.Common.{◌≡◌, ℕ, ◌+◌, ◌≤◌, Bool, true, false, cond, List, length, Option, Some, None, Ok, IfOk, refl, sym, ap, subst, ◌∙◌}
 use Rattle.std.specs.Prelude.{nat_lt, option_map}
 use Rattle.std.specs.Option.{option_map_or}
@@ -70,7 +70,7 @@ one_list (Some base) batch xs ys writes others a b = a.replies_are ∙ (ap (λ (
 pub same_replies : (w : Work) (xs ys : List OpReply) → HasReplies w xs → HasReplies w ys → xs ≡ ys
 same_replies w xs ys a b = one_list w.base w.batch xs ys a.0 b.0 a.1 b.1
 
--- ---- the plain book's next book
+-- ---- the specification's next book
 
 one_base : (b c : Base) → Some b ≡ Some c → b ≡ c
 one_base b c e = cc

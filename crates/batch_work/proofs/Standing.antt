@@ -1,4 +1,4 @@
--- A read, and what it shows, keep a work's course.
+-- A read, and what it finds, preserve the invariant of a work.
 use Rattle.std.proofs.Common.{◌≡◌, ℕ, zero, suc, ◌+◌, ◌*◌, ◌<◌, ◌≤◌, ◌^◌, Bool, true, false, cond, not, ◌&&◌, List, [], ◌∷◌, ◌++◌, length, drop, Option, Some, None, Ok, Err, IfOk, refl, sym, ap, subst, ◌∙◌, arith}
 use Rattle.std.specs.Prelude.{nat_lt, is_ok, option_map}
 use Rattle.std.specs.List.{AllByRecursion}
@@ -52,7 +52,7 @@ pub going_more : (replies : List OpReply) (writes : List RowWrite) (n : ℕ) (d 
 going_more replies writes n d (Ok t) = let p : replies ++ (d.reply ∷ t.replies) ≡ (replies ++ d.reply ∷ []) ++ t.replies = sym (append_assoc replies (d.reply ∷ []) t.replies) in let q : writes ++ (d.writes ++ t.writes) ≡ (writes ++ d.writes) ++ t.writes = sym (append_assoc writes d.writes t.writes) in rw (p, q) refl
 going_more replies writes n d (Err s) = let q : n + (s.op + 1) ≡ n + 1 + s.op = omega arith in ap (λ m. Err (record { op = m; reason = s.reason })) q
 
--- ---- operations by places
+-- ---- operations by index
 
 next_ops : (ops : List Op) (n : ℕ) (op : Op) (rest : List Op) → drop n ops ≡ op ∷ rest → drop (n + 1) ops ≡ rest
 next_ops ops n op rest e = (at_item ops n op rest e).1
@@ -95,7 +95,7 @@ module _ (batch : Batch) (base : Base) where
   abbrev own : Bytes
   own = batch.domain
 
-  -- it settles in a case where it awaits no commit
+  -- in a case without a commit, it settles
   case_settles : (c : Case) → case_there batch base ≡ c → awaits_in batch c ≡ false → (marks : List MarkKind) → marks ≡ footprint_in batch c → (reply : Reply) → reply ≡ reply_with base.newest.number (verdict_in batch base.newest.number c) → IsSettled batch base marks reply
   case_settles c e w marks m reply r = record {
     all_read = m ∙ sym (ap (footprint_in batch) e);
@@ -119,11 +119,11 @@ module _ (batch : Batch) (base : Base) where
     gone_settles g reply r = case_settles gone (meets_none g) refl (mark.All ∷ []) refl reply r
 
     module _ (s : State) (read_is : version_read (past_place batch.ops) base ≡ Some s) where
-      -- this is kept under its token
+      -- this is stored under its token
       meets : (o : Option KeptBatch) → kept_under batch.token (book_in s) ≡ o → case_there batch base ≡ option_map_or kept o (runs (book_in s))
       meets o k = case_read ∙ (ap (λ v. option_map_or (case_on batch) (option_map book_in v) gone) read_is ∙ ap (λ x. option_map_or kept x (runs (book_in s))) k)
 
-      -- what is kept under its token is read first
+      -- the batch stored under the token is read first
       pub token_first : (t : Bytes) → batch.token ≡ Some t → (later : List MarkKind) × (footprint_there batch base ≡ mark.Token t ∷ later)
       token_first t e = behind (kept_under batch.token (book_in s)) refl
         where
@@ -135,7 +135,7 @@ module _ (batch : Batch) (base : Base) where
       pub kept_settles : (t : Bytes) → batch.token ≡ Some t → (k : KeptBatch) → kept_under batch.token (book_in s) ≡ Some k → (reply : Reply) → reply ≡ reply_with base.newest.number (verdict_again (ops_eq k.ops batch.ops) k) → IsSettled batch base (mark.Token t ∷ []) reply
       kept_settles t e k h reply r = case_settles (kept k) (meets (Some k) h) refl (mark.Token t ∷ []) (sym (ap token_marks e)) reply r
 
-      -- nothing is kept, and its operations have this run
+      -- nothing is stored under its token, and its operations have this run
       module _ (free : kept_under batch.token (book_in s) ≡ None) where
         abbrev run_waits : Bool → RunResult → Bool
         run_waits query r = not query && is_ok r
@@ -156,13 +156,13 @@ module _ (batch : Batch) (base : Base) where
             none_waits true = refl
             none_waits false = refl
 
-        -- all are accepted, and only ask
+        -- all are accepted, and the batch is read-only
         pub answered_settles : (marks : List MarkKind) (t : RunEffect) → marks ≡ footprint_there batch base → run own batch.ops (book_in s) ≡ Ok t → is_query batch.ops ≡ true → (reply : Reply) → reply ≡ record { place = base.newest.number; outcome = Answered t.replies } → IsSettled batch base marks reply
         answered_settles marks t m e q reply r =
             run_settles (Ok t) e (ap (λ x. run_waits x (Ok t)) q) marks m reply
             (r ∙ sym (ap (λ x. reply_with base.newest.number (verdict_when x batch base.newest.number (book_in s) (Ok t))) q))
 
-        -- all are accepted, and some change the book
+        -- all are accepted, and the batch has changes
         pub changes_wait : IsMadeFor own batch → (marks : List MarkKind) (t : RunEffect) → marks ≡ footprint_there batch base → run own batch.ops (book_in s) ≡ Ok t → is_query batch.ops ≡ false → (replies : List OpReply) (writes : List RowWrite) → replies ≡ t.replies → writes ≡ batch_writes batch 0 t → IsReady batch base marks writes replies
         changes_wait made marks t m e q replies writes p w =
             let newest : Some base.newest ≡ Some s = sym (ap (λ o. version_read o base) (changes_newest own batch made q)) ∙ read_is in
@@ -176,7 +176,7 @@ module _ (batch : Batch) (base : Base) where
             some_same : (x y : State) → Some x ≡ Some y → x ≡ y
             some_same x y e = cc
 
-  -- ---- the beginning of an operation
+  -- ---- the begin of an operation
 
   module _ (made : IsMadeFor own batch) where
     pub at_op : (s : State) → version_read (past_place batch.ops) base ≡ Some s → InTime batch base → kept_under batch.token (book_in s) ≡ None → s.number ≤ 2 ^ 48 → (marks : List MarkKind) (changes : List RowWrite) (replies : List OpReply) (n : ℕ) (op : Op) (rest : List Op) → drop n batch.ops ≡ op ∷ rest → Lawful own (64 * s.number + n) (book_now s changes) → marks ++ marks_of_ops own (op ∷ rest) (book_now s changes) ≡ footprint_there batch base → going_on replies changes n (run own (op ∷ rest) (book_now s changes)) ≡ run own batch.ops (book_in s) → Going batch base marks changes replies n phase.First
@@ -235,7 +235,7 @@ module _ (batch : Batch) (base : Base) where
     pub looks : (p : Phase) (g : Going batch base marks changes replies n p) (m : MarkKind) → m ≡ mark_of (server_text own) g.at_hand.op p → (next : Next) → next ≡ advance (server_text own) g.at_hand.op p (reads (mark_of (server_text own) g.at_hand.op p) (book_now g.at_hand.s changes)) → Looked batch base marks changes replies n m next
     looks p g m k next e = looked_with p g.at_hand g.left g.plays g.reads_are m k next e
 
-    -- ---- what it shows
+    -- ---- what it finds
 
     pub goes : (m : MarkKind) (q : Phase) → Looked batch base marks changes replies n m (Goes q) → Going batch base (marks ++ m ∷ []) changes replies n q
     goes m q l = record { at_hand = l.at_hand; left = l.left; plays = l.goes_on; reads_are = append_assoc marks (m ∷ []) (l.left ++ later_marks l.at_hand) ∙ l.reads_are }
@@ -297,10 +297,10 @@ module _ (batch : Batch) (base : Base) where
       last_run : length batch.ops ≤ n + 1 → run own batch.ops (book_in i.s) ≡ Ok effect
       last_run h = sym ended_run ∙ (ap (λ r. going_on (replies ++ x ∷ []) (changes ++ ws) (n + 1) (run own r next_book)) (none_left h) ∙ (let p : (replies ++ x ∷ []) ++ [] ≡ replies ++ x ∷ [] = append-nil _ in let q : (changes ++ ws) ++ [] ≡ changes ++ ws = append-nil _ in rw (p, q) refl))
 
-      -- it was the last one, of those that only ask
+      -- it was the last one of a read-only batch
       pub ends_query : length batch.ops ≤ n + 1 → is_query batch.ops ≡ true → (reply : Reply) → reply ≡ record { place = base.newest.number; outcome = Answered (replies ++ x ∷ []) } → IsSettled batch base (marks ++ m ∷ []) reply
       ends_query h q reply r = answered_settles i.in_time i.s i.read_is i.unkept (marks ++ m ∷ []) effect (last_reads h) (last_run h) q reply r
 
-      -- it was the last one, of those that change the book
+      -- it was the last one of a batch of changes
       pub ends_changes : IsMadeFor own batch → length batch.ops ≤ n + 1 → is_query batch.ops ≡ false → (all : List OpReply) (writes : List RowWrite) → all ≡ replies ++ x ∷ [] → writes ≡ changes ++ (ws ++ token_writes batch.token batch.ops 0 all) → IsReady batch base (marks ++ m ∷ []) writes all
       ends_changes made h q all writes a w = changes_wait i.in_time i.s i.read_is i.unkept made (marks ++ m ∷ []) effect (last_reads h) (last_run h) q all writes a (w ∙ (sym (append_assoc changes ws _) ∙ ap (λ rs. (changes ++ ws) ++ token_writes batch.token batch.ops 0 rs) a))

@@ -1,4 +1,4 @@
--- What a work that is ready has.
+-- The status of a work at each stage, and the writes and replies of a ready one.
 use Rattle.std.proofs.Common.{◌≡◌, ℕ, ◌+◌, Bool, true, false, cond, List, [], ◌∷◌, ◌++◌, length, length-append, Option, Some, None, refl, sym, ap, subst, ◌∙◌, arith}
 use Rattle.std.specs.Prelude.{nat_lt, option_map}
 use Rattle.std.proofs.lemmas.Bool.{lt-ltb, both_ways}
@@ -24,7 +24,7 @@ use Rattle.batch_work.specs.Standing.{InOps, AtStart, AtToken, IsReady, IsNew, S
 use Rattle.batch_work.specs.Steps.{Plays}
 use Rattle.batch_work.proofs.Standing.{meets_none, token_first}
 
--- ---- more is to be read
+-- ---- more reads are to be made
 
 more : (marks : List MarkKind) (m : MarkKind) (ms reads : List MarkKind) → marks ++ (m ∷ ms) ≡ reads → nat_lt (length marks) (length reads) ≡ true
 more marks m ms reads e =
@@ -72,7 +72,7 @@ module _ (batch : Batch) (base : Base) (marks : List MarkKind) (changes : List R
   ready_at (stage.Ready all) h e = (all, h.accepted)
   ready_at (stage.Settled reply) h e = absurd (both_ways _ h.done (of_ready _ _ e).1)
 
--- the writes of a work that is ready
+-- the writes of a ready work
 pub ready_writes : (begun : Option Begun) (g : Stage) (batch : Batch) (marks : List MarkKind) (changes : List RowWrite) (replies : List OpReply) → Stands begun g batch marks changes replies → status_from (option_map base_of begun) batch (length marks) ≡ Ready → (all : List OpReply) × IsAcceptedOn (option_map base_of begun) batch all changes
 ready_writes None g batch marks changes replies h e = cc
 ready_writes (Some begun) g batch marks changes replies h e = ready_at batch (base_of begun) marks changes replies g h.1 e

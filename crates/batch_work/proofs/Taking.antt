@@ -1,4 +1,4 @@
--- The stage of a work once a read was taken down.
+-- The stage of a work after a read was recorded.
 use Rattle.std.proofs.Common.{◌≡◌, ℕ, ◌+◌, ◌<◌, ◌≤◌, true, false, List, [], ◌∷◌, ◌++◌, length, Option, Some, None, IfSome, refl, sym, ap, subst, ◌∙◌, arith}
 use Rattle.entry_book.specs.declared.reply.OpReply.{OpReply}
 use Rattle.entry_book.specs.declared.reply.Outcome.TheVariants.{Answered}
@@ -56,7 +56,7 @@ is_readable : (batch : Batch) (o : Option State) (s : State) → o ≡ Some s �
 is_readable batch (Some x) s e r = let q : x ≡ s = cc in subst (IsReadable batch.domain) q r
 is_readable batch None s e r = cc
 
--- nothing is kept under the token
+-- nothing is stored under the token
 pub none_kept : (batch : Batch) (begun : Begun) → BeganOn batch begun → (marks : List MarkKind) (changes : List RowWrite) (replies : List OpReply) (m : MarkKind) → StandsRead m (found.Kept None) batch (base_of begun) marks changes replies → Going batch (base_of begun) (marks ++ m ∷ []) changes replies 0 phase.First
 none_kept batch begun began marks changes replies m h =
     let start = h.0 in

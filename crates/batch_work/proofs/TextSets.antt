@@ -29,7 +29,7 @@ within_text_set (y ∷ ys) x w =
           (λ i. both_ways _ q (text_same x y i))
     ] refl
 
--- ---- a text that is put into a set
+-- ---- adding a text to a set
 
 pub into_text : (x y : Bytes) (set : List Bytes) → Within set y → Within (with_text x set) y
 into_text x y set w = elim (bytes_eq y x) as (λ t. bytes_eq y x ≡ t → Within (with_text x set) y) [

@@ -14,7 +14,7 @@ use Rattle.batch_work.proofs.TextSets.{within_map}
 use Rattle.batch_work.proofs.Walks.{found_inside, next_is}
 
 module _ (s : Bytes) (a : Agent) (b : Book) where
-  -- what is read wasn't read before, and is the identity of an entry of the book
+  -- an identity that is read wasn't read before, and is that of an entry of the book
   pub walk_new : (n : ℕ) (rs : List Bytes) (i : Bytes) → Within (walk n s a rs b) i → (is_one_of i (a.id ∷ rs) ≡ false) × Within (identities_of b) i
   walk_new zero rs i w = absurd w
   walk_new (suc n) rs i w = go (unread a rs (found s a rs b)) refl w (λ j v. walk_new n (j ∷ rs) i v)

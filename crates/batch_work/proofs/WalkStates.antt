@@ -1,4 +1,4 @@
--- How the sets of a walk stand to what was read: the identities met, those that wait, and the entries found.
+-- How the sets of a walk relate to what was read: the identities met, the pending ones, and the entries found.
 use Rattle.std.proofs.Common.{◌≡◌, true, false, not, ◌⊎◌, List, [], ◌∷◌, ◌++◌, Some, map, refl, sym, ap, subst, ◌∙◌, inl, inr, ⊎_elim}
 use Rattle.std.specs.Prelude.{bytes_eq}
 use Rattle.std.proofs.lemmas.Bool.{both_ways, not-true, not_from_false}
@@ -135,7 +135,7 @@ module _ (a : Agent) where
         (λ e v. ⊎_elim (λ o. inside e o) (λ q. subst (Within rows) q (here f (inl refl))) (one_of_more es f e v))
         (λ e v. here e (inr v)))
 
-  -- those that wait are those that are unread
+  -- the pending identities are those that are unread
   pub waiting_is : (rs : List Bytes) (es : List Entry) (w : WalkState) → Reached rs es w → w.waiting ≡ unread a rs es
   waiting_is rs es w r = same_sets (λ t. t) w.waiting (unread a rs es) r.waiting_order (text_set-ascending _)
       (λ x v. let h = r.from_waiting x v in within_text_set _ x (within_filter (λ i. not (is_one_of i (a.id ∷ rs))) (map (λ e. e.identity) es) x (subst (Within (map (λ e. e.identity) es)) (h.0).2 (within_map (λ e. e.identity) es (h.0).0 (h.0).1)) (not_from_false _ (not_one_of x (a.id ∷ rs) h.1))))

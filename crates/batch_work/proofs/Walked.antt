@@ -1,4 +1,4 @@
--- The walk to the authorised entries reads what is said of it.
+-- The walk to the authorised entries satisfies its definition in direct words.
 use Rattle.std.proofs.Common.{◌≡◌, ◌≢◌, ℕ, zero, suc, ◌≤◌, true, ◌⊎◌, ◌↔◌, List, [], ◌∷◌, ◌++◌, length, map, Option, Some, None, refl, sym, ap, subst, inl, inr, ⊎_elim, arith}
 use Rattle.std.specs.Prelude.{filter, bytes_eq, not}
 use Rattle.std.specs.List.{AllByRecursion}
@@ -21,7 +21,7 @@ use Rattle.batch_work.proofs.TextSets.{text_set-ascending, from_text_set, within
 use Rattle.batch_work.proofs.Walks.{Known, found_inside, found_start, found_child, read_all, all_found, known_more, waiting, fewer}
 use Rattle.batch_work.proofs.WalkOrder.{walk_new, walk_once}
 
--- ---- what is read after others: the others, turned round, before what was read before
+-- ---- what is read after others: the others in reverse, in front of what was read before
 
 abbrev back : List Bytes → List Bytes → List Bytes
 back [] rs = rs
@@ -108,7 +108,7 @@ module _ (s : Bytes) (a : Agent) (b : Book) where
       go [] ih e = let z : ⊥ = cons_apart x (xs ++ i ∷ later) e in absurd z
       go (j ∷ js) ih e = let q = cons_head j x (walk n s a (j ∷ rs) b) (xs ++ i ∷ later) e in subst (λ y. IsNext s a b (back xs (y ∷ rs)) i) q (ih j (cons_tail j x (walk n s a (j ∷ rs) b) (xs ++ i ∷ later) e))
 
-  -- the same, whichever way the identities read are listed
+  -- the order in which the identities read are listed doesn't matter
   same_unread : (xs ys : List Bytes) (i : Bytes) → ((j : Bytes) → Within xs j → Within ys j) → ((j : Bytes) → Within ys j → Within xs j) → IsUnread s a b xs i → IsUnread s a b ys i
   same_unread xs ys i f g u = record {
     entry = u.entry;
@@ -137,7 +137,7 @@ module _ (s : Bytes) (a : Agent) (b : Book) where
       go [] u w ih = absurd w
       go (j ∷ js) u w ih = ⊎_elim (λ q. let k : AllByRecursion (Known s a b) (j ∷ rs) = known_more s a b rs j js k u in subst (Known s a b) q k.0) (λ v. ih j js u v) w
 
-  -- where nothing is left to read, each identity of an authorised entry was read
+  -- if nothing is left to read, each identity of an authorised entry was read
   at_end : (rs : List Bytes) → unread a rs (found s a rs b) ≡ [] → (i : Bytes) → Known s a b i → Within (a.id ∷ rs) i
   unfolding Known
   at_end rs u i k = subst (Within (a.id ∷ rs)) k.3 (from_one_of (k.0).identity (a.id ∷ rs) (read_all s a b rs u k.0 (all_found s a b rs u (length b.entries) k.0 k.1 k.2)))
@@ -184,14 +184,14 @@ trusted_as_said s a b = record {
   order = text_set-ascending _;
 }
 
--- ---- the words settle the walk
+-- ---- the definition determines the walk
 
 module _ (s : Bytes) (a : Agent) (b : Book) where
-  -- what is read next is settled by what was read
+  -- what was read determines what is read next
   one_next : (rs : List Bytes) (i j : Bytes) → IsNext s a b rs i → IsNext s a b rs j → i ≡ j
   one_next rs i j m n = ⊎_elim (λ q. q) (λ f. ⊎_elim (λ q. sym q) (λ g. absurd (before-irrefl i (before-trans i j i f g))) (n.least i m.unread)) (m.least j n.unread)
 
-  -- a walk that is at its end doesn't go on
+  -- a walk that has ended doesn't go on
   ended : (front : List Bytes) (y : Bytes) (ys : List Bytes) → IsWalk s a b (front ++ []) → IsWalk s a b (front ++ y ∷ ys) → ⊥
   ended front y ys h k =
       let w : Within (front ++ []) y = (h.members y).1 ((k.members y).0 (within_right front (y ∷ ys) y (inl refl))) in

@@ -1,4 +1,4 @@
--- The walk to the authorised entries: what it finds, that at its end these are all, and that it ends.
+-- The walk to the authorised entries: what it finds, that these are all at its end, and that it ends.
 use Rattle.std.proofs.Common.{◌≡◌, ℕ, zero, suc, ◌<◌, true, false, not, List, [], ◌∷◌, length, map, refl, sym, subst, ◌∙◌, inl, ⊎_elim}
 use Rattle.std.specs.Prelude.{filter, bytes_eq}
 use Rattle.std.specs.List.{AllByRecursion}
@@ -61,7 +61,7 @@ module _ (s : Bytes) (a : Agent) (b : Book) where
       let r = from_within_filter (λ i. not (is_one_of i (a.id ∷ rs))) (map (λ e. e.identity) (found s a rs b)) i (from_text_set _ i w) in
       (from_within_map (λ e. e.identity) (found s a rs b) i r.0, not-true _ r.1)
 
-  -- where nothing is left to read, each identity found was read
+  -- if nothing is left to read, each identity found was read
   pub read_all : (rs : List Bytes) → unread a rs (found s a rs b) ≡ [] → (e : Entry) → Within (found s a rs b) e → is_one_of e.identity (a.id ∷ rs) ≡ true
   read_all rs n e w = elim (is_one_of e.identity (a.id ∷ rs)) as (λ t. is_one_of e.identity (a.id ∷ rs) ≡ t → is_one_of e.identity (a.id ∷ rs) ≡ true) [
     | true ↦ λ q. q
@@ -89,7 +89,7 @@ module _ (s : Bytes) (a : Agent) (b : Book) where
   unfolding Known
   known_more rs i is k h = let n = (next_is rs i is h).0 in ((n.0, found_inside rs n.0 n.1, found_ends rs k n.0 n.1, n.2), k)
 
-  -- the entries whose identity wasn't read: a number that falls with each read
+  -- the entries whose identity wasn't read: their number falls with each read
   abbrev pub waiting : List Bytes → List Entry
   waiting rs = filter (λ e. not (is_one_of e.identity (a.id ∷ rs))) b.entries
 

@@ -1,4 +1,4 @@
--- The places of a window's older versions, and the one that is pushed.
+-- The slots of a window's older versions, and a push.
 use Rattle.std.proofs.Common.{◌≡◌, ◌-◌, List, [], ◌∷◌, ◌++◌, length, drop, Option, Some, None, refl, sym, ap, subst, ◌∙◌, arith, length-append, length-drop}
 use Rattle.std.specs.Prelude.{map}
 use Rattle.std.specs.List.{AllZip}
@@ -13,15 +13,15 @@ held_map : (ss : List State) → held (map Some ss) ≡ ss
 held_map [] = refl
 held_map (s ∷ ss) = ap (λ l. s ∷ l) (held_map ss)
 
--- no place is empty, so there are as many versions
+-- no slot is empty, so there are as many versions
 pub held_count : (places : List (Option State)) → places ≡ map Some (held places) → length places ≡ length (held places)
 held_count places e = ap length e ∙ length-map (held places) Some
 
--- one more place behind these, of which the last 63 stay
+-- one more slot after these, of which the last 63 remain
 abbrev pub with_place : State → List (Option State) → List (Option State)
 with_place s places = drop (length (places ++ Some s ∷ []) - 63) (places ++ Some s ∷ [])
 
--- the window that is in these places
+-- the window with the versions in these slots
 abbrev window_in : List (Option State) → State → Window
 window_in places newest = record { older = held places; newest = newest }
 
@@ -55,7 +55,7 @@ module _ (places : List (Option State)) (newest : State) (k : AreKept places new
         counted = subst (λ l. Counted (l ++ s ∷ [])) (sym (held_are rest e)) (counted_pushed (window_in places newest) s k.counted n);
       }
 
--- places whose versions are those of others
+-- slots whose versions are those of others
 pub same_places : (R : Option State → Option State → Type 0) → ((s : State) → R None (Some s) → ⊥) → ((s : State) → R (Some s) None → ⊥) → ((s t : State) → R (Some s) (Some t) → t ≡ s) → (xs ys : List (Option State)) → AllZip R xs ys → ys ≡ xs
 same_places R f g h xs ys z = same_from_all_zip R xs ys z (λ x y. same_place x y)
   where

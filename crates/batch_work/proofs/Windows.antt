@@ -1,4 +1,5 @@
--- What a window shows of the list of all books: a version is found by how far its number is behind the newest one's, and the books of the versions are the last 64.
+-- How a window represents the list of all books: the difference to the newest number finds a version, and the books of the
+-- versions are the last 64.
 use Rattle.std.proofs.Common.{◌≡◌, ℕ, zero, suc, ◌+◌, ◌-◌, ◌<◌, ◌≤◌, Bool, true, false, cond, List, [], ◌∷◌, ◌++◌, length, drop, take, Option, Some, None, IfSome, Bor, refl, sym, ap, subst, ◌∙◌, arith, append_assoc, inl, ⊎_elim, length-append, length-drop, drop-drop, nat_eq}
 use Rattle.std.specs.Prelude.{filter, map, nat_lt, option_map, slice_get}
 use Rattle.std.specs.Option.{option_copied}
@@ -46,7 +47,7 @@ counted_more [] s t c e = (e, (tt, tt))
 counted_more (r ∷ []) s t c e = (c.0, counted_more [] s t c.1 e)
 counted_more (r ∷ q ∷ ss) s t c e = (c.0, counted_more (q ∷ ss) s t c.1 e)
 
--- the newest one is as many behind the oldest as there are between them
+-- the numbers of the oldest and the newest version differ by the number of steps between them
 last_number : (r : State) (ss : List State) (s : State) → Counted (r ∷ (ss ++ s ∷ [])) → r.number + suc (length ss) ≡ s.number
 last_number r [] s c = let e = c.0.number in omega arith
 last_number r (q ∷ ss) s c = let e = c.0.number in let i = last_number q ss s c.1 in omega arith
@@ -54,12 +55,12 @@ last_number r (q ∷ ss) s c = let e = c.0.number in let i = last_number q ss s 
 is_other : (n : ℕ) (s : State) → (s.number < n → nat_eq s.number n ≡ false) × (n < s.number → nat_eq s.number n ≡ false)
 is_other n s = (λ l. grind (arith, nat_tests, l), λ l. grind (arith, nat_tests, l))
 
--- none is found below the oldest
+-- no version below the oldest is found
 found_below : (n : ℕ) (s : State) (ss : List State) → Counted (s ∷ ss) → n < s.number → first (filter (λ t. nat_eq t.number n) (s ∷ ss)) ≡ None
 found_below n s [] c l = rw ((is_other n s).1 l) refl
 found_below n s (t ∷ ts) c l = let e = c.0.number in rw ((is_other n s).1 l) (found_below n t ts c.1 (omega arith))
 
--- and from there on each by its place
+-- and from there on, each is found by its index
 found_from : (n i : ℕ) (s : State) (ss : List State) → Counted (s ∷ ss) → n ≡ s.number + i → first (filter (λ t. nat_eq t.number n) (s ∷ ss)) ≡ slice_get (s ∷ ss) i
 found_from n zero s ss c e = let q : nat_eq s.number n ≡ true = grind (arith, nat_tests, e) in rw q refl
 found_from n (suc i) s [] c e = rw ((is_other n s).0 (omega arith)) refl
@@ -73,7 +74,7 @@ found_gone : (n : ℕ) (older : List State) (s : State) → Counted (older ++ s 
 found_gone n [] s c l = found_below n s [] c (omega arith)
 found_gone n (r ∷ rs) s c l = let k = last_number r rs s c in found_below n r (rs ++ s ∷ []) c (omega arith)
 
--- ---- the version of a number, by how far it is behind the newest
+-- ---- the version with a number, by the difference to the newest number
 
 module _ (n : ℕ) (w : Window) (c : Counted (versions w)) where
   pub at_newest : n ≡ w.newest.number → Some w.newest ≡ version_at n w
@@ -90,7 +91,7 @@ module _ (n : ℕ) (w : Window) (c : Counted (versions w)) where
   pub at_older : (i : ℕ) → n < w.newest.number → n + length w.older ≡ w.newest.number + i → slice_get w.older i ≡ version_at n w
   at_older i l e = sym (found_at n i w.older w.newest c e ∙ slice_get-snoc w.older w.newest i (omega arith))
 
--- ---- the same on each list of books for which the window stands
+-- ---- the same on each list of books that the window represents
 
 under : {X : Type 0} (a b : ℕ) (x y : X) → a < b → cond (nat_lt a b) x y ≡ x
 under a b x y l = grind (arith, nat_tests, l)
@@ -146,7 +147,7 @@ module _ (w : Window) (books : List Book) (s : StandsFor w books) where
   book_is None = ap Some last_is
   book_is (Some n) = among_is n (nat_lt (place_of books) (n + 64)) refl
 
-  -- one book more
+  -- one more book
   kept_more : (t : State) → map book_in (versions (pushed t w)) ≡ last_of 64 (books ++ book_in t ∷ [])
   kept_more t =
       let d = length books - 64 in
@@ -164,7 +165,7 @@ counted_pushed w s c e =
     let n = length (versions w) - 63 in
     subst Counted (drop-append-le n (versions w) (s ∷ []) (omega arith)) (counted_drop n (versions w ++ s ∷ []) (counted_more w.older w.newest s c e))
 
--- ---- the laws
+-- ---- the theorems
 
 pub window_begins : WindowBegins
 window_begins s e = record { count = omega arith; kept = refl; counted = (tt, tt) }

@@ -1,4 +1,4 @@
--- How many reads a batch makes at most. The laws are clauses of functions of the module `laws`.
+-- The maximum number of reads of a batch. The theorems are clauses of functions of the module `laws`.
 use Rattle.std.specs.Prelude.{◌≡◌, ◌≤◌, ◌^◌, ◌*◌, ℕ, ◌+◌, Bool, true, false, List, [], ◌∷◌, ◌++◌, filter, map, flat_map, length, Option, Some, None, IfSome, Ok, option_to_list}
 use Rattle.entry_book.specs.declared.kept.KeptBatch.{KeptBatch}
 use Rattle.entry_book.specs.declared.op.Op.{Op}
@@ -12,7 +12,7 @@ use Rattle.entry_book.specs.Runs.{RunEffect, run}
 use Rattle.version_book.specs.declared.mark.MarkKind.TheVariants as mark
 use Rattle.batch_work.specs.Reads.{text_set, marks_of, marks_of_ops, case_on, case_at, footprint_in}
 
--- the identity that an operation puts into the book: a create and an update put one
+-- the identity of the entry that an operation puts: a create and an update put one
 abbrev pub identity_put : Op → List Bytes
 identity_put (Create e) = e.identity ∷ []
 identity_put (Update e expected) = e.identity ∷ []
@@ -24,7 +24,7 @@ identities_put ops = flat_map identity_put ops
 abbrev pub identities_of : Book → List Bytes
 identities_of b = map (λ e. e.identity) b.entries
 
--- how many distinct identities the book's entries have, with those that these operations put
+-- the number of distinct identities among the book's entries and those that these operations put
 abbrev pub count_of_identities : List Op → Book → ℕ
 count_of_identities ops b = length (text_set (identities_of b ++ identities_put ops))
 
@@ -32,35 +32,35 @@ abbrev pub sets_bundle : Op → Bool
 sets_bundle (SetBundle d text) = true
 sets_bundle op = false
 
--- how many of these operations set a bundle
+-- the number of these operations that set a bundle
 abbrev pub count_of_sets : List Op → ℕ
 count_of_sets ops = length (filter sets_bundle ops)
 
--- ---- where the reads of one operation stand
+-- ---- the order of the reads
 
--- the reads of operations are those before, then those of the operation on the book that they left, and then the later ones
+-- the reads of operations are those of the first ones, followed by those of the others on the book that the first ones left
 abbrev pub ReadsInOrder : Type 0
 ReadsInOrder = (own : Bytes) (before : List Op) (op : Op) (later : List Op) (b : Book) (t : RunEffect) → run own before b ≡ Ok t → marks_of_ops own (before ++ op ∷ later) b ≡ marks_of_ops own before b ++ marks_of_ops own (op ∷ later) (after t.writes b)
 
--- a token is read before the first operation, and where nothing is kept under it the operations' reads follow
+-- a token is read before the first operation; if it isn't in use, the reads of the operations follow
 abbrev pub TokenReadFirst : Type 0
 TokenReadFirst = (batch : Batch) (b : Book) (k : Bytes) → batch.token ≡ Some k → token_at k b ≡ None → footprint_in batch (case_on batch b) ≡ mark.Token k ∷ marks_of_ops batch.domain batch.ops b
 
--- where a batch is kept under it, no other read is made
+-- if it is in use, no other read is made
 abbrev pub KeptReadOnly : Type 0
 KeptReadOnly = (batch : Batch) (b : Book) (k : Bytes) (kept : KeptBatch) → batch.token ≡ Some k → token_at k b ≡ Some kept → footprint_in batch (case_on batch b) ≡ mark.Token k ∷ []
 
--- ---- how many they are
+-- ---- the number of reads
 
--- how many reads one operation of a batch makes at most, after these ones before it
+-- the maximum number of reads of one operation of a batch, after these operations before it
 abbrev pub most_reads : Batch → List Op → Book → ℕ
 most_reads batch before b = 3 + count_of_identities batch.ops b + 1024 + count_of_sets before
 
--- each operation of a batch, on the book that the operations before it left of a lawful book with at most 1,024 bundles
+-- for each operation of a batch, on the book that the operations before it left of a lawful book with at most 1,024 bundles
 abbrev pub OpReadsBounded : Type 0
 OpReadsBounded = (own : Bytes) (most : ℕ) (batch : Batch) (b : Book) (before : List Op) (op : Op) (later : List Op) (t : RunEffect) → IsMadeFor own batch → Lawful own most b → length b.bundles ≤ 1024 → batch.ops ≡ before ++ op ∷ later → run batch.domain before b ≡ Ok t → length (marks_of batch.domain op (after t.writes b)) ≤ most_reads batch before b
 
--- the whole batch: one read more where it carries a token
+-- for the whole batch: this maximum for each operation, after all of them, and one more read if the batch has a token
 abbrev pub BatchReadsBounded : Type 0
 BatchReadsBounded = (own : Bytes) (most : ℕ) (batch : Batch) (b : Book) → IsMadeFor own batch → Lawful own most b → length b.bundles ≤ 1024 → length (footprint_in batch (case_on batch b)) ≤ length (option_to_list batch.token) + length batch.ops * most_reads batch batch.ops b
 
@@ -71,10 +71,10 @@ pub record IsBounded (own : Bytes) (b : Book) : Type 0 where
   pub entries : length b.entries ≤ 16384
   pub bundles : length b.bundles ≤ 1024
 
--- on such a book no batch makes more reads than this number
+-- on such a book, a batch makes at most 2^21 reads
 abbrev pub ReadsAreFew : Type 0
 ReadsAreFew = (own : Bytes) (batch : Batch) (b : Book) → IsMadeFor own batch → IsBounded own b → length (footprint_in batch (case_on batch b)) ≤ 2 ^ 21
 
--- nor at any place, nor where the book that it asks for is gone
+-- the same holds at any place, and if the book of the batch's page is missing
 abbrev pub ReadsAreFewAnywhere : Type 0
 ReadsAreFewAnywhere = (own : Bytes) (batch : Batch) (place : ℕ) (b : Option Book) → IsMadeFor own batch → IfSome b (IsBounded own) → length (footprint_in batch (case_at batch place b)) ≤ 2 ^ 21

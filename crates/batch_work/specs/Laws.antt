@@ -1,4 +1,4 @@
--- The laws of what batches read. Each is a clause of a function of the module `laws`.
+-- Theorems about what batches read. Each is a clause of a function of the module `laws`.
 use Rattle.std.specs.Prelude.{◌≡◌, ◌↔◌, ◌+◌, ◌*◌, ◌≤◌, true, false, List, [], ◌∷◌, ◌++◌, Option, Some, None, Ok, ℕ, take}
 use Rattle.std.specs.List.{AllByRecursion}
 use Rattle.entry_book.specs.declared.limit.Limit.{Limit}
@@ -27,41 +27,46 @@ use Rattle.batch_work.specs.Working.{Base, HasReplies, HasWrites, Work, base_in,
 
 -- ---- case by case
 
--- the plain book's verdict is that of the case
+-- the specification's verdict is that of the case
 abbrev pub VerdictByCase : Type 0
 VerdictByCase = (batch : Batch) (place : ℕ) (b : Option Book) → verdict batch place b ≡ verdict_in batch place (case_at batch place b)
 
--- ---- what is read decides
+-- ---- the reads decide the outcome
 
--- Where two books read the same at each mark that operations read on the first, they have the same run on both, and the same reads.
+-- Let two books read the same at each mark that operations read on the first. Then the operations have the same run and the
+-- same reads on both.
 abbrev pub ReadsDecide : Type 0
 ReadsDecide = (own : Bytes) (ops : List Op) (b c : Book) → AscendingBook b → AscendingBook c → AllByRecursion (Agree b c) (marks_of_ops own ops b) → (run own ops b ≡ run own ops c) × (marks_of_ops own ops b ≡ marks_of_ops own ops c)
 
--- Two books are one to a batch: the same is kept under its token, it has the same reads, where nothing is kept its operations have the same run, and it awaits a commit on both or on neither.
+-- The two books are the same for a batch. They store the same under its token, and it has the same reads on both. If nothing is
+-- stored, its operations have the same run. It awaits a commit on both or on neither.
 pub record AreOneTo (batch : Batch) (b c : Book) : Type 0 where
   pub kept : kept_under batch.token b ≡ kept_under batch.token c
   pub marks : footprint_in batch (case_on batch b) ≡ footprint_in batch (case_on batch c)
   pub runs : kept_under batch.token b ≡ None → run batch.domain batch.ops b ≡ run batch.domain batch.ops c
   pub wait : awaits_in batch (case_on batch b) ≡ awaits_in batch (case_on batch c)
 
--- where two books read the same at each mark that a batch reads on the first, they are one to it
+-- if two books read the same at each mark that a batch reads on the first, they are the same for the batch
 abbrev pub BatchReadsDecide : Type 0
 BatchReadsDecide = (batch : Batch) (b c : Book) → AscendingBook b → AscendingBook c → AllByRecursion (Agree b c) (footprint_in batch (case_on batch b)) → AreOneTo batch b c
 
 -- ---- the commit check
 
--- The outcome of a batch of changes with this run on the newest version: its writes may be applied, and the plain book adds the book of the version after it, or refuses it for the first limit that is passed.
+-- The outcome of a batch of changes with this run on the newest version: its writes may be applied; and the specification adds
+-- the book of the version after it, or refuses the batch for the first limit that is passed.
 pub record ComesTo (batch : Batch) (s : State) (t : RunEffect) : Type 0 where
   pub ran : run batch.domain batch.ops (book_of s.rows) ≡ Ok t
   pub may : MayApply (batch_writes batch (s.number + 1) t) (s.number + 1) s
   pub commits : limit_passed s.number (after (batch_writes batch (s.number + 1) t) (book_of s.rows)) ≡ None → Commits batch s × (state_with batch s ≡ next_state (batch_writes batch (s.number + 1) t) s) × (verdict batch s.number (Some (book_of s.rows)) ≡ adds t.replies (book_of (state_with batch s).rows))
   pub is_full : (limit : Limit) → limit_passed s.number (after (batch_writes batch (s.number + 1) t) (book_of s.rows)) ≡ Some limit → verdict batch s.number (Some (book_of s.rows)) ≡ refuses (Full limit)
 
--- a batch that awaits its commit on an older version, and finds the same at each mark that it read on the newest one, comes there to what it came to on the older one
+-- Let a batch await its commit on `base`. Let `newest` be lawful, within the limits and not too early for the batch, and read
+-- the same at each mark of its footprint. Then the batch has the same run on `newest`, with this outcome.
 abbrev pub CommitCheck : Type 0
 CommitCheck = (batch : Batch) (base newest : State) (t : RunEffect) → IsMadeFor newest.domain batch → batch.after ≤ newest.number → Lawful newest.domain (64 * newest.number) (book_of newest.rows) → IsWithinLimits (book_of newest.rows) → AscendingBook (book_of base.rows) → AllByRecursion (Agree (book_of base.rows) (book_of newest.rows)) (footprint_in batch (case_on batch (book_of base.rows))) → awaits_in batch (case_on batch (book_of base.rows)) ≡ true → run batch.domain batch.ops (book_of base.rows) ≡ Ok t → ComesTo batch newest t
 
--- The batch has changes that await their commit: it may run, and on the last book; nothing is kept there under its token; it isn't read-only; and its operations are accepted.
+-- The batch has changes that await their commit: it may run, and on the last book; its token isn't in use there; it isn't
+-- read-only; and its operations are accepted.
 pub record HasChanges (batch : Batch) (books : List Book) : Type 0 where
   pub in_time : batch.after ≤ place_of books
   pub newest : past_place batch.ops ≡ None
@@ -73,13 +78,14 @@ pub record HasChanges (batch : Batch) (books : List Book) : Type 0 where
 abbrev pub AwaitsAsSaid : Type 0
 AwaitsAsSaid = (own : Bytes) (batch : Batch) (books : List Book) → IsMadeFor own batch → (awaits_commit batch books ≡ true) ↔ HasChanges batch books
 
--- one that doesn't await its commit isn't committed, and no limit refuses it
+-- a batch that doesn't await its commit isn't committed, and no limit refuses it
 abbrev pub OthersDontCommit : Type 0
 OthersDontCommit = (batch : Batch) (books : List Book) → awaits_commit batch books ≡ false → (commits batch books ≡ false) × ((limit : Limit) → (reply_to batch books).outcome ≡ Refused (Full limit) → ⊥)
 
 -- ---- windows
 
--- A work that begins on a window reads, awaits its commit and answers as the batch does on the list of all books for which the window stands.
+-- A work that begins on a window represents its batch on these books: it has the same reads and the same reply, and awaits its
+-- commit exactly if the batch does.
 pub record OnBooks (batch : Batch) (w : Window) (books : List Book) : Type 0 where
   pub reads : footprint_there batch (base_in batch w) ≡ footprint_of batch books
   pub wait : awaits_there batch (base_in batch w) ≡ awaits_commit batch books
@@ -88,21 +94,23 @@ pub record OnBooks (batch : Batch) (w : Window) (books : List Book) : Type 0 whe
 abbrev pub WindowStands : Type 0
 WindowStands = (batch : Batch) (w : Window) (books : List Book) → StandsFor w books → OnBooks batch w books
 
--- A history begins with one version, at number 0: the window of this version alone stands for the list of its book.
+-- A history begins with one version, with the number 0. The window of this version alone represents the list of its book.
 abbrev pub WindowBegins : Type 0
 WindowBegins = (s : State) → s.number ≡ 0 → StandsFor (record { older = []; newest = s }) (book_in s ∷ [])
 
--- Where a window stands for a list of books, and the next version is pushed, it stands for the list with that version's book behind.
+-- If a window represents a list of books, then with the next version pushed it represents the list followed by that version's
+-- book.
 abbrev pub WindowGoesOn : Type 0
 WindowGoesOn = (w : Window) (s : State) (books : List Book) → StandsFor w books → IsNext w.newest s → StandsFor (pushed s w) (books ++ book_in s ∷ [])
 
--- its newest version stands for the last book
+-- its newest version has the last book, and its number
 abbrev pub WindowLast : Type 0
 WindowLast = (w : Window) (books : List Book) → StandsFor w books → IsLast w.newest books
 
 -- ---- works
 
--- A work that is ready began on this; it has read its whole footprint, which is that on the newest version; and there its batch may run, and awaits its commit.
+-- What holds of a ready work: it began on this; it has read its whole footprint, which is that on the newest version; and its
+-- batch may run there, and awaits its commit.
 pub record HasRead (w : Work) : Type 0 where
   pub base : Base
   pub base_is : w.base ≡ Some base
@@ -114,7 +122,8 @@ pub record HasRead (w : Work) : Type 0 where
 abbrev pub ReadyHasRead : Type 0
 ReadyHasRead = (own : Bytes) (w : Work) → IsMadeFor own w.batch → status_of w ≡ Ready → HasRead w
 
--- The book on which a ready work began, after its changes with the place put in, is the plain book's next one: it commits the batch with the work's replies as this book, or refuses it for the first limit that this book passes.
+-- A ready work's changes, with their place set, turn the book on which the work began into `next`. The specification commits
+-- the batch with the work's replies as this book, or refuses it for the first limit that the book passes.
 pub record TurnsBook (w : Work) (s : State) (writes : List RowWrite) : Type 0 where
   pub replies : List OpReply
   pub of_work : HasReplies w replies
@@ -125,6 +134,6 @@ pub record TurnsBook (w : Work) (s : State) (writes : List RowWrite) : Type 0 wh
 abbrev pub ReadyTurns : Type 0
 ReadyTurns = (own : Bytes) (w : Work) (base : Base) (writes : List RowWrite) → IsMadeFor own w.batch → status_of w ≡ Ready → w.base ≡ Some base → HasWrites w writes → TurnsBook w base.newest writes
 
--- where nothing is left to read, the marks of a work are its whole footprint
+-- if a batch has no more to read after n reads, these are its whole footprint
 abbrev pub EndHasRead : Type 0
 EndHasRead = (batch : Batch) (base : Base) (n : ℕ) → (status_on batch base n ≡ Running → ⊥) → take n (footprint_there batch base) ≡ footprint_there batch base

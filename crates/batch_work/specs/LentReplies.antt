@@ -1,4 +1,4 @@
--- What is replied where a version lends the rows.
+-- The replies whose rows are borrowed from a version.
 use Rattle.std.specs.Prelude.{List, Result, Ok, Err}
 use Rattle.entry_book.specs.declared.reply.OpReply.{OpReply}
 use Rattle.entry_book.specs.declared.reply.OpReply.TheVariants as reply
@@ -8,7 +8,7 @@ use Rattle.entry_book.specs.declared.reply.Refusal.{Refusal}
 use Rattle.batch_work.specs.declared.lent_reply.LentRows.{LentRows}
 use Rattle.batch_work.specs.declared.lent_reply.LentRows.TheVariants as rows
 
--- the reply that has these rows
+-- the reply with these rows
 abbrev pub op_reply_of : LentRows → OpReply
 op_reply_of (rows.Entry shown) = reply.EntryShown shown
 op_reply_of (rows.Entries es) = reply.Entries es
@@ -17,7 +17,7 @@ op_reply_of (rows.Agent shown) = reply.AgentShown shown
 op_reply_of (rows.Bundle shown) = reply.BundleShown shown
 op_reply_of (rows.Bundles bs) = reply.Bundles bs
 
--- what becomes of a batch whose operations have these replies, or which is refused for this
+-- the outcome of a batch whose operations have these replies, or which is refused for this reason
 abbrev pub outcome_of : Result (List OpReply) Refusal → Outcome
 outcome_of (Ok replies) = Answered replies
 outcome_of (Err reason) = Refused reason

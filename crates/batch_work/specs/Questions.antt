@@ -11,12 +11,12 @@ use Rattle.entry_book.specs.Ops.{OpResult, done}
 use Rattle.entry_book.specs.Runs.{RunResult}
 use Rattle.batch_work.specs.WalkStates.{WalkState, first_walk, walked}
 
--- a question that has this reply, or is refused for this
+-- the result of a read-only operation that has this reply, or is refused for this reason
 abbrev pub answered : Result OpReply OpRefusal → OpResult
 answered (Ok r) = done r []
 answered (Err r) = Err r
 
--- questions that have these replies, or of which the one of this index is refused
+-- the run of read-only operations that have these replies, or of which the one with this index is refused
 abbrev pub all_answered : Result (List OpReply) (ℕ × OpRefusal) → RunResult
 all_answered (Ok rs) = Ok (record { replies = rs; writes = [] })
 all_answered (Err f) = Err (record { op = f.0; reason = f.1 })
@@ -25,6 +25,7 @@ all_answered (Err f) = Err (record { op = f.0; reason = f.1 })
 abbrev pub bundles_at : Book → List Bytes → List Bundle
 bundles_at b ds = flat_map (λ d. filter (λ x. bytes_eq x.domain d) b.bundles) ds
 
--- the walk to an agent's authorised entries before its first identity: what the agent holds, and its own children, are found
+-- the walk to an agent's authorised entries before its first identity: it has found the aliases that the agent holds, and the
+-- agent's own children
 abbrev pub walk_begun : Bytes → Agent → Book → WalkState
 walk_begun server a b = walked (children_of a.id b) (walked (filter (holds server a) (children_of server b)) (first_walk a))

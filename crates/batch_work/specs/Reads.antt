@@ -1,4 +1,5 @@
--- The table of reads: which marks an operation reads on the book that it finds, in their order, up to the one that shows its refusal; and the footprint of a batch, which is its reads, one operation after another.
+-- The table of reads: the marks that an operation reads on the book that it finds, in order, up to the one that shows its
+-- refusal. The footprint (read set) of a batch is the list of its reads, operation by operation.
 use Rattle.std.specs.Prelude.{ℕ, zero, suc, ◌+◌, Bool, true, false, not, ◌&&◌, List, [], ◌∷◌, ◌++◌, filter, map, flat_map, length, nat_lt, Option, Some, None, Ok, Err, is_ok, is_some, bytes_eq, if◌then◌else◌}
 use Rattle.std.specs.List.{list_any}
 use Rattle.std.specs.Option.{option_map_or}
@@ -24,12 +25,13 @@ use Rattle.entry_book.specs.SameOps.{ops_eq}
 use Rattle.version_book.specs.declared.mark.MarkKind.{MarkKind}
 use Rattle.version_book.specs.declared.mark.MarkKind.TheVariants as mark
 
--- each text once, in the order of their bytes
+-- these texts, each once, in the order of their bytes
 abbrev pub text_set : List Bytes → List Bytes
 text_set [] = []
 text_set (x ∷ xs) = with_row (λ t. t) x (Some x) (text_set xs)
 
--- ---- an entry that is put: its group, and where none is similar the bundles of its domains, to the first that is missing
+-- ---- an entry that is put: its group; if no entry there is similar, the bundles of its domains, up to the first that is
+-- missing
 
 abbrev pub bundle_marks : List Bytes → Book → List MarkKind
 bundle_marks [] b = []
@@ -54,9 +56,11 @@ abbrev pub update_marks : Option Entry → NewEntry → Option ℕ → Book → 
 update_marks None e expected b = []
 update_marks (Some old) e expected b = update_marks_when (is_stale expected old) (at_revision (old.revision + 1) e) b
 
--- ---- authorised entries: the children of the server and of the agent, and then of the identities found, each once, the least first
+-- ---- authorised entries: the children of the server and of the agent, then those of the identities found, each once, the
+-- least first
 
--- what has been found once the children of these identities were read: the held aliases, the agent's own children, and the entries under these identities
+-- the entries that are found once the children of these identities were read: the aliases that the agent holds, the agent's own
+-- children, and these
 abbrev pub found : Bytes → Agent → List Bytes → Book → List Entry
 found server a [] b = filter (holds server a) (children_of server b) ++ children_of a.id b
 found server a (i ∷ is) b = found server a is b ++ children_of i b
@@ -64,7 +68,8 @@ found server a (i ∷ is) b = found server a is b ++ children_of i b
 abbrev pub is_one_of : Bytes → List Bytes → Bool
 is_one_of x xs = list_any (λ y. bytes_eq y x) xs
 
--- the identities of these entries whose children weren't read yet, in the order of their bytes; the agent's children were. (The server's ID is the identity of no entry.)
+-- The identities of these entries whose children weren't read yet, in the order of their bytes; the agent's children were read.
+-- (The server's ID is the identity of no entry.)
 abbrev pub unread : Agent → List Bytes → List Entry → List Bytes
 unread a read es = text_set (filter (λ i. not (is_one_of i (a.id ∷ read))) (map (λ e. e.identity) es))
 
@@ -72,7 +77,8 @@ abbrev pub least_then : Option Bytes → (Bytes → List Bytes) → List Bytes
 least_then None f = []
 least_then (Some i) f = i ∷ f i
 
--- the identities whose children are read from here on, in turn; each is read once, so as many turns as the book has entries are enough
+-- The identities whose children are read from here on, in turn. Each is read once, so as many turns as the book has entries are
+-- enough. `IsWalk` in `Walked.antt` says in direct words which they are.
 abbrev pub walk : ℕ → Bytes → Agent → List Bytes → Book → List Bytes
 walk zero server a read b = []
 walk (suc n) server a read b = least_then (first (unread a read (found server a read b))) (λ i. walk n server a (i ∷ read) b)
@@ -91,7 +97,7 @@ domains_of es = text_set (flat_map (λ e. e.domains) es)
 abbrev pub trust_marks : Bytes → Agent → Book → List MarkKind
 trust_marks server a b = walk_marks server a b ++ map mark.Bundle (domains_of (authorised server a b))
 
--- ---- the bundle that is dropped: where there is one, its users
+-- ---- a bundle that is dropped: if it is there, its users
 
 abbrev pub drop_marks : Option Bundle → Bytes → List MarkKind
 drop_marks None domain = []
@@ -116,7 +122,8 @@ marks_of own (DropAgent k) b = mark.Agent k ∷ []
 marks_of own (SetBundle d text) b = mark.Bundle d ∷ []
 marks_of own (DropBundle d mode) b = mark.Bundle d ∷ drop_marks (bundle_at d b) d
 
--- ---- the reads of operations on a book: those of each one on the book that the earlier ones left, to the first refusal; what is read twice stands twice
+-- ---- the reads of operations on a book: those of each on the book that the earlier ones left, up to the first refusal; what
+-- is read twice is listed twice
 
 abbrev pub marks_after : OpResult → (OpEffect → List MarkKind) → List MarkKind
 marks_after (Err r) f = []
@@ -126,33 +133,34 @@ abbrev pub marks_of_ops : Bytes → List Op → Book → List MarkKind
 marks_of_ops own [] b = []
 marks_of_ops own (op ∷ ops) b = marks_of own op b ++ marks_after (op_of own op b) (λ d. marks_of_ops own ops (after d.writes b))
 
--- ---- what a batch meets, at a place, and what follows in each case
+-- ---- the case that a batch meets at a place, and what follows in each case
 
--- It comes too early; the book of its page is gone, or not there yet; a batch is kept under its token; or it runs on this book.
+-- The batch comes too early; the book of its page is gone, or not there yet; a batch is stored under its token; or it runs on
+-- this book.
 pub data Case : Type 0 where
   early : Case
   gone : Case
   kept : KeptBatch → Case
   runs : Book → Case
 
--- on the book that it reads, where it doesn't come too early
+-- the case on the book that it reads, if it doesn't come too early
 abbrev pub case_on : Batch → Book → Case
 case_on batch b = option_map_or kept (kept_under batch.token b) (runs b)
 
--- at this place, with the book that it reads, where this is there
+-- the case at this place, with the book that it reads, if it is there
 abbrev pub case_at : Batch → ℕ → Option Book → Case
 case_at batch place b = if nat_lt place batch.after then early else option_map_or (case_on batch) b gone
 
--- on the list of all books
+-- the case on the list of all books
 abbrev pub case_of : Batch → List Book → Case
 case_of batch books = case_at batch (place_of books) (book_for (past_place batch.ops) books)
 
--- what is kept under its token is read first, where it carries one
+-- the stored batch of its token is read first, if it has one
 abbrev pub token_marks : Option Bytes → List MarkKind
 token_marks None = []
 token_marks (Some k) = mark.Token k ∷ []
 
--- its reads; the page of a book that isn't there makes its one read, which shows that
+-- its reads; the page of a book that isn't there makes its one read, which shows this
 abbrev pub footprint_in : Batch → Case → List MarkKind
 footprint_in batch early = []
 footprint_in batch gone = mark.All ∷ []
@@ -166,14 +174,14 @@ awaits_in batch gone = false
 awaits_in batch (kept k) = false
 awaits_in batch (runs b) = not (is_query batch.ops) && is_ok (run batch.domain batch.ops b)
 
--- the plain book's verdict
+-- the specification's verdict
 abbrev pub verdict_in : Batch → ℕ → Case → Verdict
 verdict_in batch place early = refuses NotYet
 verdict_in batch place gone = refuses (OfOp 0 VersionGone)
 verdict_in batch place (kept k) = verdict_again (ops_eq k.ops batch.ops) k
 verdict_in batch place (runs b) = verdict_run batch place b
 
--- ---- the same, of a batch and the list of all books
+-- ---- the same, for a batch on the list of all books
 
 abbrev pub footprint_of : Batch → List Book → List MarkKind
 footprint_of batch books = footprint_in batch (case_of batch books)

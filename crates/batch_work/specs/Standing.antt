@@ -1,4 +1,5 @@
--- How a work keeps its course: what its marks, changes, replies and stage have to do with the reads and the run of its batch. For this crate's own contracts.
+-- The invariant of a work: how its marks, changes, replies and stage relate to the reads and the run of its batch. For this
+-- crate's own contracts.
 use Rattle.std.specs.Prelude.{◌≡◌, ⊤, ℕ, ◌+◌, ◌*◌, ◌≤◌, ◌^◌, true, false, List, [], ◌∷◌, ◌++◌, drop, nat_lt, Option, Some, None, Ok, Err, IfSome}
 use Rattle.spiffe_name.specs.Id.{server_text}
 use Rattle.entry_book.specs.declared.op.Op.{Op}
@@ -33,18 +34,18 @@ use Rattle.batch_work.specs.Working.{Base, version_read, footprint_there, awaits
 abbrev pub base_of : Begun → Base
 base_of begun = record { newest = begun.newest; earlier = begun.earlier }
 
--- a run that goes on after n operations with these replies and writes
+-- the result of a run that goes on after n operations with these replies and writes
 abbrev pub going_on : List OpReply → List RowWrite → ℕ → RunResult → RunResult
 going_on replies writes n (Ok t) = Ok (record { replies = replies ++ t.replies; writes = writes ++ t.writes })
 going_on replies writes n (Err s) = Err (record { op = n + s.op; reason = s.reason })
 
--- the book that is read, as the work has changed it
+-- the book that is read, with the work's own changes
 abbrev pub book_now : State → List RowWrite → Book
 book_now s changes = after changes (book_in s)
 
 -- ---- what it began on
 
--- The batch may run there.
+-- The batch doesn't come too early.
 abbrev pub InTime : Batch → Base → Type 0
 InTime batch base = nat_lt base.newest.number batch.after ≡ false
 
@@ -55,7 +56,7 @@ ReadsNone batch base TokenReused = ⊥
 ReadsNone batch base (OfOp n reason) = (n ≡ 0) × (reason ≡ VersionGone) × InTime batch base × (version_read (past_place batch.ops) base ≡ None)
 ReadsNone batch base (Full limit) = ⊥
 
--- The version that is read is lawful, and its number has room to grow.
+-- The version's book is lawful, and its number is within the limit on commits.
 pub record IsReadable (own : Bytes) (s : State) : Type 0 where
   pub low : s.number ≤ 2 ^ 48
   pub lawful : Lawful own (64 * s.number) (book_in s)
@@ -67,14 +68,14 @@ pub record BeganOn (batch : Batch) (begun : Begun) : Type 0 where
 
 -- ---- before the first operation
 
--- Nothing was done yet.
+-- The batch doesn't come too early, and nothing was recorded yet.
 pub record AtStart (batch : Batch) (base : Base) (marks : List MarkKind) (changes : List RowWrite) (replies : List OpReply) : Type 0 where
   pub in_time : InTime batch base
   pub no_marks : marks ≡ []
   pub no_changes : changes ≡ []
   pub no_replies : replies ≡ []
 
--- What is kept under the token is read next.
+-- The next read is the batch stored under the token, on the version that the batch reads.
 pub record AtToken (batch : Batch) (base : Base) (k : Bytes) : Type 0 where
   pub token_is : batch.token ≡ Some k
   pub s : State
@@ -82,7 +83,8 @@ pub record AtToken (batch : Batch) (base : Base) (k : Bytes) : Type 0 where
 
 -- ---- within the operations
 
--- Operation n is at hand, on the book that the earlier ones left: it has this answer, and it and the others come to the run.
+-- Operation n is executed next, on the lawful book that the earlier ones left. It has this result; this and the results of the
+-- later operations complete the run. The batch doesn't come too early, and its token isn't in use.
 pub record InOps (batch : Batch) (base : Base) (changes : List RowWrite) (replies : List OpReply) (n : ℕ) : Type 0 where
   pub s : State
   pub read_is : version_read (past_place batch.ops) base ≡ Some s
@@ -97,18 +99,18 @@ pub record InOps (batch : Batch) (base : Base) (changes : List RowWrite) (replie
   pub low : s.number ≤ 2 ^ 48
   pub lawful : Lawful batch.domain (64 * s.number + n) (book_now s changes)
 
--- the reads of the operations behind it
+-- the reads of the operations after it
 abbrev pub later_marks : {batch : Batch} {base : Base} {changes : List RowWrite} {replies : List OpReply} {n : ℕ} → InOps batch base changes replies n → List MarkKind
 later_marks {batch = batch} {changes = changes} i = marks_after i.answer (λ d. marks_of_ops batch.domain i.rest (after d.writes (book_now i.s changes)))
 
--- It is at this phase: what is left of it, and then the others, come to the reads.
+-- The operation is at this phase: its remaining reads and those of the later operations complete the footprint.
 pub record Going (batch : Batch) (base : Base) (marks : List MarkKind) (changes : List RowWrite) (replies : List OpReply) (n : ℕ) (p : Phase) : Type 0 where
   pub at_hand : InOps batch base changes replies n
   pub left : List MarkKind
   pub plays : Plays (server_text batch.domain) at_hand.op p (book_now at_hand.s changes) left at_hand.answer
   pub reads_are : marks ++ (left ++ later_marks at_hand) ≡ footprint_there batch base
 
--- A mark of it was read, and this comes next.
+-- A mark of the operation was read, and this comes next.
 pub record Looked (batch : Batch) (base : Base) (marks : List MarkKind) (changes : List RowWrite) (replies : List OpReply) (n : ℕ) (m : MarkKind) (next : Next) : Type 0 where
   pub at_hand : InOps batch base changes replies n
   pub left : List MarkKind
@@ -122,7 +124,7 @@ StandsRead m (found.Op n next) batch base marks changes replies = Looked batch b
 StandsRead m (found.Kept o) batch base marks changes replies = AtStart batch base marks changes replies × ((k : Bytes) × (t : AtToken batch base k) × (m ≡ mark.Token k) × (o ≡ kept_under batch.token (book_in t.s)))
 StandsRead m found.Gone batch base marks changes replies = AtStart batch base marks changes replies × (version_read (past_place batch.ops) base ≡ None) × (m ≡ mark.All)
 
--- All reads were made, and the batch comes to this.
+-- All reads were made, the batch awaits its commit, and its operations are accepted with these replies and changes.
 pub record IsReady (batch : Batch) (base : Base) (marks : List MarkKind) (changes : List RowWrite) (replies : List OpReply) : Type 0 where
   pub all_read : marks ≡ footprint_there batch base
   pub waits : awaits_there batch base ≡ true
@@ -155,7 +157,7 @@ abbrev pub Stands : Option Begun → Stage → Batch → List MarkKind → List 
 Stands None g batch marks changes replies = IsNew g × (marks ≡ []) × (changes ≡ []) × (replies ≡ [])
 Stands (Some begun) g batch marks changes replies = BeganOn batch begun × StandsAt g batch (base_of begun) marks changes replies
 
--- a read is to be made, or to be taken down
+-- a read is to be made or to be recorded
 abbrev pub IsRunning : Stage → Type 0
 IsRunning stage.New = ⊥
 IsRunning (stage.Token k) = ⊤

@@ -1,4 +1,4 @@
--- An operation in steps: which mark each phase reads, and what comes after the read, from the rows read. For this crate's own contracts.
+-- An operation in steps: which mark each phase reads, and what follows from the rows read. For this crate's own contracts.
 use Rattle.std.specs.Prelude.{◌≡◌, ℕ, ◌+◌, Bool, true, false, not, ◌&&◌, List, [], ◌∷◌, ◌++◌, filter, map, Option, Some, None, Err, is_some, bytes_eq, slice_get}
 use Rattle.spiffe_name.specs.SelectorSet.{set_eq}
 use Rattle.entry_book.specs.declared.agent.Agent.{Agent}
@@ -71,7 +71,7 @@ abbrev pub bundle_next : Bool → Option Entry → Entry → Bytes → ℕ → N
 bundle_next true old e d n = bundles_next old e n
 bundle_next false old e d n = Refused (NoBundle d)
 
--- another entry with the selectors, of those of one parent and identity
+-- the first other entry with the same selectors, among the entries of one parent and identity
 abbrev pub similar_in : Entry → List Entry → Option Entry
 similar_in e es = first (filter (λ o. set_eq o.selectors e.selectors && not (bytes_eq o.id e.id)) es)
 
@@ -134,7 +134,7 @@ abbrev pub walk_end : Asked → List Entry → Next
 walk_end asked.Entries es = Ends (replied.Entries es) []
 walk_end asked.Bundles es = trusted_next (domains_of es) 0 []
 
--- the children of the least identity that waits are read next
+-- the next read is that of the children of the least pending identity; if none is pending, the walk ends
 abbrev pub identity_next : List Bytes → Asked → WalkState → Next
 identity_next [] ask w = walk_end ask w.found
 identity_next (i ∷ is) ask w = Goes (phase.Identity ask (record w { waiting = is }) i)
@@ -142,7 +142,7 @@ identity_next (i ∷ is) ask w = Goes (phase.Identity ask (record w { waiting = 
 abbrev pub walk_next : Asked → WalkState → Next
 walk_next ask w = identity_next w.waiting ask w
 
--- ---- what comes after the read
+-- ---- what comes after a read
 
 abbrev pub first_next : Op → Book → Next
 first_next (Create e) r = create_next (first r.entries) e
@@ -171,7 +171,7 @@ advance server op (phase.Own ask w) r = walk_next ask (walked r.entries w)
 advance server op (phase.Identity ask w i) r = walk_next ask (walked r.entries w)
 advance server op (phase.Trusted d ds n bs) r = trusted_next ds n (bs ++ r.bundles)
 
--- ---- from a phase on, on a book: the marks that are read, and the answer
+-- ---- from a phase on, on a book: the marks that are read, and the result of the operation
 
 abbrev pub GoesOn : Next → List MarkKind → OpResult → (Phase → Type 0) → Type 0
 GoesOn (Goes q) ms o f = f q

@@ -1,4 +1,4 @@
--- Which reads an operation makes that asks for an agent's authorised entries or their bundles, in direct words. The laws are clauses of functions of the module `laws`.
+-- Which reads `authorised` and `trust` make, in direct words. The theorems are clauses of functions of the module `laws`.
 use Rattle.std.specs.Prelude.{◌≡◌, ◌≢◌, ◌⊎◌, ◌↔◌, ⊤, true, List, [], ◌∷◌, ◌++◌, length, map}
 use Rattle.spiffe_name.specs.Id.{server_text}
 use Rattle.entry_book.specs.declared.agent.Agent.{Agent}
@@ -12,7 +12,7 @@ use Rattle.version_book.specs.declared.mark.MarkKind.{MarkKind}
 use Rattle.version_book.specs.declared.mark.MarkKind.TheVariants as mark
 use Rattle.batch_work.specs.Reads.{walk, domains_of, marks_of}
 
--- each text stands once
+-- no text is repeated
 abbrev pub EachOnce : List Bytes → Type 0
 EachOnce [] = ⊤
 EachOnce (x ∷ xs) = (Within xs x → ⊥) × EachOnce xs
@@ -21,12 +21,13 @@ EachOnce (x ∷ xs) = (Within xs x → ⊥) × EachOnce xs
 abbrev pub IsAuthorised : Bytes → Agent → Book → Bytes → Type 0
 IsAuthorised server a b i = (e : Entry) × EndsChain server a b e × (e.identity ≡ i)
 
--- The entry is found once the children of these identities were read: the agent holds it, or its parent is the agent or one of them.
+-- The entry of the book is found once the children of these identities were read: the agent holds it, or its parent is the
+-- agent or one of these.
 pub record IsFound (server : Bytes) (a : Agent) (b : Book) (read : List Bytes) (e : Entry) : Type 0 where
   pub of_book : Within b.entries e
   pub by : Holds server a e ⊎ ((e.parent ≡ a.id) ⊎ Within read e.parent)
 
--- The identity of an entry found whose children weren't read yet; the agent's were.
+-- The identity of an entry that was found, whose children weren't read yet. It isn't the agent's own ID.
 pub record IsUnread (server : Bytes) (a : Agent) (b : Book) (read : List Bytes) (i : Bytes) : Type 0 where
   pub entry : Entry
   pub found : IsFound server a b read entry
@@ -48,7 +49,7 @@ pub record IsWalk (server : Bytes) (a : Agent) (b : Book) (read : List Bytes) : 
 abbrev pub WalkAsSaid : Type 0
 WalkAsSaid = (server : Bytes) (a : Agent) (b : Book) → IsWalk server a b (walk (length b.entries) server a [] b)
 
--- no two lists are such a walk: the words settle which identities are read, and in which order
+-- no two lists are such a walk: the definition determines which identities are read, and in which order
 abbrev pub OneWalk : Type 0
 OneWalk = (server : Bytes) (a : Agent) (b : Book) (read other : List Bytes) → IsWalk server a b read → IsWalk server a b other → read ≡ other
 
@@ -56,7 +57,7 @@ OneWalk = (server : Bytes) (a : Agent) (b : Book) (read other : List Bytes) → 
 abbrev pub AreTrusted : Bytes → Agent → Book → List Bytes → Type 0
 AreTrusted server a b domains = IsListOf (λ d. d) (λ d. (e : Entry) × EndsChain server a b e × Names d e) domains
 
--- the domains whose bundles are read are these
+-- the domains that the entries of `authorised` name are these
 abbrev pub TrustedAsSaid : Type 0
 TrustedAsSaid = (server : Bytes) (a : Agent) (b : Book) → AreTrusted server a b (domains_of (authorised server a b))
 
@@ -65,14 +66,14 @@ TrustedAsSaid = (server : Bytes) (a : Agent) (b : Book) → AreTrusted server a 
 abbrev pub children_read : Bytes → Agent → List Bytes → List MarkKind
 children_read server a read = mark.Children server ∷ mark.Children a.id ∷ map mark.Children read
 
--- the agent is read, and then the children of the server, of the agent, and of the walk's identities
+-- the agent is read, then the children of the server, of the agent, and of the walk's identities
 abbrev pub AuthorisedReads : Type 0
 AuthorisedReads = (own k : Bytes) (a : Agent) (b : Book) → AscendingBook b → Within b.agents a → a.id ≡ k → (read : List Bytes) × IsWalk (server_text own) a b read × (marks_of own (Authorised k) b ≡ mark.Agent k ∷ children_read (server_text own) a read)
 
--- and for trust the bundles of the domains that the entries found name
+-- and for `trust`, the bundles of the domains that the authorised entries name
 abbrev pub TrustReads : Type 0
 TrustReads = (own k : Bytes) (a : Agent) (b : Book) → AscendingBook b → Within b.agents a → a.id ≡ k → (read domains : List Bytes) × IsWalk (server_text own) a b read × AreTrusted (server_text own) a b domains × (marks_of own (Trust k) b ≡ mark.Agent k ∷ (children_read (server_text own) a read ++ map mark.Bundle domains))
 
--- where the agent is missing, nothing else is read
+-- if the agent is missing, nothing else is read
 abbrev pub MissingReads : Type 0
 MissingReads = (own k : Bytes) (b : Book) → (HasAgent b k → ⊥) → (marks_of own (Authorised k) b ≡ mark.Agent k ∷ []) × (marks_of own (Trust k) b ≡ mark.Agent k ∷ [])

@@ -1,11 +1,11 @@
--- What a window shows: the last versions of one history, by which a batch finds the book that it runs on.
+-- A window: the last versions of one history, among which a batch finds the book that it runs on.
 use Rattle.std.specs.Prelude.{◌≡◌, ⊤, ℕ, ◌+◌, ◌-◌, List, [], ◌∷◌, ◌++◌, map, filter, drop, length, nat_eq, Option}
 use Rattle.entry_book.specs.Book.{Book}
 use Rattle.entry_book.specs.Order.{first}
 use Rattle.entry_book.specs.History.{last_of}
 use Rattle.version_book.specs.CommittedRows.{State, book_of}
 
--- The newest version, and the older ones that are kept, the oldest of them first.
+-- The newest version, and the older ones that are retained, oldest first.
 pub record Window : Type 0 where
   pub older : List State
   pub newest : State
@@ -13,21 +13,21 @@ pub record Window : Type 0 where
 abbrev pub versions : Window → List State
 versions w = w.older ++ w.newest ∷ []
 
--- the version of this number, where the window has it
+-- the version with this number, if the window has it
 abbrev pub version_at : ℕ → Window → Option State
 version_at n w = first (filter (λ s. nat_eq s.number n) (versions w))
 
--- the last n of a list, or all of it where it has fewer
+-- the last n of a list, or all of it if it has fewer
 abbrev pub ending : ℕ → List State → List State
 ending n states = drop (length states - n) states
 
--- with the next version, and at most 63 older ones
+-- the window after this version was pushed, with at most 63 older ones
 abbrev pub pushed : State → Window → Window
 pushed s w = record { older = ending 63 (versions w); newest = s }
 
 -- ---- versions of one history
 
--- the next version of the same server
+-- the next version of the same trust domain
 pub record IsNext (s t : State) : Type 0 where
   pub number : t.number ≡ s.number + 1
   pub domain : t.domain ≡ s.domain
@@ -41,12 +41,12 @@ abbrev pub Counted : List State → Type 0
 Counted [] = ⊤
 Counted (s ∷ ss) = ComesNext s ss × Counted ss
 
--- ---- beside the list of all books
+-- ---- in relation to the list of all books
 
 abbrev pub book_in : State → Book
 book_in s = book_of s.rows
 
--- The window stands for this list of all books: its versions are those of the last 64 of them, in order.
+-- The window represents this list of all books: its versions have the last 64 of them, in order, and consecutive numbers.
 pub record StandsFor (w : Window) (books : List Book) : Type 0 where
   pub count : length books ≡ w.newest.number + 1
   pub kept : map book_in (versions w) ≡ last_of 64 books

@@ -1,4 +1,4 @@
--- What a work is: its batch, what it began on, and how many reads it has made. All else follows from these.
+-- What a work is: its batch, what it began on, and the number of reads that it has made. Everything else follows from these.
 use Rattle.std.specs.Prelude.{◌≡◌, ◌≤◌, ◌^◌, slice_get, ℕ, Bool, true, false, List, [], take, length, nat_lt, Option, Some, None, Ok, option_map, if◌then◌else◌}
 use Rattle.entry_book.specs.declared.reply.OpReply.{OpReply}
 use Rattle.entry_book.specs.declared.reply.Reply.{Reply}
@@ -14,7 +14,8 @@ use Rattle.batch_work.specs.declared.status.Status.TheVariants.{New, Running, Re
 use Rattle.batch_work.specs.Reads.{Case, case_at, footprint_in, awaits_in}
 use Rattle.batch_work.specs.Windows.{Window, book_in, version_at}
 
--- What a work began on: the newest version of its window, and where its batch asks for an earlier book the version of that one, which may be gone, or not there yet.
+-- What a work began on: the newest version of its window, and the version of the earlier book that its batch asks for, if it
+-- asks for one. That version may be gone or not there yet.
 pub record Base : Type 0 where
   pub newest : State
   pub earlier : Option State
@@ -36,7 +37,7 @@ pub record Work : Type 0 where
   pub base : Option Base
   pub steps : ℕ
 
--- ---- the reads of a batch on what it began on, and what it comes to there
+-- ---- the reads of a batch on what it began on, and its outcome there
 
 abbrev pub book_read : Batch → Base → Option Book
 book_read batch base = option_map book_in (version_read (past_place batch.ops) base)
@@ -50,7 +51,7 @@ footprint_there batch base = footprint_in batch (case_there batch base)
 abbrev pub awaits_there : Batch → Base → Bool
 awaits_there batch base = awaits_in batch (case_there batch base)
 
--- the plain book's reply there; where the batch awaits no commit, no limit has a say in it
+-- the specification's reply there; if the batch doesn't await a commit, no limit affects it
 abbrev pub reply_there : Batch → Base → Reply
 reply_there batch base = reply_with base.newest.number (verdict batch base.newest.number (book_read batch base))
 
@@ -70,9 +71,10 @@ status_from (Some base) batch n = status_on batch base n
 abbrev pub status_of : Work → Status
 status_of w = status_from w.base w.batch w.steps
 
--- ---- what a work begins on, and what its next step reads
+-- ---- on what a work begins, and what its next step reads
 
--- The window can be begun on: the batch was made for its trust domain, and its number is within the limit on commits, so that no revision and no sequence passes 64 bits.
+-- A batch may begin on the window: both have the same trust domain, and the newest number is within the limit on commits. So no
+-- revision and no sequence overflows 64 bits.
 pub record MayBegin (batch : Batch) (w : Window) : Type 0 where
   pub domain : batch.domain ≡ w.newest.domain
   pub low : w.newest.number ≤ 2 ^ 48
@@ -89,13 +91,14 @@ abbrev pub marks_from : Option Base → Batch → ℕ → List MarkKind
 marks_from None batch n = []
 marks_from (Some base) batch n = take n (footprint_there batch base)
 
--- the marks read so far
+-- the marks that were read so far
 abbrev pub marks_so_far : Work → List MarkKind
 marks_so_far w = marks_from w.base w.batch w.steps
 
 -- ---- the end
 
--- The batch was accepted on the book that it read, with these replies and these writes; the place of what is kept under its token is left open.
+-- The operations of the batch are accepted on this book, with these replies and these writes. The batch that the writes store
+-- under a token has the place 0.
 pub record IsAccepted (batch : Batch) (b : Book) (replies : List OpReply) (writes : List RowWrite) : Type 0 where
   pub effect : RunEffect
   pub ran : run batch.domain batch.ops b ≡ Ok effect
@@ -106,7 +109,7 @@ abbrev pub IsAcceptedOn : Option Base → Batch → List OpReply → List RowWri
 IsAcceptedOn None batch replies writes = ⊥
 IsAcceptedOn (Some base) batch replies writes = IsAccepted batch (book_in base.newest) replies writes
 
--- the replies, and the writes, of a work that is ready
+-- the replies, and the writes, of a ready work
 abbrev pub HasReplies : Work → List OpReply → Type 0
 HasReplies w replies = (writes : List RowWrite) × IsAcceptedOn w.base w.batch replies writes
 
@@ -117,6 +120,6 @@ abbrev pub IsReplyOn : Option Base → Batch → Reply → Type 0
 IsReplyOn None batch reply = ⊥
 IsReplyOn (Some base) batch reply = reply ≡ reply_there batch base
 
--- what a work that is settled answers
+-- the reply of a settled work
 abbrev pub IsAnswer : Work → Reply → Type 0
 IsAnswer w reply = IsReplyOn w.base w.batch reply

@@ -1,4 +1,6 @@
-//! What does an operation read next, and what does it make of what was read?
+//! Which read of an operation comes next, and what follows from the rows read?
+//!
+//! The functions `.._next` of its modules return a [`Next`]: the next read, or the end or the refusal of the operation.
 
 ghost use Rattle.std.specs.Prelude.{◌≡◌, [], Ok, IfErr, IfOk, is_ok};
 ghost use Rattle.entry_book.specs.Lawful.{CanGrow};
@@ -22,7 +24,7 @@ use spiffe_name::SpiffeId;
 use std::alloc::{AllocError, Global};
 use version_book::{Changes, Mark, RowsRead};
 
-/// The mark that an operation reads first. The error is out of memory.
+/// Returns the mark that an operation reads first. The error is out of memory.
 fn first_mark(op: &Op) -> Result<Mark, AllocError>
     ensures { IfOk result (λ mark. mark ≡ first_mark op.now) }
 {
@@ -45,7 +47,7 @@ fn first_mark(op: &Op) -> Result<Mark, AllocError>
     })
 }
 
-/// The mark that is read next. The error is out of memory.
+/// Returns the mark that an operation reads at this phase. The error is out of memory.
 pub(crate) fn mark_of(server: &Shared<SpiffeId>, op: &Op, phase: &Phase) -> Result<Mark, AllocError>
     ensures { IfOk result (λ mark. mark ≡ mark_of server.now op.now phase.now) }
 {
@@ -61,14 +63,14 @@ pub(crate) fn mark_of(server: &Shared<SpiffeId>, op: &Op, phase: &Phase) -> Resu
     })
 }
 
-/// The end of an operation that writes nothing. Takes no memory.
+/// Returns the end of an operation that writes nothing. Allocates no memory.
 fn answered(alloc: Global, reply: OpReply) -> Next
     ensures { result ≡ Next.Ends reply [] }
 {
     Next::Ends(reply, Changes::new(alloc))
 }
 
-/// After the first read of an operation. The error is out of memory.
+/// Returns what follows from the first read of an operation. The error is out of memory.
 fn first_next(alloc: Global, op: &Op, reading: RowsRead) -> Result<Next, AllocError>
     requires counts { CanGrow reading }
     ensures { IfOk result (λ next. next ≡ first_next op.now reading) }
@@ -106,7 +108,7 @@ fn first_next(alloc: Global, op: &Op, reading: RowsRead) -> Result<Next, AllocEr
     }
 }
 
-/// What comes next, or the phase if out of memory.
+/// Returns what comes next, or the phase if memory runs out.
 fn or_back(next: Result<Next, AllocError>, phase: Phase) -> Result<Next, Phase>
     ensures ok { is_ok result ≡ is_ok next }
     ensures next { IfOk result (λ made. next ≡ Ok made) }
@@ -121,8 +123,8 @@ fn or_back(next: Result<Next, AllocError>, phase: Phase) -> Result<Next, Phase>
     }
 }
 
-/// What comes after the read of a phase, from the rows read. Revisions and sequences have room to grow. The error is want
-/// of memory, and gives the phase back as it was.
+/// Returns what follows from the read of a phase, given the rows read. Their revisions and sequences must have room to grow. If
+/// memory runs out, the error is the phase, unchanged.
 pub(crate) fn advance(
     alloc: Global,
     server: &Shared<SpiffeId>,

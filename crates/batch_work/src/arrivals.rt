@@ -1,4 +1,4 @@
-//! How do the entries of a read come into the sets of a walk?
+//! How are the entries of a read added to the sets of a walk?
 
 ghost use Rattle.std.specs.Prelude.{◌≡◌, ◌≤◌, ◌<◌, ◌+◌, IfOk, Some, length, vec_len};
 ghost use Rattle.std.specs.Vec.{vec_capacity};
@@ -14,8 +14,8 @@ use spiffe_name::SpiffeId;
 use std::alloc::{AllocError, Global};
 use std::marker::Model;
 
-/// An entry that arrives at a walk, with the references to its identity that the sets of identities may need. A contract sees
-/// the entry.
+/// An entry that is to be added to a walk, with the two references to its identity that the sets of identities may need. The
+/// model in contracts is the entry.
 #[derive(Drop)]
 pub(crate) struct Arrival {
     entry: Entry,
@@ -37,7 +37,7 @@ impl Model for Arrival {
 impl Arrival {
     ghost use Rattle.std.specs.Prelude.{◌≡◌, IfOk};
 
-    /// The error is that no more owners can be counted.
+    /// Makes the arrival of an entry. The error is a reference count at its maximum.
     fn of(entry: Entry) -> Result<Arrival, AllocError>
         ensures { IfOk result (λ arrival. arrival ≡ entry) }
     {
@@ -52,7 +52,7 @@ impl Arrival {
     }
 }
 
-/// The entries, each with the owners of its identity. The error is out of memory.
+/// Makes the arrivals of the entries, in order. The error is out of memory.
 pub(crate) fn arrivals_of(alloc: Global, entries: Vec<Entry>) -> Result<Vec<Arrival>, AllocError>
     ensures { IfOk result (λ arrivals. arrivals.items ≡ entries.items) }
 {
@@ -63,8 +63,8 @@ pub(crate) fn arrivals_of(alloc: Global, entries: Vec<Entry>) -> Result<Vec<Arri
     Ok(arrivals)
 }
 
-/// Puts an entry among those found, and its identity, where it wasn't met yet, among those met and those that wait. The
-/// sets have room. Takes no memory.
+/// Adds an entry to those found. If its identity wasn't met yet, adds it to those met and to the pending ones. The sets have
+/// room. Allocates no memory.
 fn put_arrival(
     met: &mut Vec<Shared<SpiffeId>>,
     waiting: &mut Vec<Shared<SpiffeId>>,
@@ -95,7 +95,7 @@ fn put_arrival(
     put_reserved(found, entry);
 }
 
-/// Puts entries one after another into sets that have room for all of them. Takes no memory.
+/// Adds entries, one after another, to sets that have room for all of them. Allocates no memory.
 pub(crate) fn put_arrivals(
     met: &mut Vec<Shared<SpiffeId>>,
     waiting: &mut Vec<Shared<SpiffeId>>,

@@ -24,7 +24,7 @@ use entry_book::{Batch, Op, OpRefusal, PageQuery, Refusal, Sequence};
 use std::alloc::{AllocError, Global};
 use version_book::Version;
 
-/// A page of a version's entries. The error is out of memory.
+/// Returns a page of a version's entries. The error is out of memory.
 fn page<'a>(version: &'a Version, query: &PageQuery) -> Result<LentRows<'a>, AllocError>
     ensures { IfOk result (λ rows. rows ≡ LentRows.Page (listed query.now (book_in version.now)) (next_of query.now (book_in version.now))) }
 {
@@ -32,7 +32,7 @@ fn page<'a>(version: &'a Version, query: &PageQuery) -> Result<LentRows<'a>, All
     Ok(LentRows::Page(Sequence::of(entries), next))
 }
 
-/// The reply to a read-only operation on a version, or why it is refused. The error is out of memory.
+/// Returns the reply to a read-only operation on a version, or why it is refused. The error is out of memory.
 fn answer_op<'a>(
     alloc: Global,
     version: &'a Version,
@@ -61,8 +61,8 @@ fn answer_op<'a>(
     Ok(Ok(LentOpReply::of(rows)))
 }
 
-/// The replies to read-only operations on a version, in order, or the first that is refused, counted from 0. The error is out of
-/// memory.
+/// Returns the replies to read-only operations on a version, in order, or the index of the first that is refused, counted from
+/// 0, and why. The error is out of memory.
 fn answer_ops<'a>(
     alloc: Global,
     version: &'a Version,
@@ -81,7 +81,7 @@ fn answer_ops<'a>(
     Ok(Ok(replies))
 }
 
-/// The outcome of a read-only batch on the version that it reads. The error is out of memory.
+/// Returns the outcome of a read-only batch on the version that it reads. The error is out of memory.
 fn outcome_on<'a>(
     alloc: Global,
     version: &'a Version,
@@ -97,7 +97,7 @@ fn outcome_on<'a>(
     }
 }
 
-/// The outcome of a read-only batch on a window. The error is out of memory.
+/// Returns the outcome of a read-only batch on a window. The error is out of memory.
 fn outcome_in<'a>(
     alloc: Global,
     batch: &Batch,
@@ -116,8 +116,8 @@ fn outcome_in<'a>(
     }
 }
 
-/// The reply to a read-only batch: that of a work which begins on the window, once it is settled. Its rows are borrowed from the
-/// window. The error is out of memory.
+/// Returns the reply to a read-only batch: that of a work which begins on the window, once it is settled. Its rows are borrowed
+/// from the window. The error is out of memory.
 pub fn answer<'a>(
     alloc: Global,
     batch: &Batch,

@@ -1,4 +1,4 @@
-//! On what does a batch begin, and what does it do first?
+//! On which versions does a batch begin, and what does it do first?
 
 ghost use Rattle.std.specs.Prelude.{◌≡◌, [], IfOk, IfSome};
 ghost use Rattle.entry_book.specs.Batches.{past_place};
@@ -14,8 +14,8 @@ use entry_book::{Batch, Outcome, Refusal, both};
 use std::alloc::AllocError;
 use version_book::Version;
 
-/// A clone of the version of the earlier book that a batch asks for, if it asks for one and the window has it. The error is that
-/// its reference count can't grow.
+/// Returns a clone of the version of the earlier book that a batch asks for, if it asks for one and the window has it. The
+/// error is a reference count at its maximum.
 fn earlier_clone(batch: &Batch, window: &Window) -> Result<Option<Version>, AllocError>
     requires fits { MayBegin batch.now window.now }
     ensures found { IfOk result (λ earlier. earlier ≡ earlier_in (past_place batch.now.ops) window.now) }
@@ -29,7 +29,7 @@ fn earlier_clone(batch: &Batch, window: &Window) -> Result<Option<Version>, Allo
     Ok(Some(version.clone()?))
 }
 
-/// Where a batch begins on a window. The error is that a reference count can't grow.
+/// Returns the versions on which a batch begins, with the server's ID. The error is a reference count at its maximum.
 pub(crate) fn begun_on(batch: &Batch, window: &Window) -> Result<Begun, AllocError>
     requires fits { MayBegin batch.now window.now }
     ensures base { IfOk result (λ begun. base_of begun ≡ base_in batch.now window.now) }
@@ -47,7 +47,7 @@ pub(crate) fn begun_on(batch: &Batch, window: &Window) -> Result<Begun, AllocErr
     })
 }
 
-/// What a batch does first where it begins.
+/// Returns the first stage of a batch that begins on these versions.
 pub(crate) fn first_stage(batch: &Batch, begun: &Begun) -> Stage
     requires began { BeganOn batch.now begun.now }
     ensures { StandsAt result batch.now (base_of begun.now) [] [] [] }

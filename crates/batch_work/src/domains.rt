@@ -21,7 +21,7 @@ fn push_all(
     Ok(())
 }
 
-/// The domains that the entries name, as often as they are named. The error is out of memory.
+/// Returns the domains that the entries name, as often as they are named. The error is out of memory.
 fn all_domains(alloc: Global, entries: &[Entry]) -> Result<Vec<Shared<TrustDomain>>, AllocError>
     ensures { IfOk result (λ all. all.items ≡ flat_map (λ (entry : EntryRow). entry.domains) entries.now) }
 {
@@ -32,7 +32,7 @@ fn all_domains(alloc: Global, entries: &[Entry]) -> Result<Vec<Shared<TrustDomai
     Ok(all)
 }
 
-/// The domains that borrowed entries name, as often as they are named. The error is out of memory.
+/// Returns the domains that borrowed entries name, as often as they are named. The error is out of memory.
 fn all_lent_domains(
     alloc: Global,
     entries: &[Lent<'_, Entry>],
@@ -46,7 +46,7 @@ fn all_lent_domains(
     Ok(all)
 }
 
-/// These domains, each once, in order. The error is out of memory.
+/// Returns these domains, each once, in order. The error is out of memory.
 fn each_once(mut domains: Vec<Shared<TrustDomain>>) -> Result<Vec<Shared<TrustDomain>>, AllocError>
     ensures { IfOk result (λ set. set.items ≡ text_set domains.items) }
 {
@@ -55,7 +55,7 @@ fn each_once(mut domains: Vec<Shared<TrustDomain>>) -> Result<Vec<Shared<TrustDo
     Ok(domains)
 }
 
-/// The domains that the entries name, each once, in order. The error is out of memory.
+/// Returns the domains that the entries name, each once, in order. The error is out of memory.
 pub(crate) fn domains_of(
     alloc: Global,
     entries: &[Entry],
@@ -65,7 +65,7 @@ pub(crate) fn domains_of(
     each_once(all_domains(alloc, entries)?)
 }
 
-/// The domains that borrowed entries name, each once, in order. The error is out of memory.
+/// Returns the domains that borrowed entries name, each once, in order. The error is out of memory.
 pub(crate) fn domains_of_lent(
     alloc: Global,
     entries: &[Lent<'_, Entry>],

@@ -1,13 +1,13 @@
-//! Which laws hold of what batches read?
+//! Which theorems hold about what batches read?
 //!
-//! Each function does nothing. What it ensures is a law of the definitions, stated in `specs/Laws.antt`,
-//! `specs/Bounds.antt` or `specs/Walked.antt`; a caller that calls it may rest on the law.
+//! The bodies do nothing. Each contract is a theorem about the definitions, stated in `specs/Laws.antt`, `specs/Bounds.antt` or
+//! `specs/Walked.antt`; a caller may rely on it after the call.
 
 ghost use Rattle.batch_work.specs.Bounds.{BatchReadsBounded, KeptReadOnly, OpReadsBounded, ReadsAreFew, ReadsAreFewAnywhere, ReadsInOrder, TokenReadFirst};
 ghost use Rattle.batch_work.specs.Laws.{AwaitsAsSaid, BatchReadsDecide, CommitCheck, EndHasRead, OthersDontCommit, ReadsDecide, ReadyHasRead, ReadyTurns, VerdictByCase, WindowBegins, WindowGoesOn, WindowLast, WindowStands};
 ghost use Rattle.batch_work.specs.Walked.{AuthorisedReads, MissingReads, OneWalk, TrustReads, TrustedAsSaid, WalkAsSaid};
 
-/// What a batch meets decides what the plain book does with it.
+/// The specification's verdict on a batch is that of the case that the batch meets.
 pub fn cases()
     ensures verdict { VerdictByCase }
 {}
@@ -18,15 +18,16 @@ pub fn reads_decide()
     ensures batch { BatchReadsDecide }
 {}
 
-/// The outcome of a batch at its commit, if what it read is unchanged; and which batches await one.
+/// The outcome of a batch at its commit, if what it read is unchanged. Which batches await a commit; no other one is committed.
 pub fn commit_check()
     ensures check { CommitCheck }
     ensures awaits { AwaitsAsSaid }
     ensures others { OthersDontCommit }
 {}
 
-/// What a window shows decides what a work that begins on it reads, whether it awaits a commit, and what it answers. The window of a
-/// history's first version shows its book, and goes on to show the last 64 with each version that is pushed.
+/// A work that begins on a window has the reads and the reply of its batch on the list of all books. It awaits a commit exactly
+/// if the batch does. The window of a history's first version represents the list of its book. With each version that is
+/// pushed, it represents the longer list.
 pub fn windows()
     ensures stands { WindowStands }
     ensures begins { WindowBegins }
@@ -34,8 +35,8 @@ pub fn windows()
     ensures last { WindowLast }
 {}
 
-/// A batch's reads are those of its operations in order, after that of its token where it carries one. How many reads
-/// each operation makes at most, how many the batch makes, and that these are never more than a fixed number.
+/// A batch's reads are those of its operations in order, after that of its token if it has one. The number of reads is bounded
+/// for each operation and for the batch, and never exceeds a fixed number.
 pub fn bounds()
     ensures order { ReadsInOrder }
     ensures token { TokenReadFirst }
@@ -46,8 +47,8 @@ pub fn bounds()
     ensures anywhere { ReadsAreFewAnywhere }
 {}
 
-/// Which identities are read for an agent's authorised entries, in which order, and of which domains the bundles; and
-/// that these are the reads of the two operations that ask for them.
+/// Which identities are read for an agent's authorised entries, and in which order; the bundles of which domains are read; and
+/// that these are the reads of `authorised` and `trust`.
 pub fn walks()
     ensures walk { WalkAsSaid }
     ensures one { OneWalk }
@@ -57,7 +58,7 @@ pub fn walks()
     ensures missing { MissingReads }
 {}
 
-/// What a work that is at its end has read, and what its changes make of the book on which it began.
+/// What a work has read at its end, and what its changes make of the book on which it began.
 pub fn works()
     ensures end { EndHasRead }
     ensures ready { ReadyHasRead }

@@ -1,4 +1,4 @@
-//! What is a batch that only asks answered, with rows that a version lends?
+//! What is the reply to a read-only batch, with rows that are borrowed from a version?
 
 ghost use Rattle.std.specs.Prelude.{◌≡◌, IfOk};
 ghost use Rattle.std.specs.Option.{option_copied};
@@ -9,24 +9,24 @@ use std::marker::Model;
 use uuid::Uuid;
 use version_book::{Lent, owned};
 
-/// The rows that an operation asked for.
+/// The rows that an operation returns.
 #[derive(Drop)]
 pub enum LentRows<'a> {
-    /// The entry that was asked for, where there is one.
+    /// The requested entry, if there is one.
     Entry(Option<Lent<'a, Entry>>),
-    /// The entries that were asked for, in the order of their ids.
+    /// The requested entries, in the order of their ids.
     Entries(Sequence<Lent<'a, Entry>>),
-    /// The entries of a page, in the order of their ids, and the id after which the next page begins, where there is one.
+    /// The entries of a page, in the order of their ids, and the id after which the next page begins, if there is one.
     Page(Sequence<Lent<'a, Entry>>, Option<Uuid>),
-    /// The agent that was asked for, where there is one.
+    /// The requested agent, if there is one.
     Agent(Option<Lent<'a, Agent>>),
-    /// The bundle that was asked for, where there is one.
+    /// The requested bundle, if there is one.
     Bundle(Option<Lent<'a, Bundle>>),
-    /// The bundles that were asked for, in the order of their domains.
+    /// The requested bundles, in the order of their domains.
     Bundles(Sequence<Lent<'a, Bundle>>),
 }
 
-/// The reply to an operation that only asks. A contract sees the reply.
+/// The reply to a read-only operation. The model in contracts is the reply.
 #[derive(Drop)]
 pub struct LentOpReply<'a> {
     rows: LentRows<'a>,
@@ -45,21 +45,21 @@ impl<'a> LentOpReply<'a> {
     ghost use Rattle.std.specs.Prelude.{◌≡◌, IfOk};
     ghost use Rattle.batch_work.specs.LentReplies.{op_reply_of};
 
-    /// The reply that gives these rows.
+    /// Makes the reply with these rows.
     pub(crate) fn of(rows: LentRows<'a>) -> LentOpReply<'a>
         ensures { result ≡ op_reply_of rows.entry }
     {
         LentOpReply { rows }
     }
 
-    /// The rows.
+    /// Returns the rows.
     pub fn rows(&self) -> &LentRows<'a>
         ensures { op_reply_of result.now ≡ self.now }
     {
         &self.rows
     }
 
-    /// The same reply with copies of the rows. The error is out of memory.
+    /// Returns the same reply with copies of the rows. The error is out of memory.
     fn kept(&self, alloc: Global) -> Result<OpReply, AllocError>
         ensures { IfOk result (λ reply. reply ≡ self.now) }
     {
@@ -80,10 +80,11 @@ impl<'a> LentOpReply<'a> {
     }
 }
 
-/// The replies to the operations of a batch that only asks, or why it is refused.
+/// The replies to the operations of a read-only batch, or why it is refused.
 pub type LentOutcome<'a> = Result<Sequence<LentOpReply<'a>>, Refusal>;
 
-/// The reply to a batch that only asks, whose rows are lent by the version that was asked. A contract sees the reply.
+/// The reply to a read-only batch, with rows that are borrowed from the version that was read. The model in contracts is the
+/// reply.
 #[derive(Drop)]
 pub struct LentReply<'a> {
     place: u64,
@@ -103,28 +104,28 @@ impl<'a> LentReply<'a> {
     ghost use Rattle.std.specs.Prelude.{◌≡◌, IfOk};
     ghost use Rattle.batch_work.specs.LentReplies.{outcome_of};
 
-    /// The reply at this place, with what became of the batch.
+    /// Makes the reply at this place, with this outcome.
     pub(crate) fn of(place: u64, outcome: LentOutcome<'a>) -> LentReply<'a>
         ensures { result ≡ record { place = place; outcome = outcome_of outcome.entry } }
     {
         LentReply { place, outcome }
     }
 
-    /// The number of the last book.
+    /// Returns the place of the reply: the number of the last book.
     pub fn place(&self) -> u64
         ensures { result ≡ self.now.place }
     {
         self.place
     }
 
-    /// The replies to the operations, or why the batch is refused.
+    /// Returns the replies to the operations, or why the batch is refused.
     pub fn outcome(&self) -> &LentOutcome<'a>
         ensures { outcome_of result.now ≡ self.now.outcome }
     {
         &self.outcome
     }
 
-    /// The same reply with copies of the rows, to be kept as long as anyone likes. The error is out of memory.
+    /// Returns the same reply with copies of the rows, so that it can outlive the version. The error is out of memory.
     pub fn kept(&self, alloc: Global) -> Result<Reply, AllocError>
         ensures { IfOk result (λ reply. reply ≡ self.now) }
     {
@@ -140,7 +141,7 @@ impl<'a> LentReply<'a> {
     }
 }
 
-/// The row, lent, where there is one.
+/// Returns the row, borrowed, if there is one.
 pub(crate) fn lent<'a, T>(row: Option<&'a T>) -> Option<Lent<'a, T>>
     ensures { result ≡ option_copied row.entry }
 {
@@ -150,7 +151,7 @@ pub(crate) fn lent<'a, T>(row: Option<&'a T>) -> Option<Lent<'a, T>>
     }
 }
 
-/// A copy of the row, where there is one. The error is that no more owners can be counted.
+/// Returns a copy of the row, if there is one. The error is a reference count at its maximum.
 fn copied<T: Clone>(row: &Option<Lent<'_, T>>) -> Result<Option<T>, AllocError>
     requires clones { (one copy : T) → T.is_clone one copy → copy ≡ one }
     ensures { IfOk result (λ copy. copy ≡ row.now) }
@@ -161,7 +162,7 @@ fn copied<T: Clone>(row: &Option<Lent<'_, T>>) -> Result<Option<T>, AllocError>
     }
 }
 
-/// The same replies with copies of the rows. The error is out of memory.
+/// Returns the same replies with copies of the rows. The error is out of memory.
 fn kept_replies(alloc: Global, replies: &[LentOpReply<'_>]) -> Result<Sequence<OpReply>, AllocError>
     ensures { IfOk result (λ kept. kept ≡ replies.now) }
 {

@@ -1,25 +1,28 @@
-//! How is a batch run in small steps on one version of the book, and what does its answer rest on?
+//! How is a batch run in small steps on one version of the book, and on what does its reply depend?
 //!
-//! Many callers read versions, which never change, at the same time. Each runs its batch alone: one read a step, through the batch's own
-//! earlier changes, and nothing that is shared is touched. In the end it has the plain book's answer on the version that it
-//! began on, and the marks that it read, which are all that this answer rests on: a caller that commits the batch
-//! needs to look at these marks alone.
+//! Many callers read versions at the same time, because these never change. Each runs its batch alone, with one read in each
+//! step, through the batch's own earlier changes. It changes no shared state. In the end it has the specification's reply on
+//! the version that it began on. It also has its read set: the marks that it read, on which alone this reply depends. So a
+//! commit of the batch checks only these marks.
 //!
 //! - [`Work`]: a batch in execution. It begins on a window, makes a read with each step, and is then ready for its commit, or
 //!   settled; [`Status`] says which.
-//! - [`answer`]: the reply to a read-only batch, in one pass: nothing commits on what it reads, so there are no steps and no marks.
-//! - [`LentReply`]: such a reply, whose rows are borrowed from the version, so that it changes no reference count; it is made of a
+//! - [`answer`]: the reply to a read-only batch, in one pass: nothing commits on what it reads, so there are no steps and no
+//!   marks.
+//! - [`LentReply`]: such a reply, whose rows are borrowed from the version, so that it changes no reference count. It has a
 //!   [`LentOpReply`] for each operation, which has its [`LentRows`].
-//! - [`Window`]: the last 64 versions of one history. A batch reads the newest, or for the page of an earlier book that one.
-//! - [`laws`]: what is read decides the outcome of a batch; its outcome at a commit; how many reads it makes, and which;
-//!   what a window shows of the list of all books.
+//! - [`Window`]: the newest version of one history and up to 63 before it. A batch reads the newest one, or the one of the
+//!   earlier book that its page names.
+//! - [`laws`]: theorems. What is read decides the outcome of a batch; its outcome at a commit; the number of its reads, and
+//!   which they are; how a window represents the list of all books.
 //!
-//! The definitions are in `specs/`: the table of reads, what a batch meets and its footprint then in `Reads`, what a work is in `Working`,
-//! what a window shows in `Windows`, the replies of borrowed rows in `LentReplies`, the laws in `Laws`, `Bounds` and `Walked`; the
-//! others are for this crate's own contracts. Nothing outside this crate knows how a work keeps its course:
+//! The definitions are in `specs/`: `Reads` has the table of reads, the cases that a batch can meet, and its footprint in each;
+//! `Working` has what a work is, `Windows` what a window is, and `LentReplies` the replies of borrowed rows. `Laws`, `Bounds`
+//! and `Walked` have the theorems. The others are for this crate's own contracts. No other crate depends on how a work is
+//! executed:
 //!
 //! - `begin`: what a batch begins on; `versions`: which version it reads there, or why it reads none.
-//! - `look`: what its next read shows; `take`: what follows from that; `stage`: its state between two steps.
+//! - `look`: what its next read finds; `take`: what follows from that; `stage`: its state between two steps.
 //! - `asking`: evaluates read-only batches in one pass.
 //! - `phase`: the state of an operation between two reads; `advance`: its next state.
 //! - `walk`: the walk to authorised entries, in steps; `sorted`: the sorted sets of this walk and of that in `asking`.

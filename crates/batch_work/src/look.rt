@@ -1,4 +1,4 @@
-//! What does the next read of a work show?
+//! What does the next read of a work find?
 
 ghost use Rattle.std.specs.Prelude.{◌≡◌, IfOk, IfErr, Some, length, slice_get};
 ghost use Rattle.entry_book.specs.Book.{token_at};
@@ -17,7 +17,7 @@ use std::alloc::{AllocError, Global};
 use uuid::Uuid;
 use version_book::{Mark, Version};
 
-/// The first of these, where there is one. The error is out of memory.
+/// Returns a clone of the first of these, if there is one. The error is out of memory.
 fn first_kept(tokens: &[KeptBatch]) -> Result<Option<KeptBatch>, AllocError>
     ensures { IfOk result (λ kept. kept ≡ first tokens.now) }
 {
@@ -27,7 +27,7 @@ fn first_kept(tokens: &[KeptBatch]) -> Result<Option<KeptBatch>, AllocError>
     }
 }
 
-/// What a version keeps under a token. The error is out of memory.
+/// Returns the batch that a version stores under a token, if there is one. The error is out of memory.
 fn kept_under(version: &Version, token: Uuid) -> Result<Option<KeptBatch>, AllocError>
     ensures { IfOk result (λ kept. kept ≡ token_at token (book_in version.now)) }
 {
@@ -40,8 +40,8 @@ fn kept_under(version: &Version, token: Uuid) -> Result<Option<KeptBatch>, Alloc
     kept
 }
 
-/// The next read of an operation, counted from 0, at its phase: the mark, and what comes next. The error is out of memory,
-/// and gives the phase back.
+/// Makes the next read of an operation, counted from 0, at its phase. Returns the mark, and what comes next. If memory runs
+/// out, the error is the phase, unchanged.
 fn look_op(
     alloc: Global,
     begun: &Begun,
@@ -75,7 +75,7 @@ fn look_op(
     }
 }
 
-/// The next read of what is kept under the batch's token. The error is out of memory.
+/// Reads the batch that is stored under the batch's token, if there is one. The error is out of memory.
 fn look_token(begun: &Begun, batch: &Batch, token: Uuid) -> Result<Option<KeptBatch>, AllocError>
     requires at { AtToken batch.now (base_of begun.now) token }
     ensures { IfOk result (λ kept. (at_token : AtToken batch.now (base_of begun.now) token) → kept ≡ kept_under batch.now.token (book_in at_token.s)) }
@@ -86,7 +86,7 @@ fn look_token(begun: &Begun, batch: &Batch, token: Uuid) -> Result<Option<KeptBa
     kept_under(version, token)
 }
 
-/// The mark of the next read of a work that runs. The error is out of memory.
+/// Returns the mark of the next read of a running work. The error is out of memory.
 pub(crate) fn next_mark(
     begun: &Begun,
     batch: &Batch,
@@ -108,8 +108,8 @@ pub(crate) fn next_mark(
     }
 }
 
-/// Makes the next read of a work that runs: its mark, and what it shows. A read that was made and not taken down isn't made
-/// again. The error is out of memory, and gives the stage back.
+/// Makes the next read of a running work. Returns its mark, and what it found. A read that was made and isn't recorded yet
+/// isn't made again. If memory runs out, the error is the stage, unchanged.
 pub(crate) fn look(
     alloc: Global,
     begun: &Begun,

@@ -1,4 +1,4 @@
-//! What do the rows of a reading show?
+//! What do the rows that were read say?
 
 ghost use Rattle.std.specs.Prelude.{◌≡◌, IfOk, filter};
 ghost use Rattle.std.specs.Option.{option_copied};
@@ -10,14 +10,14 @@ use entry_book::{Agent, Entry};
 use spiffe_name::SpiffeId;
 use std::alloc::{AllocError, Global};
 
-/// The first row, where there is one. Takes no memory.
+/// Returns the first row, if there is one. Allocates no memory.
 pub(crate) fn first_of<T: Drop>(rows: Vec<T>) -> Option<T>
     ensures { result ≡ first rows.items }
 {
     rows.into_iter().next()
 }
 
-/// Another entry with the selectors, of those of one parent and identity.
+/// Returns another entry with the same selectors, among the entries of one parent and identity, if there is one.
 pub(crate) fn similar_in<'a>(entries: &'a [Entry], new: &Entry) -> Option<&'a Entry>
     ensures { option_copied result ≡ similar_in new.now entries.now }
 {
@@ -29,14 +29,14 @@ pub(crate) fn similar_in<'a>(entries: &'a [Entry], new: &Entry) -> Option<&'a En
     None
 }
 
-/// Is the entry an alias, and does the agent have all of its selectors?
+/// Returns true if the entry is an alias and the agent has all of its selectors.
 pub(crate) fn holds(server: &SpiffeId, agent: &Agent, entry: &Entry) -> bool
     ensures { result ≡ holds server.now agent.now entry.now }
 {
     entry.parent().get() == server && entry.selectors().get().within(agent.selectors.get())
 }
 
-/// The aliases that the agent holds. The error is out of memory.
+/// Returns the aliases among these entries that the agent holds. The error is out of memory.
 pub(crate) fn held(
     alloc: Global,
     server: &SpiffeId,

@@ -1,4 +1,4 @@
-//! Where is an item in a vector that is in order, and how is it put there?
+//! Where is an item in a sorted vector, and how is it put there?
 
 ghost use Rattle.std.specs.Prelude.{◌≡◌, ◌≤◌, ◌<◌, ◌+◌, IfOk, IsOk, List, OnOk, Some, bytes_eq, not, vec_len, ℕ};
 ghost use Rattle.std.specs.Cmp.Lexicographic.{slice_cmp};
@@ -19,7 +19,7 @@ use version_book::Lent;
 pub(crate) trait Keyed: Drop {
     ghost key: { Self → List ℕ };
 
-    /// How its key compares with that of another item.
+    /// Compares its key with that of another item.
     fn compare(&self, other: &Self) -> Ordering
         ensures { result ≡ slice_cmp nat_cmp (key self.now) (key other.now) };
 }
@@ -49,7 +49,7 @@ impl<'a, T: Keyed + 'a> Keyed for Lent<'a, T> {
     }
 }
 
-/// Where the item with this one's key is, or where it would be, by binary search.
+/// Returns the index of the item with this one's key, or as an error the index at which it belongs. It is a binary search.
 fn place_of<T: Keyed>(set: &[T], item: &T) -> Result<usize, usize>
     requires order { Ascending T.key set.now }
     ensures { IsPlace T.key set.now (T.key item.now) result }
@@ -68,8 +68,8 @@ pub(crate) fn has<T: Keyed>(set: &[T], item: &T) -> bool
     }
 }
 
-/// Puts the item into the set, in the place of the one with its key. Returns true if there was none. The error is out of memory,
-/// which can't be if the set has room.
+/// Puts the item into the set, in place of the one with its key. Returns true if there was none. The error is out of memory; it
+/// can't occur if the set has room.
 pub(crate) fn put<T: Keyed>(set: &mut Vec<T>, item: T) -> Result<bool, AllocError>
     requires order { Ascending T.key set.old.items }
     ensures is_new { IfOk result (λ is_new. is_new ≡ not (list_any (λ other. bytes_eq (T.key other) (T.key item)) set.old.items)) }
@@ -91,8 +91,8 @@ pub(crate) fn put<T: Keyed>(set: &mut Vec<T>, item: T) -> Result<bool, AllocErro
     }
 }
 
-/// Puts the item into the set, which has room for it, in the place of the one with its key. Returns true if there was none. Takes
-/// no memory.
+/// Puts the item into the set, which has room for it, in place of the one with its key. Returns true if there was none.
+/// Allocates no memory.
 pub(crate) fn put_reserved<T: Keyed>(set: &mut Vec<T>, item: T) -> bool
     requires order { Ascending T.key set.old.items }
     requires room { vec_len set.old < vec_capacity set.old }

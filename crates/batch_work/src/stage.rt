@@ -1,4 +1,4 @@
-//! Where does a work stand between two steps?
+//! What is the state of a work between two steps?
 
 use crate::phase::{Next, Phase};
 use entry_book::{KeptBatch, OpReply, Reply, Sequence, Shared};
@@ -6,8 +6,8 @@ use spiffe_name::SpiffeId;
 use uuid::Uuid;
 use version_book::{Changes, Mark, Version};
 
-/// Where a work began: the newest version of its window, the one of an earlier book that its batch asks for, where it is
-/// there, and the ID of the server.
+/// What a work began on: the newest version of its window, and the server's ID. If its batch asks for an earlier book that is
+/// there, also the version of that book.
 #[derive(Drop)]
 pub(crate) struct Begun {
     pub(crate) newest: Version,
@@ -15,7 +15,7 @@ pub(crate) struct Begun {
     pub(crate) server: Shared<SpiffeId>,
 }
 
-/// What a work has so far: the marks that it read, and the writes and the replies of the operations that are done.
+/// What a work has recorded: the marks that it read, and the writes and the replies of the operations that have ended.
 #[derive(Drop)]
 pub(crate) struct Course {
     pub(crate) marks: Vec<Mark>,
@@ -23,31 +23,31 @@ pub(crate) struct Course {
     pub(crate) replies: Vec<OpReply>,
 }
 
-/// What a read has shown.
+/// What a read has found.
 #[derive(Drop)]
 pub(crate) enum Found {
-    /// What comes next of this operation, counted from 0.
+    /// What comes next in this operation, counted from 0.
     Op(usize, Next),
-    /// What is kept under the token, if anything is.
+    /// The batch stored under the token, if there is one.
     Kept(Option<KeptBatch>),
     /// The book that a page asks for is gone, or not there yet.
     Gone,
 }
 
-/// Where a work stands.
+/// The state of a work.
 #[derive(Drop)]
 pub(crate) enum Stage {
     New,
-    /// What is kept under the token is read next.
+    /// The next read is the batch stored under the token.
     Token(Uuid),
-    /// All entries of a book that isn't there are read next.
+    /// The next read is all entries of a book that isn't there.
     Gone,
-    /// This operation, counted from 0, makes its next read.
+    /// The next read is one of this operation, counted from 0.
     At(usize, Phase),
-    /// A read was made, and is to be taken down.
+    /// A read was made, and is still to be recorded.
     Read(Mark, Found),
-    /// The changes wait for their commit; the replies.
+    /// The changes await their commit; these are the replies.
     Ready(Shared<Sequence<OpReply>>),
-    /// Nothing is left to do; the reply.
+    /// Nothing is left to do; this is the reply.
     Settled(Reply),
 }

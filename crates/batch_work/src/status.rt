@@ -1,4 +1,4 @@
-//! How far is a work?
+//! What does a work wait for?
 
 /// What a work waits for.
 #[derive(Clone, Copy, Debug, PartialEq, Eq, Drop)]
@@ -9,6 +9,6 @@ pub enum Status {
     Running,
     /// The commit of its changes.
     Ready,
-    /// Nothing: a query is answered, or a batch is refused, or was committed before.
+    /// Nothing: a query is answered, a batch is refused, or it was committed before.
     Settled,
 }

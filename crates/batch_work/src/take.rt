@@ -13,14 +13,14 @@ use entry_book::{Batch, KeptBatch, OpRefusal, OpReply, Outcome, Refusal, Reply, 
 use std::alloc::{AllocError, Global};
 use version_book::{Changes, Mark};
 
-/// Returns the stage of a work that is done, with this reply at this place.
+/// Returns the stage of a work that is settled, with this outcome at this place.
 pub(crate) fn settled(place: u64, outcome: Outcome) -> Stage
     ensures { result ≡ Stage.Settled (record { place = place; outcome = outcome }) }
 {
     Stage::Settled(Reply { place, outcome })
 }
 
-/// This operation, counted from 0, is refused.
+/// Returns the stage of a work whose operation with this index, counted from 0, is refused.
 fn refused(begun: &Begun, index: usize, reason: OpRefusal) -> Stage
     ensures { result ≡ Stage.Settled (record {
       place = begun.now.newest.number;
@@ -31,7 +31,8 @@ fn refused(begun: &Begun, index: usize, reason: OpRefusal) -> Stage
     settled(begun.newest.number(), Outcome::Refused(refusal))
 }
 
-/// A batch was committed with the token: this one is a repeat of it, or uses the token for something else.
+/// Returns the stage of a work whose token is in use: its batch repeats the stored one, or reuses the token for other
+/// operations.
 fn again(begun: &Begun, batch: &Batch, kept: KeptBatch) -> Stage
     ensures { result ≡ Stage.Settled
         (reply_with begun.now.newest.number (verdict_again (ops_eq kept.ops batch.now.ops) kept)) }
@@ -44,7 +45,7 @@ fn again(begun: &Begun, batch: &Batch, kept: KeptBatch) -> Stage
     }
 }
 
-/// The book that a page asks for isn't there.
+/// Returns the stage of a work whose page asks for a book that isn't there.
 fn gone(begun: &Begun) -> Stage
     ensures { result ≡ Stage.Settled (record {
       place = begun.now.newest.number;
@@ -54,7 +55,7 @@ fn gone(begun: &Begun) -> Stage
     settled(begun.newest.number(), Outcome::Refused(version_gone()))
 }
 
-/// A copy of these writes is put behind the changes. The error is out of memory, and nothing has changed then.
+/// Appends a copy of these writes to the changes. The error is out of memory, and then nothing has changed.
 fn append_copy(changes: &mut Changes, writes: &Changes) -> Result<(), AllocError>
     ensures changes { OnOk result (changes.new ≡ changes.old ++ writes.now) }
     ensures err { OnErr result (changes.new ≡ changes.old) }
@@ -63,8 +64,8 @@ fn append_copy(changes: &mut Changes, writes: &Changes) -> Result<(), AllocError
     changes.append(writes)
 }
 
-/// Takes an operation's reply and writes down, which isn't the last one. The error is out of memory, and nothing has changed
-/// then.
+/// Records the reply and the writes of an operation that isn't the last one. The error is out of memory, and then nothing has
+/// changed.
 fn end_op(course: &mut Course, reply: &OpReply, writes: &Changes) -> Result<(), AllocError>
     ensures changes { OnOk result (course.new.changes ≡ course.old.changes ++ writes.now) }
     ensures replies { OnOk result (course.new.replies.items ≡ course.old.replies.items ++ reply.now ∷ []) }
@@ -83,7 +84,7 @@ fn end_op(course: &mut Course, reply: &OpReply, writes: &Changes) -> Result<(), 
     Ok(())
 }
 
-/// The replies of all operations, with that of the last one. The error is out of memory.
+/// Returns the replies to all operations: the earlier ones and the last one. The error is out of memory.
 fn all_replies(
     alloc: Global,
     earlier: &Vec<OpReply>,
@@ -96,8 +97,8 @@ fn all_replies(
     Shared::of(alloc, Sequence::of(all))
 }
 
-/// Takes the last operation's writes down, and that of the batch's token, where it carries one. The error is out of memory,
-/// and nothing has changed then.
+/// Records the writes of the last operation, and that of the batch's token, if it has one. The error is out of memory, and then
+/// nothing has changed.
 fn end_changes(
     changes: &mut Changes,
     batch: &Batch,
@@ -114,7 +115,7 @@ fn end_changes(
     changes.append(writes)
 }
 
-/// The last operation of a read-only batch has ended. The error is out of memory.
+/// Returns the stage after the last operation of a read-only batch. The error is out of memory.
 fn end_query(
     alloc: Global,
     begun: &Begun,
@@ -130,7 +131,8 @@ fn end_query(
     Ok(settled(begun.newest.number(), Outcome::Answered(all)))
 }
 
-/// The last operation of a batch that changes the book has ended. The error is out of memory, and nothing has changed then.
+/// Records the writes of the last operation of a batch of changes, and returns the stage after it. The error is out of memory,
+/// and then nothing has changed.
 fn end_changes_batch(
     alloc: Global,
     batch: &Batch,
@@ -149,8 +151,8 @@ fn end_changes_batch(
     Ok(Stage::Ready(all))
 }
 
-/// The stage of a work whose operation, counted from 0, has ended. The error is out of memory, and nothing has changed
-/// then.
+/// Records an operation, counted from 0, that has ended, and returns the stage after it. The error is out of memory, and then
+/// nothing has changed.
 fn ended(
     alloc: Global,
     begun: &Begun,
@@ -180,8 +182,8 @@ fn ended(
     }
 }
 
-/// Takes a read down, of this mark: the work's stage after it. The error is out of memory, and gives back what was found;
-/// nothing has changed then.
+/// Records what a read of this mark has found, and returns the work's stage after it. If memory runs out, the error is what was
+/// found, and nothing has changed.
 pub(crate) fn take_down(
     alloc: Global,
     begun: &Begun,

@@ -11,7 +11,7 @@ use entry_book::{Batch, OpRefusal, Refusal};
 use std::marker::Model;
 use version_book::Version;
 
-/// The version of the earlier book that a batch asks for, if it asks for one and the window has it.
+/// Returns the version of the earlier book that a batch asks for, if it asks for one and the window has it.
 pub(crate) fn earlier_in<'a>(batch: &Batch, window: &'a Window) -> Option<&'a Version>
     ensures found { option_copied result ≡ earlier_in (past_place batch.now.ops) window.now }
     ensures earlier { IfSome result (λ version. (version.now.domain ≡ window.now.newest.domain) × (version.now.number ≤ window.now.newest.number)) }
@@ -22,7 +22,7 @@ pub(crate) fn earlier_in<'a>(batch: &Batch, window: &'a Window) -> Option<&'a Ve
     }
 }
 
-/// The refusal of a batch whose page asks for a book that isn't there.
+/// Returns the refusal of a batch whose page asks for a book that isn't there.
 pub(crate) fn version_gone() -> Refusal
     ensures { result ≡ Refusal.OfOp 0 OpRefusal.VersionGone }
 {
@@ -55,7 +55,7 @@ impl<'a> Versions<'a> {
     ghost use Rattle.batch_work.specs.Standing.{InTime, ReadsNone, base_of};
     ghost use Rattle.batch_work.specs.Working.{base_in, version_read};
 
-    /// Those of a window.
+    /// Returns those of a window.
     pub(crate) fn in_window(batch: &Batch, window: &'a Window) -> Versions<'a>
         ensures base { result ≡ base_in batch.now window.now }
         ensures domain { IfSome result.earlier (λ earlier. earlier.domain ≡ window.now.newest.domain) }
@@ -66,7 +66,7 @@ impl<'a> Versions<'a> {
         }
     }
 
-    /// Those on which a work began.
+    /// Returns those on which a work began.
     pub(crate) fn begun(begun: &'a Begun) -> Versions<'a>
         ensures { result ≡ base_of begun.now }
     {
@@ -76,7 +76,7 @@ impl<'a> Versions<'a> {
         }
     }
 
-    /// The one that a batch reads, if it is there.
+    /// Returns the one that a batch reads, if it is there.
     pub(crate) fn read(&self, batch: &Batch) -> Option<&'a Version>
         ensures { option_copied result ≡ version_read (past_place batch.now.ops) self.now }
     {
@@ -86,7 +86,7 @@ impl<'a> Versions<'a> {
         }
     }
 
-    /// The one that a batch reads where it begins. The error is why it reads none: it comes too early, or the book of its page isn't
+    /// Returns the one that a batch reads. The error is why it reads none: it comes too early, or the book of its page isn't
     /// there.
     pub(crate) fn version_for(&self, batch: &Batch) -> Result<&'a Version, Refusal>
         ensures in_time { IfOk result (λ version. InTime batch.now self.now) }

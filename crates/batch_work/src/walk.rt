@@ -1,4 +1,4 @@
-//! How far has the walk to an agent's authorised entries come?
+//! What is the state of the walk to an agent's authorised entries?
 
 ghost use Rattle.std.specs.Prelude.{◌≡◌, ◌∷◌, [], IfOk};
 ghost use Rattle.std.specs.List.{list_all};
@@ -13,20 +13,21 @@ use spiffe_name::SpiffeId;
 use std::alloc::{AllocError, Global};
 use std::marker::Model;
 
-/// Where a walk stands.
+/// The state of a walk.
 #[derive(Drop)]
 struct Place {
     agent: Agent,
-    /// The identities met, the agent's own ID among them, in order.
+    /// The identities met, including the agent's own ID, in order.
     met: Vec<Shared<SpiffeId>>,
-    /// Those of them whose children are still to be read, in order.
+    /// Those of them that are pending: their children are still to be read. They are in order.
     waiting: Vec<Shared<SpiffeId>>,
     /// The entries found, in the order of their ids.
     found: Vec<Entry>,
 }
 
-/// The walk to an agent's authorised entries: it begins with the held aliases and the agent's own children, and goes on to
-/// the children of each identity that it meets, each once, the least first. It is one word long, since each step hands it on.
+/// The walk to an agent's authorised entries. It begins with the aliases that the agent holds and the agent's own children. It
+/// goes on to the children of each identity that it meets, each once, the least first. It is one word long, because each step
+/// moves it.
 #[derive(Drop)]
 pub(crate) struct Walk {
     place: Box<Place>,
@@ -56,7 +57,7 @@ impl Walk {
     ghost use Rattle.std.specs.Prelude.{◌≡◌, [], ◌∷◌, IfOk, IfNone, IfSome, OnOk, OnErr};
     ghost use Rattle.batch_work.specs.WalkStates.{first_walk, is_over, walked};
 
-    /// The walk before its first entry. The error is out of memory.
+    /// Makes the walk before its first entry. The error is out of memory.
     pub(crate) fn new(alloc: Global, agent: Agent) -> Result<Walk, AllocError>
         ensures { IfOk result (λ walk. walk ≡ first_walk agent) }
     {
@@ -73,7 +74,7 @@ impl Walk {
         })
     }
 
-    /// Takes in the entries of a read, one after another. The error is out of memory, and nothing has changed then.
+    /// Adds the entries of a read, one after another. The error is out of memory, and then nothing has changed.
     pub(crate) fn goes_on(&mut self, alloc: Global, entries: Vec<Entry>) -> Result<(), AllocError>
         ensures ok { OnOk result (self.new ≡ walked entries.items self.old) }
         ensures err { OnErr result (self.new ≡ self.old) }
@@ -92,7 +93,7 @@ impl Walk {
         Ok(())
     }
 
-    /// Does no identity wait any more once these entries are taken in?
+    /// Returns true if adding these entries leaves no pending identity.
     pub(crate) fn ends_with(&self, entries: &[Entry]) -> bool
         ensures { result ≡ is_over (walked entries.now self.now) }
     {
@@ -103,7 +104,7 @@ impl Walk {
         }
     }
 
-    /// The least identity that waits, which doesn't wait any more. Takes no memory.
+    /// Removes and returns the least pending identity, if there is one. Allocates no memory.
     pub(crate) fn take_least(&mut self) -> Option<Shared<SpiffeId>>
         ensures none { IfNone result ((self.old.waiting ≡ []) × (self.new ≡ self.old)) }
         ensures some { IfSome result (λ least.
@@ -116,14 +117,14 @@ impl Walk {
         Some(self.place.waiting.remove(0))
     }
 
-    /// The agent whose entries are looked for.
+    /// Returns the agent whose entries are searched.
     pub(crate) fn agent(&self) -> &Agent
         ensures { result.now ≡ self.now.agent }
     {
         &self.place.agent
     }
 
-    /// The entries found, in the order of their ids. Takes no memory.
+    /// Returns the entries found, in the order of their ids. Allocates no memory.
     pub(crate) fn into_found(self) -> Vec<Entry>
         ensures { result.items ≡ self.found }
     {
@@ -132,7 +133,7 @@ impl Walk {
     }
 }
 
-/// A copy copies no text. The error is out of memory.
+/// A clone copies no text. The error is out of memory.
 impl Clone for Walk {
     ghost is_clone = { λ original copy. copy ≡ original };
 
@@ -149,7 +150,7 @@ impl Clone for Walk {
     }
 }
 
-/// This identity alone. The error is out of memory.
+/// Returns a list of this identity alone. The error is out of memory.
 fn only(alloc: Global, id: &Shared<SpiffeId>) -> Result<Vec<Shared<SpiffeId>>, AllocError>
     ensures { IfOk result (λ ids. ids.items ≡ id.now ∷ []) }
 {
@@ -158,7 +159,7 @@ fn only(alloc: Global, id: &Shared<SpiffeId>) -> Result<Vec<Shared<SpiffeId>>, A
     Ok(ids)
 }
 
-/// Were the identities of all entries met?
+/// Returns true if the identities of all these entries were met.
 fn are_met(met: &[Shared<SpiffeId>], entries: &[Entry]) -> bool
     requires order { Ascending (λ id. id) met.now }
     ensures { result ≡ list_all (λ (entry : EntryRow). is_one_of entry.identity met.now) entries.now }

@@ -1,4 +1,4 @@
-//! Which versions can a work begin on?
+//! On which versions can a work begin?
 
 ghost use Rattle.std.specs.Prelude.{◌≡◌, ◌++◌, ◌∷◌, ◌-◌, [], Some, drop, length, map, slice_get};
 ghost use Rattle.std.specs.Option.{option_copied};
@@ -10,7 +10,7 @@ use std::marker::Model;
 use std::mem;
 use version_book::Version;
 
-/// One more item behind these, of which the last 63 stay.
+/// Appends an item, and keeps only the last 63.
 fn push_last<T: Default + Drop>(items: &mut ArrayVec<T, 63>, item: T)
     ensures { items.new.items ≡ drop (length (items.old.items ++ item ∷ []) - 63) (items.old.items ++ item ∷ []) }
 {
@@ -20,7 +20,7 @@ fn push_last<T: Default + Drop>(items: &mut ArrayVec<T, 63>, item: T)
     items.push(item);
 }
 
-/// The version in the place of this index, where there is such a place.
+/// Returns the version in the slot with this index, if there is one.
 fn version_in(places: &[Option<Version>], index: usize) -> Option<&Version>
     requires held { places.now ≡ map Some (held places.now) }
     ensures { option_copied result ≡ slice_get (held places.now) index }
@@ -31,19 +31,19 @@ fn version_in(places: &[Option<Version>], index: usize) -> Option<&Version>
     }
 }
 
-/// The last versions of one history: the newest one, and up to 63 before it. A contract sees it as the record of the older
-/// versions, the oldest of them first, and the newest one.
+/// The last versions of one history: the newest one, and up to 63 before it. The model in contracts is a record of the older
+/// versions, oldest first, and the newest one.
 ///
-/// A work begins on a window: its batch reads the newest version, or for the page of an earlier book the version of that
-/// number, if it is still here. The numbers of the versions follow one another, so that a version is found by its number
-/// without a search.
+/// A work begins on a window. Its batch reads the newest version, or, if its page names an earlier book, the version with that
+/// number, if it is still here. The numbers of the versions are consecutive, so that a version is found by its number without a
+/// search.
 ///
-/// No call takes memory: the places of 64 versions lie in the window itself, and whoever moves it moves them all. A push
-/// moves the older versions by one place once there are 63 of them, and lets the oldest go; it copies none. A clone counts
-/// one more owner of each version, so that a window that is handed out stays as it is while its owner pushes.
+/// No call allocates memory: the window contains the slots for its versions, and moving it moves them all. Once there are 63
+/// older versions, a push shifts them by one slot and drops the oldest one; it copies none. A clone increments the reference
+/// count of each version, so that it stays the same while the owner of the original pushes.
 #[derive(Drop)]
 pub struct Window {
-    // no place is empty; a place that has no version yet needs a blank, and no version can be had without memory
+    // no slot in use is empty; `Option` supplies the default for the unused ones, because making a version allocates memory
     older: ArrayVec<Option<Version>, 63>,
     newest: Version,
 }
@@ -67,7 +67,7 @@ impl Window {
     ghost use Rattle.std.specs.Option.{option_copied};
     ghost use Rattle.batch_work.specs.Windows.{Counted, IsNext, pushed, version_at, versions};
 
-    /// The window with this version alone.
+    /// Makes the window with this version alone.
     pub fn of(version: Version) -> Window
         ensures { result ≡ record { older = []; newest = version } }
     {
@@ -77,14 +77,14 @@ impl Window {
         }
     }
 
-    /// The newest version.
+    /// Returns the newest version.
     pub fn newest(&self) -> &Version
         ensures { result.now ≡ self.now.newest }
     {
         &self.newest
     }
 
-    /// The version of this number, where it is among the last 64.
+    /// Returns the version with this number, if the window has it.
     pub fn book(&self, number: u64) -> Option<&Version>
         ensures found { option_copied result ≡ version_at number self.now }
         ensures earlier { IfSome result (λ version. (version.now.domain ≡ self.now.newest.domain) × (version.now.number ≤ self.now.newest.number)) }
@@ -94,14 +94,14 @@ impl Window {
         found
     }
 
-    /// Each version is the next one after the version before it.
+    /// Each version is the next one after the version before it. The function only brings this fact into a proof.
     fn know_history(&self)
         ensures { Counted (versions self.now) }
     {
         let _ = &self.newest;
     }
 
-    /// The version of this number, where it is among the last 64.
+    /// Returns the version with this number, if the window has it.
     fn find(&self, number: u64) -> Option<&Version>
         ensures { option_copied result ≡ version_at number self.now }
     {
@@ -121,8 +121,7 @@ impl Window {
         version_in(self.older.as_slice(), (count - back) as usize)
     }
 
-    /// Adds the next version, of the same server and with the number after that of the newest version, and lets go of the oldest
-    /// one where there are 64.
+    /// Adds the next version: that of the same trust domain with the next number. It drops the oldest one if there are 64.
     pub fn push(&mut self, version: Version)
         requires next { IsNext self.old.newest version }
         ensures { self.new ≡ pushed version self.old }
@@ -132,7 +131,7 @@ impl Window {
     }
 }
 
-/// A clone is one more owner of each version. The error is that no more owners can be counted.
+/// A clone shares the versions and increments the reference count of each. The error is a reference count at its maximum.
 impl Clone for Window {
     ghost is_clone = { λ original copy. copy ≡ original };
 

@@ -1,4 +1,4 @@
-//! How far is a batch, and what does its next read do?
+//! What is the state of a batch in execution, and what does its next read do?
 
 ghost use Rattle.std.specs.Prelude.{◌≡◌, ◌++◌, ◌∷◌, [], ◌+◌, ◌≤◌, IfOk, IfSome, Some, None, true, false, length, vec_capacity, vec_len};
 ghost use Rattle.version_book.specs.declared.mark.MarkKind.{MarkKind};
@@ -16,7 +16,7 @@ use std::marker::Model;
 use std::mem::replace;
 use version_book::{Changes, Mark, Version};
 
-/// One mark more, for which there is room.
+/// Appends a mark, for which there is room.
 fn push_reserved(marks: &mut Vec<Mark>, mark: Mark)
     requires room { vec_len marks.old + 1 ≤ vec_capacity marks.old }
     ensures { marks.new.items ≡ marks.old.items ++ mark ∷ [] }
@@ -26,8 +26,8 @@ fn push_reserved(marks: &mut Vec<Mark>, mark: Mark)
     };
 }
 
-/// Takes down a read that was made, and keeps its mark, for which there is room: the stage after it, and true. Where memory
-/// is refused the read is still to be taken down.
+/// Records a read that was made, and its mark, for which there is room. Returns the stage after it, and true. If memory runs
+/// out, it returns false, and the read is still to be recorded.
 fn taken(
     alloc: Global,
     begun: &Begun,
@@ -52,8 +52,8 @@ fn taken(
     }
 }
 
-/// Makes the next read of a work that runs, takes it down, and keeps its mark, for which there is room: the stage after it,
-/// and true. Where memory is refused the same read is to be made, or to be taken down.
+/// Makes the next read of a running work, and records it and its mark, for which there is room. Returns the stage after it, and
+/// true. If memory runs out, it returns false, and the same read is still to be made or to be recorded.
 fn stepped(
     alloc: Global,
     begun: &Begun,
@@ -75,17 +75,17 @@ fn stepped(
     }
 }
 
-/// Lets a stage go that has passed.
+/// Drops the previous stage.
 fn let_go(stage: Stage) {
     drop(stage);
 }
 
-/// A batch on its way: it begins on a window, makes one read with each step, through its own earlier changes, and then waits
-/// for its commit, or is settled. It touches nothing that is shared. A contract sees its batch, what it began on, and the
-/// number of reads made: all else follows from these.
+/// A batch in execution. It begins on a window and makes one read with each step, through its own earlier changes. Then it
+/// awaits its commit, or is settled. It changes no shared state. The model in contracts is its batch, what it began on, and the
+/// number of reads made; everything else follows from these.
 ///
-/// A step reads the rows of one mark, and costs what the version's `read_after` costs and the keeping of what it found; it copies
-/// no row and no text that it doesn't read. Where memory is refused the work is as it was, and the same step can be made again.
+/// A step reads the rows of one mark. It costs the version's `read_after`, and storing what it found; it copies no row and no
+/// text that it doesn't read. If memory runs out in a step, the work is unchanged, and the step can be repeated.
 #[derive(Drop)]
 pub struct Work {
     alloc: Global,
@@ -116,7 +116,7 @@ impl Work {
     ghost use Rattle.std.specs.Option.{option_copied};
     ghost use Rattle.batch_work.specs.Working.{HasReplies, HasWrites, IsAnswer, IsNextRead, MayBegin, base_in, marks_so_far, status_of};
 
-    /// A batch that is to begin. Takes no memory.
+    /// Makes a work that hasn't begun. Allocates no memory.
     pub fn new(alloc: Global, batch: Batch) -> Work
         ensures { result ≡ record { batch = batch; base = None; steps = 0 } }
     {
@@ -134,8 +134,8 @@ impl Work {
         }
     }
 
-    /// Begins on a window, whose trust domain the batch was made for. A batch that may not run yet is settled at once. The error
-    /// is out of memory, and nothing has changed then.
+    /// Begins on a window of the trust domain that the batch was made for, whose number is within the limit on commits. A batch
+    /// that may not run yet is settled immediately. The error is out of memory, and then nothing has changed.
     pub fn begin(&mut self, window: &Window) -> Result<(), AllocError>
         requires is_new { status_of self.old ≡ Status.New }
         requires fits { MayBegin self.old.batch window.now }
@@ -150,7 +150,7 @@ impl Work {
         Ok(())
     }
 
-    /// The mark of the read that the next step makes. The error is out of memory.
+    /// Returns the mark that the next step reads. The error is out of memory.
     pub fn next_mark(&self) -> Result<Mark, AllocError>
         requires running { status_of self.now ≡ Status.Running }
         ensures { IfOk result (IsNextRead self.now) }
@@ -161,8 +161,8 @@ impl Work {
         next_mark(begun, &self.batch, &self.course, &self.stage)
     }
 
-    /// Makes the next read; its mark is then the last of `marks`. After the last read of an operation its writes are seen by
-    /// the later ones. The error is out of memory, and nothing has changed then.
+    /// Makes the next read; its mark is then the last of `marks`. After the last read of an operation, later operations see its
+    /// writes. The error is out of memory, and then nothing has changed.
     pub fn step(&mut self) -> Result<(), AllocError>
         requires running { status_of self.old ≡ Status.Running }
         ensures stepped { OnOk result (self.new ≡ record self.old { steps = self.old.steps + 1 }) }
@@ -178,7 +178,7 @@ impl Work {
         if is_made { Ok(()) } else { Err(AllocError) }
     }
 
-    /// What the work waits for. Takes no memory.
+    /// Returns what the work waits for. Allocates no memory.
     pub fn status(&self) -> Status
         ensures { result ≡ status_of self.now }
     {
@@ -190,14 +190,14 @@ impl Work {
         }
     }
 
-    /// The batch.
+    /// Returns the batch.
     pub fn batch(&self) -> &Batch
         ensures { result.now ≡ self.now.batch }
     {
         &self.batch
     }
 
-    /// The newest version of the window on which it began, if it has begun.
+    /// Returns the newest version of the window on which it began, if it has begun.
     pub fn base(&self) -> Option<&Version>
         ensures { option_copied result ≡ option_map (λ base. base.newest) self.now.base }
     {
@@ -207,7 +207,7 @@ impl Work {
         }
     }
 
-    /// The marks read so far, in the order of the reads.
+    /// Returns the marks read so far, in the order of the reads.
     pub fn marks(&self) -> &[Mark]
         ensures marks { result.now ≡ marks_so_far self.now }
         ensures steps { length result.now ≡ self.now.steps }
@@ -215,14 +215,15 @@ impl Work {
         self.course.marks.as_slice()
     }
 
-    /// The writes of the operations, in order, where the work is ready; before that no contract tells them.
+    /// Returns the writes of the batch, in order, if the work is ready: those of its operations, then that of its token, with
+    /// the place 0. Otherwise the contract says nothing about the result.
     pub fn changes(&self) -> &Changes
         ensures { status_of self.now ≡ Status.Ready → HasWrites self.now result.now }
     {
         &self.course.changes
     }
 
-    /// The replies to the operations, where the work is ready.
+    /// Returns the replies to the operations, if the work is ready.
     pub fn replies(&self) -> Option<&Shared<Sequence<OpReply>>>
         ensures ready { IsSome result ↔ (status_of self.now ≡ Status.Ready) }
         ensures replies { IfSome result (λ replies. HasReplies self.now replies.now) }
@@ -233,7 +234,7 @@ impl Work {
         }
     }
 
-    /// The reply to the batch, where the work is settled.
+    /// Returns the reply to the batch, if the work is settled.
     pub fn reply(&self) -> Option<&Reply>
         ensures settled { IsSome result ↔ (status_of self.now ≡ Status.Settled) }
         ensures answer { IfSome result (λ reply. IsAnswer self.now reply.now) }
@@ -244,7 +245,7 @@ impl Work {
         }
     }
 
-    /// The batch, to keep; the versions and all else are let go.
+    /// Returns the batch by value, and drops the versions and everything else.
     pub fn into_batch(self) -> Batch
         ensures { result ≡ self.batch }
     {
@@ -261,7 +262,7 @@ impl Work {
         batch
     }
 
-    /// The reply to the batch, where the work is settled, to keep; the versions and all else are let go.
+    /// Returns the reply to the batch by value, if the work is settled, and drops the versions and everything else.
     pub fn into_reply(self) -> Option<Reply>
         ensures settled { IsSome result ↔ (status_of self ≡ Status.Settled) }
         ensures answer { IfSome result (λ reply. IsAnswer self reply) }

@@ -11,7 +11,8 @@ use entry_book::{Agent, OpRefusal, OpReply, both};
 use std::alloc::{AllocError, Global};
 use version_book::Changes;
 
-/// The children of the server are read next. The error is that no more owners can be counted.
+/// The next read is that of the server's children. The operation is refused if there is no agent. The error is a reference
+/// count at its maximum.
 pub(crate) fn asked_next(asked: Asked, agents: &[Agent]) -> Result<Next, AllocError>
     ensures { IfOk result (λ next. next ≡ for_agent_next (first agents.now) (λ a. Next.Goes (Phase.Server asked a))) }
 {
@@ -21,7 +22,7 @@ pub(crate) fn asked_next(asked: Asked, agents: &[Agent]) -> Result<Next, AllocEr
     }
 }
 
-/// The one write of this agent's row, from the old one to the new one, where there are such. The error is out of memory.
+/// Returns the write of this agent's row, from the old row to the new one; either may be absent. The error is out of memory.
 fn agent_put(
     alloc: Global,
     agent: &Agent,
@@ -37,7 +38,7 @@ fn agent_put(
     Ok(changes)
 }
 
-/// The agent is put in the place of the one that was read. The error is out of memory.
+/// The operation ends with the agent in place of the one that was read. The error is out of memory.
 pub(crate) fn set_agent_next(
     alloc: Global,
     agent: &Agent,
@@ -53,7 +54,7 @@ pub(crate) fn set_agent_next(
     Ok(Next::Ends(OpReply::Agent(reply), changes))
 }
 
-/// The agent is removed. The error is out of memory.
+/// The operation ends with the removal of the agent. It is refused if there is none. The error is out of memory.
 pub(crate) fn drop_agent_next(alloc: Global, agents: &[Agent]) -> Result<Next, AllocError>
     ensures { IfOk result (λ next. next ≡ for_agent_next (first agents.now)
         (λ a. Next.Ends (OpReply.Agent a) (agent_gone a ∷ []))) }

@@ -1,4 +1,4 @@
-//! What comes after a read on the way to an agent's authorised entries, and to their bundles?
+//! What comes after a read for an agent's authorised entries, and for their bundles?
 
 ghost use Rattle.std.specs.Prelude.{◌≡◌, ◌<◌, ◌+◌, ◌^◌, ◌++◌, [], true, false, filter, slice_get, IfErr, IfOk, IfSome};
 ghost use Rattle.entry_book.specs.Authorised.{holds};
@@ -14,8 +14,8 @@ use entry_book::{Agent, Bundle, Entry, OpReply, Sequence, Shared};
 use spiffe_name::{SpiffeId, TrustDomain};
 use std::alloc::{AllocError, Global};
 
-/// The agent's own children are read next; the walk begins with the aliases that the agent holds. The error is want of
-/// memory.
+/// The walk begins with the aliases that the agent holds. The next read is that of the agent's own children. The error is out
+/// of memory.
 pub(crate) fn held_next(
     alloc: Global,
     server: &SpiffeId,
@@ -31,7 +31,7 @@ pub(crate) fn held_next(
     Ok(Next::Goes(Phase::Own(asked, walk)))
 }
 
-/// After the read of the agent's own children. The error is out of memory, and gives the phase back as it was.
+/// Returns what follows from the read of the agent's own children. If memory runs out, the error is the phase, unchanged.
 pub(crate) fn own_next(
     alloc: Global,
     asked: Asked,
@@ -47,7 +47,7 @@ pub(crate) fn own_next(
     }
 }
 
-/// After the read of the children of an identity. The error is out of memory, and gives the phase back as it was.
+/// Returns what follows from the read of the children of an identity. If memory runs out, the error is the phase, unchanged.
 pub(crate) fn identity_next(
     alloc: Global,
     asked: Asked,
@@ -64,8 +64,8 @@ pub(crate) fn identity_next(
     }
 }
 
-/// The children of the least identity that waits are read next, once the walk has taken in the entries of a read; where
-/// none waits it is over. The error is out of memory, and gives the walk back as it was.
+/// Adds the entries of a read to the walk. The next read is that of the children of the least pending identity; if none is
+/// pending, the walk is over. If memory runs out, the error is the walk, unchanged.
 fn walk_next(alloc: Global, asked: Asked, walk: Walk, entries: Vec<Entry>) -> Result<Next, Walk>
     ensures next { IfOk result (λ next. next ≡ walk_next asked (walked entries.items walk)) }
     ensures back { IfErr result (λ back. back ≡ walk) }
@@ -84,8 +84,8 @@ fn walk_next(alloc: Global, asked: Asked, walk: Walk, entries: Vec<Entry>) -> Re
     }
 }
 
-/// The walk of `authorised` goes on, or ends with the entries found. The error is out of memory, and gives the walk back
-/// as it was.
+/// Continues the walk of `authorised`, or ends the operation with the entries found. If memory runs out, the error is the walk,
+/// unchanged.
 fn entries_next(alloc: Global, walk: Walk, entries: Vec<Entry>) -> Result<Next, Walk>
     ensures next { IfOk result (λ next. next ≡ walk_next Asked.Entries (walked entries.items walk)) }
     ensures back { IfErr result (λ back. back ≡ walk) }
@@ -103,7 +103,7 @@ fn entries_next(alloc: Global, walk: Walk, entries: Vec<Entry>) -> Result<Next, 
     }
 }
 
-/// The walk of `trust` goes on. The error is out of memory, and gives the walk back as it was.
+/// Continues the walk of `trust`, which these entries don't complete. If memory runs out, the error is the walk, unchanged.
 fn bundles_walk(alloc: Global, walk: Walk, entries: Vec<Entry>) -> Result<Next, Walk>
     requires goes_on { is_over (walked entries.items walk) ≡ false }
     ensures next { IfOk result (λ next. next ≡ walk_next Asked.Bundles (walked entries.items walk)) }
@@ -119,8 +119,9 @@ fn bundles_walk(alloc: Global, walk: Walk, entries: Vec<Entry>) -> Result<Next, 
     Ok(Next::Goes(Phase::Identity(Asked::Bundles, walk, least)))
 }
 
-/// The walk of `trust` is over with these entries: the bundle of the first domain that an entry found names is read next.
-/// The walk stays as it is, so that the step can be made again. The error is out of memory.
+/// Completes the walk of `trust` with these entries. The next read is the bundle of the first domain that an entry found names;
+/// if there is none, the operation ends. The given walk is unchanged, so that the step can be repeated. The error is out of
+/// memory.
 fn bundles_end(alloc: Global, walk: &Walk, entries: Vec<Entry>) -> Result<Next, AllocError>
     requires over { is_over (walked entries.items walk.now) ≡ true }
     ensures { IfOk result (λ next. next ≡ walk_next Asked.Bundles (walked entries.items walk.now)) }
@@ -132,7 +133,7 @@ fn bundles_end(alloc: Global, walk: &Walk, entries: Vec<Entry>) -> Result<Next, 
     Ok(trusted_next(alloc, next, domains, 0, Sequence::empty(alloc)))
 }
 
-/// The domain at the index, where there is one. The error is that no more owners can be counted.
+/// Returns the domain at the index, if there is one. The error is a reference count at its maximum.
 fn domain_at(
     domains: &Sequence<Shared<TrustDomain>>,
     index: usize,
@@ -146,7 +147,7 @@ fn domain_at(
     }
 }
 
-/// The bundles that were found, and that of the read. The error is out of memory, and gives back those that were found.
+/// Returns the bundles found, followed by those that were read. If memory runs out, the error is the bundles found, unchanged.
 fn with_read(
     found: Sequence<Bundle>,
     read: Vec<Bundle>,
@@ -162,8 +163,8 @@ fn with_read(
     }
 }
 
-/// The bundle of the domain at the index is read next, or where there is none the bundles found are the answer. Takes no
-/// memory.
+/// The next read is the bundle of the domain at the index; if there is none, the operation ends with the bundles found.
+/// Allocates no memory.
 fn trusted_next(
     alloc: Global,
     next: Option<Shared<TrustDomain>>,
@@ -180,8 +181,8 @@ fn trusted_next(
     }
 }
 
-/// After the read of the bundle of a domain that authorised entries name: the one of the domain at the index is next. The
-/// error is out of memory, and gives the phase back as it was.
+/// Returns what follows from the read of the bundle of a domain that authorised entries name; `index` is that of the next
+/// domain. If memory runs out, the error is the phase, unchanged.
 pub(crate) fn trusted_turn(
     alloc: Global,
     domain: Shared<TrustDomain>,

@@ -15,7 +15,7 @@ use spiffe_name::TrustDomain;
 use std::alloc::{AllocError, Global};
 use version_book::Changes;
 
-/// The sequence after that of the bundle that was read, or the first one.
+/// Returns the sequence after that of the bundle that was read, or 0 if there was none.
 fn next_sequence(bundles: &[Bundle]) -> u64
     requires counts { (bundle : BundleRow) → Within bundles.now bundle → bundle.sequence ≤ 2 ^ 63 }
     ensures { result ≡ next_sequence (first bundles.now) }
@@ -26,7 +26,7 @@ fn next_sequence(bundles: &[Bundle]) -> u64
     }
 }
 
-/// The bundle is put in the place of the one that was read. The error is out of memory.
+/// The operation ends with the bundle in place of the one that was read. The error is out of memory.
 pub(crate) fn set_bundle_next(
     alloc: Global,
     domain: &Shared<TrustDomain>,
@@ -47,7 +47,8 @@ pub(crate) fn set_bundle_next(
     Ok(Next::Ends(reply, changes))
 }
 
-/// The users of the bundle are read next. The error is that no more owners can be counted.
+/// The next read is that of the bundle's users. The operation is refused if there is no bundle. The error is a reference count
+/// at its maximum.
 pub(crate) fn drop_next(
     domain: &Shared<TrustDomain>,
     mode: DropMode,
@@ -61,7 +62,7 @@ pub(crate) fn drop_next(
     }
 }
 
-/// Each of these entries without the domain. The error is out of memory.
+/// Returns a write of each of these entries without the domain. The error is out of memory.
 fn freed(alloc: Global, entries: &[Entry], domain: &TrustDomain) -> Result<Changes, AllocError>
     requires counts { (entry : EntryRow) → Within entries.now entry → entry.revision ≤ 2 ^ 63 }
     ensures { IfOk result (λ changes. changes ≡ map (freed domain.now) entries.now) }
@@ -74,7 +75,7 @@ fn freed(alloc: Global, entries: &[Entry], domain: &TrustDomain) -> Result<Chang
     Ok(changes)
 }
 
-/// The bundle is removed too. The error is out of memory.
+/// Returns the changes followed by the removal of the bundle. The error is out of memory.
 fn and_bundle(changes: Changes, bundle: &Bundle) -> Result<Changes, AllocError>
     ensures { IfOk result (λ all. all ≡ changes ++ bundle_removed bundle.now ∷ []) }
 {
@@ -85,7 +86,8 @@ fn and_bundle(changes: Changes, bundle: &Bundle) -> Result<Changes, AllocError>
     Ok(changes)
 }
 
-/// The bundle is removed, and what becomes of its users follows the mode. The error is out of memory.
+/// The operation ends with the removal of the bundle. The mode decides what happens to its users, or that the operation is
+/// refused if there are any. The error is out of memory.
 pub(crate) fn users_next(
     alloc: Global,
     mode: DropMode,

@@ -15,7 +15,8 @@ use std::alloc::{AllocError, Global};
 use uuid::Uuid;
 use version_book::{Changes, RowsRead};
 
-/// The group of the new entry is read next, where its id is free. The error is that no more owners can be counted.
+/// The next read is the group of the new entry. The operation is refused if its id is in use. The error is a reference count at
+/// its maximum.
 pub(crate) fn create_next(new: &Shared<NewEntry>, entries: &[Entry]) -> Result<Next, AllocError>
     ensures { IfOk result (λ next. next ≡ create_next (first entries.now) new.now) }
 {
@@ -25,8 +26,8 @@ pub(crate) fn create_next(new: &Shared<NewEntry>, entries: &[Entry]) -> Result<N
     }
 }
 
-/// The group of the new entry is read next, where the old one is at the revision that is expected. The error is that no
-/// more owners can be counted.
+/// The next read is the group of the new entry. The operation is refused if there is no old entry, or it isn't at the expected
+/// revision. The error is a reference count at its maximum.
 pub(crate) fn update_next(
     new: &Shared<NewEntry>,
     expected: Option<u64>,
@@ -47,7 +48,8 @@ pub(crate) fn update_next(
     }
 }
 
-/// The entry is removed, where it is at the revision that is expected. The error is out of memory.
+/// The operation ends with the removal of the entry. It is refused if there is none, or it isn't at the expected revision. The
+/// error is out of memory.
 pub(crate) fn delete_next(
     alloc: Global,
     expected: Option<u64>,
@@ -68,8 +70,8 @@ pub(crate) fn delete_next(
     }
 }
 
-/// The bundle of the entry's first domain is read next, where no entry of the group is similar. The error is want of
-/// memory.
+/// The next read is the bundle of the entry's first domain; if there is none, the operation ends with the entry put. It is
+/// refused if an entry of the group is similar. The error is out of memory.
 pub(crate) fn beside_next(
     alloc: Global,
     old: &Option<Entry>,
@@ -84,8 +86,8 @@ pub(crate) fn beside_next(
     }
 }
 
-/// The bundle of the domain at the index is read next, where there is one of the domain before it. The error is want of
-/// memory.
+/// The next read is the bundle of the domain at the index; if there is none, the operation ends with the entry put. It is
+/// refused if the domain before it has no bundle. The error is out of memory.
 pub(crate) fn bundle_next(
     alloc: Global,
     old: &Option<Entry>,
@@ -102,8 +104,8 @@ pub(crate) fn bundle_next(
     }
 }
 
-/// The bundle of the domain at the index is read next, or where there is none the entry is put. The error is want of
-/// memory.
+/// The next read is the bundle of the domain at the index; if there is none, the operation ends with the entry put. The error
+/// is out of memory.
 fn bundles_next(
     alloc: Global,
     old: &Option<Entry>,
@@ -126,7 +128,7 @@ fn bundles_next(
     }
 }
 
-/// The entry is put in the place of the old one. The error is out of memory.
+/// Returns the write of the entry in place of the old one. The error is out of memory.
 fn entry_put(alloc: Global, old: &Option<Entry>, entry: &Entry) -> Result<Changes, AllocError>
     ensures { IfOk result (λ changes. changes ≡ put old.now entry.now ∷ []) }
 {
@@ -137,7 +139,7 @@ fn entry_put(alloc: Global, old: &Option<Entry>, entry: &Entry) -> Result<Change
     Ok(changes)
 }
 
-/// The page of the entries that were read. The error is out of memory.
+/// The operation ends with the page of the entries that were read. The error is out of memory.
 pub(crate) fn page_next(
     alloc: Global,
     query: &PageQuery,
@@ -151,7 +153,7 @@ pub(crate) fn page_next(
     Ok(Next::Ends(reply, Changes::new(alloc)))
 }
 
-/// These entries are removed. The error is out of memory.
+/// The operation ends with the removal of these entries. The error is out of memory.
 pub(crate) fn prune_next(alloc: Global, entries: &[Entry]) -> Result<Next, AllocError>
     ensures { IfOk result (λ next. next ≡ Next.Ends (OpReply.Pruned (map entry_key entries.now)) (map removed entries.now)) }
 {
@@ -159,7 +161,7 @@ pub(crate) fn prune_next(alloc: Global, entries: &[Entry]) -> Result<Next, Alloc
     Ok(Next::Ends(reply, removed(alloc, entries)?))
 }
 
-/// The ids of these entries. The error is out of memory.
+/// Returns the ids of these entries. The error is out of memory.
 pub(crate) fn ids_of(alloc: Global, entries: &[Entry]) -> Result<Sequence<Uuid>, AllocError>
     ensures { IfOk result (λ ids. ids ≡ map entry_key entries.now) }
 {
@@ -170,7 +172,7 @@ pub(crate) fn ids_of(alloc: Global, entries: &[Entry]) -> Result<Sequence<Uuid>,
     Ok(Sequence::of(ids))
 }
 
-/// Each of these entries removed. The error is out of memory.
+/// Returns the removal of each of these entries. The error is out of memory.
 pub(crate) fn removed(alloc: Global, entries: &[Entry]) -> Result<Changes, AllocError>
     ensures { IfOk result (λ changes. changes ≡ map removed entries.now) }
 {

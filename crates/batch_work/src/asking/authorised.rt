@@ -1,4 +1,4 @@
-//! Finds the entries that an agent may hand out, and the bundles that go with them, in one pass.
+//! Finds an agent's authorised entries, and the bundles of the domains that they name, in one pass.
 
 ghost use Rattle.std.specs.Prelude.{◌≡◌, ◌++◌, [], IfOk, OnOk, filter, option_to_list};
 ghost use Rattle.std.specs.Option.{option_copied};
@@ -20,7 +20,7 @@ use spiffe_name::{SpiffeId, TrustDomain};
 use std::alloc::{AllocError, Global};
 use version_book::{Lent, Version};
 
-/// The entries among these that are aliases which the agent holds. The error is out of memory.
+/// Returns the aliases among these entries that the agent holds. The error is out of memory.
 fn held_of<'a>(
     alloc: Global,
     server: &SpiffeId,
@@ -38,7 +38,7 @@ fn held_of<'a>(
     Ok(held)
 }
 
-/// The aliases that the agent holds. The error is out of memory.
+/// Returns the aliases that the agent holds. The error is out of memory.
 fn held_aliases<'a>(
     alloc: Global,
     version: &'a Version,
@@ -52,8 +52,8 @@ fn held_aliases<'a>(
     held_of(alloc, server.get(), agent, aliases)
 }
 
-/// The walk before its first identity: the aliases that the agent holds and its own children are found. The error is want of
-/// memory.
+/// Begins the walk: it has found the aliases that the agent holds and the agent's own children. The next read is that of its
+/// first identity. The error is out of memory.
 fn begun<'a>(
     alloc: Global,
     version: &'a Version,
@@ -67,7 +67,7 @@ fn begun<'a>(
     Ok(walk)
 }
 
-/// Takes in the children of an identity. The error is out of memory.
+/// Adds the children of an identity to the walk. The error is out of memory.
 fn read_children<'a>(
     version: &'a Version,
     walk: &mut LentWalk<'a>,
@@ -78,7 +78,7 @@ fn read_children<'a>(
     walk.goes_on(version.children(identity)?)
 }
 
-/// Reads on until no identity waits. The error is out of memory.
+/// Completes a walk that has just begun: reads until no identity is pending. The error is out of memory.
 fn to_end<'a>(
     version: &'a Version,
     agent: &Agent,
@@ -98,7 +98,7 @@ fn to_end<'a>(
     Ok(())
 }
 
-/// The entries that the agent may hand out. The error is out of memory.
+/// Returns the agent's authorised entries. The error is out of memory.
 fn authorised_of<'a>(
     alloc: Global,
     version: &'a Version,
@@ -111,7 +111,7 @@ fn authorised_of<'a>(
     Ok(walk.into_found())
 }
 
-/// Puts the bundle, where there is one, behind those found. The error is out of memory.
+/// Appends the bundle, if there is one, to those found. The error is out of memory.
 fn push_bundle<'a>(
     found: &mut Vec<Lent<'a, Bundle>>,
     bundle: Option<&'a Bundle>,
@@ -124,7 +124,7 @@ fn push_bundle<'a>(
     Ok(())
 }
 
-/// Puts these domains' bundles behind those found. The error is out of memory.
+/// Appends the bundles of these domains to those found. The error is out of memory.
 fn push_bundles<'a>(
     version: &'a Version,
     domains: &[Shared<TrustDomain>],
@@ -139,7 +139,7 @@ fn push_bundles<'a>(
     Ok(())
 }
 
-/// The bundles that go with these entries. The error is out of memory.
+/// Returns the bundles of the domains that these entries name. The error is out of memory.
 fn bundles_of<'a>(
     alloc: Global,
     version: &'a Version,
@@ -154,7 +154,8 @@ fn bundles_of<'a>(
     Ok(found)
 }
 
-/// What the question for an agent's authorised entries is replied, or that the agent isn't there. The error is out of memory.
+/// Returns the reply to a query for an agent's authorised entries, or the refusal that there is no such agent. The error is out
+/// of memory.
 pub(crate) fn authorised_reply<'a>(
     alloc: Global,
     version: &'a Version,
@@ -171,8 +172,8 @@ pub(crate) fn authorised_reply<'a>(
     Ok(Ok(LentOpReply::of(rows)))
 }
 
-/// What the question for the bundles of an agent's authorised entries is replied, or that the agent isn't there. The error is
-/// out of memory.
+/// Returns the reply to a query for the bundles of an agent's authorised entries, or the refusal that there is no such agent.
+/// The error is out of memory.
 pub(crate) fn trust_reply<'a>(
     alloc: Global,
     version: &'a Version,

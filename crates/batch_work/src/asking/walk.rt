@@ -1,4 +1,4 @@
-//! How far has the walk to an agent's authorised entries come, over entries that are borrowed from a version?
+//! What is the state of the walk to an agent's authorised entries, over entries that are borrowed from a version?
 
 ghost use Rattle.std.specs.Prelude.{◌≡◌, OnOk};
 ghost use Rattle.entry_book.specs.Order.{Ascending};
@@ -12,19 +12,20 @@ use std::alloc::{AllocError, Global};
 use std::marker::Model;
 use version_book::Lent;
 
-/// The number of entries and identities for which there is room from the start. Most agents have no more.
+/// The number of entries and identities for which room is reserved at the start. Most agents have no more.
 const FEW: usize = 16;
 
 /// An identity of a borrowed entry.
 type LentId<'a> = Lent<'a, Shared<SpiffeId>>;
 
-/// The walk of a read-only batch. It is as that of a work, but borrows all of its rows, and so changes no reference count.
+/// The walk of a read-only batch. It has the same states as that of a work, but borrows all of its rows, and so changes no
+/// reference count.
 #[derive(Drop)]
 pub(crate) struct LentWalk<'a> {
     agent: &'a Agent,
-    /// The identities met, the agent's own ID among them, in order.
+    /// The identities met, including the agent's own ID, in order.
     met: Vec<LentId<'a>>,
-    /// Those of them whose children are still to be read, in order.
+    /// Those of them that are pending: their children are still to be read. They are in order.
     waiting: Vec<LentId<'a>>,
     /// The entries found, in the order of their ids.
     found: Vec<Lent<'a, Entry>>,
@@ -54,7 +55,7 @@ impl<'a> LentWalk<'a> {
     ghost use Rattle.std.specs.Prelude.{◌≡◌, [], ◌∷◌, IfOk, IfNone, IfSome, OnOk};
     ghost use Rattle.batch_work.specs.WalkStates.{first_walk, walked, with_found};
 
-    /// The walk before its first entry. The error is out of memory.
+    /// Makes the walk before its first entry. The error is out of memory.
     pub(crate) fn new(alloc: Global, agent: &'a Agent) -> Result<LentWalk<'a>, AllocError>
         ensures { IfOk result (λ walk. walk ≡ first_walk agent.now) }
     {
@@ -68,7 +69,7 @@ impl<'a> LentWalk<'a> {
         })
     }
 
-    /// Takes in an entry. The error is out of memory.
+    /// Adds an entry. The error is out of memory; then nothing is guaranteed about the sets.
     fn takes_in(&mut self, entry: Lent<'a, Entry>) -> Result<(), AllocError>
         ensures { OnOk result (self.new ≡ with_found entry.entry self.old) }
     {
@@ -77,7 +78,7 @@ impl<'a> LentWalk<'a> {
         Ok(())
     }
 
-    /// Takes in the entries of a read, one after another. The error is out of memory.
+    /// Adds the entries of a read, one after another. The error is out of memory; then nothing is guaranteed about the sets.
     pub(crate) fn goes_on(&mut self, entries: Vec<Lent<'a, Entry>>) -> Result<(), AllocError>
         ensures { OnOk result (self.new ≡ walked entries.entry.items self.old) }
     {
@@ -87,7 +88,7 @@ impl<'a> LentWalk<'a> {
         Ok(())
     }
 
-    /// The least identity that waits, which doesn't wait any more. Takes no memory.
+    /// Removes and returns the least pending identity, if there is one. Allocates no memory.
     pub(crate) fn take_least(&mut self) -> Option<LentId<'a>>
         ensures none { IfNone result ((self.old.waiting ≡ []) × (self.new ≡ self.old)) }
         ensures some { IfSome result (λ least.
@@ -100,7 +101,7 @@ impl<'a> LentWalk<'a> {
         Some(self.waiting.remove(0))
     }
 
-    /// The entries found, in the order of their ids. Takes no memory.
+    /// Returns the entries found, in the order of their ids. Allocates no memory.
     pub(crate) fn into_found(self) -> Vec<Lent<'a, Entry>>
         ensures { result.items ≡ self.entry.found }
     {
@@ -108,7 +109,7 @@ impl<'a> LentWalk<'a> {
     }
 }
 
-/// Puts the identity, where it wasn't met yet, among those met and those that wait. The error is out of memory.
+/// Adds the identity to those met and to the pending ones, if it wasn't met yet. The error is out of memory.
 fn put_met<'a>(
     met: &mut Vec<LentId<'a>>,
     waiting: &mut Vec<LentId<'a>>,

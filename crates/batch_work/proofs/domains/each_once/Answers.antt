@@ -25,7 +25,7 @@ unfolding IsStrictlySortedBy
 in_order [] h = tt
 in_order (x ∷ xs) h = (all_before x xs h.0, in_order xs h.1)
 
--- the set of a list of texts, in the words of each crate
+-- the set of a list of texts, as each of the two crates defines it
 same_set : (xs : List Bytes) → domain_set xs ≡ text_set xs
 same_set [] = refl
 same_set (x ∷ xs) = ap (with_row (λ t. t) x (Some x)) (same_set xs)

@@ -34,7 +34,7 @@ returns-in-Ok-clause-order g c =
     let place = subst (λ l. IsPlace key l k (Ok c.in-Ok.index)) c.as_slice.ensures.value c.in-Ok.ensures in
     subst (Ascending key) (sym (put_at key k items c.in-Ok.index c.args.item place)) (ascending-with_row key k (Some c.args.item) items c.requires.order refl)
 
--- none is, and it is put in its place
+-- no item has its key, and it is inserted at its index
 
 pub returns-in_ok-insert-in-Err-clause-is_new : goal.returns-in_ok-insert-in-Err-clause-is_new
 returns-in_ok-insert-in-Err-clause-is_new g c =

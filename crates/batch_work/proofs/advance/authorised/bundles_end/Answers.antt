@@ -6,7 +6,7 @@ use Rattle.batch_work.specs.Steps.{identity_next, next_trusted, trusted_next}
 use Rattle.batch_work.specs.WalkStates.{WalkState, is_empty, walked}
 use Rattle.batch_work.proofs.advance.authorised.bundles_end.Goals as goal
 
--- a walk in which none waits is over
+-- a walk without a pending identity is over
 over : (is : List Bytes) (w : WalkState) → is_empty is ≡ true → identity_next is asked.Bundles w ≡ trusted_next (domains_of w.found) 0 []
 over [] w h = refl
 over (i ∷ is) w h = cc
