@@ -10,101 +10,123 @@ use Rattle.call_answers.specs.declared.answer.Done.TheVariants.{Decided}
 use Rattle.call_events.specs.declared.event.EventRefusal.{EventRefusal}
 use Rattle.call_events.specs.declared.event.EventRefusal.TheVariants.{NotNow, UnknownCall}
 use Rattle.call_machine.specs.declared.slot.Slot.{Slot}
-use Rattle.call_machine.specs.Calls.{Call, Stage, State, call_at, with_call}
+use Rattle.call_machine.specs.Calls.{Call, Stage, State, call_at, moved, with_call}
 use Rattle.call_machine.specs.Machine.{Commits, refusal_at}
 use Rattle.call_machine.specs.Kept.{AllRest, GoesOn, Holds, IsOver, IsRefusalOr, SlotDecides, SlotRefuses, SlotRests, all_events, call_kept, calls_kept, domain_of, slot_events, stage_of_slot, state_of}
 use Rattle.call_machine.proofs.Counts.{counted_set, events_more, few_set}
 use Rattle.call_machine.proofs.Heads.{stayed}
-use Rattle.call_machine.proofs.Slots.{all_rest_more, ended_rests, lookup_call, rest_set, set_call, set_same}
+use Rattle.call_machine.proofs.Slots.{all_rest_more, ended_rests, lookup_call, rest_set, rests_at, set_call, set_same}
 
 -- ---- a call is found, or isn't
 
-module _ (h : Head) (count : ℕ) (es : List (ℕ × Slot)) (s : State) (view : state_of h count es ≡ s) (n : ℕ) where
-  pub found_at : (slot : Slot) → lookup (nat_eq n) es ≡ Some slot → call_at n s.calls ≡ Some (call_kept n slot)
-  found_at slot e = sym (ap (λ (s : State). call_at n s.calls) view) ∙ (lookup_call n es ∙ ap (option_map (call_kept n)) e)
+module _ {h : Head} {count : ℕ} {es : List (ℕ × Slot)} (n : ℕ) (holds : Holds h count es) where
+  pub call_found : {slot : Slot} → lookup (nat_eq n) es ≡ Some slot → call_at n (calls_kept es) ≡ Some (call_kept n slot)
+  call_found found = lookup_call n es ∙ ap (option_map (call_kept n)) found
 
-  pub missing_at : lookup (nat_eq n) es ≡ None → call_at n s.calls ≡ None
-  missing_at e = sym (ap (λ (s : State). call_at n s.calls) view) ∙ (lookup_call n es ∙ ap (option_map (call_kept n)) e)
+  pub call_missing : lookup (nat_eq n) es ≡ None → call_at n (calls_kept es) ≡ None
+  call_missing missing = lookup_call n es ∙ ap (option_map (call_kept n)) missing
 
-  pub refused_unknown : (in_turn : Call → Bool) → lookup (nat_eq n) es ≡ None → refusal_at (call_at n s.calls) in_turn ≡ Some UnknownCall
-  refused_unknown in_turn e = ap (λ o. refusal_at o in_turn) (missing_at e)
+  pub rests_found : {slot : Slot} → lookup (nat_eq n) es ≡ Some slot → SlotRests (domain_of h) h.kept slot
+  rests_found {slot} found = rests_at (domain_of h) h.kept n es slot holds.rest found
 
-  pub refused_slot : (in_turn : Call → Bool) (slot : Slot) (r : EventRefusal) → lookup (nat_eq n) es ≡ Some slot → SlotRefuses (in_turn (call_kept n slot)) r → IsRefusalOr (refusal_at (call_at n s.calls) in_turn) r
-  refused_slot in_turn slot r e refuses = ⊎_elim
-      (λ q. inl (ap (λ o. refusal_at o in_turn) (found_at slot e) ∙ (ap (λ b. if b then None else Some NotNow) q.1 ∙ ap Some (sym q.0))))
-      (λ q. inr (ap (λ o. refusal_at o in_turn) (found_at slot e) ∙ ap (λ b. if b then None else Some NotNow) q.1, q.0))
+-- the refusal that is due for an event of this call
+module _ {h : Head} {count : ℕ} {es : List (ℕ × Slot)} {s : State} (n : ℕ) (in_turn : Call → Bool) (holds : Holds h count es) (view : state_of h count es ≡ s) where
+  due_at : (o : Option Call) → call_at n (calls_kept es) ≡ o → refusal_at (call_at n s.calls) in_turn ≡ refusal_at o in_turn
+  due_at o e = ap (λ o. refusal_at o in_turn) (sym (ap (λ (s : State). call_at n s.calls) view) ∙ e)
+
+  pub refused_unknown : lookup (nat_eq n) es ≡ None → refusal_at (call_at n s.calls) in_turn ≡ Some UnknownCall
+  refused_unknown missing = due_at None (call_missing n holds missing)
+
+  pub refused_slot : {slot : Slot} {r : EventRefusal} → lookup (nat_eq n) es ≡ Some slot → SlotRefuses (in_turn (call_kept n slot)) r → IsRefusalOr (refusal_at (call_at n s.calls) in_turn) r
+  refused_slot {slot} found refuses =
+      let due = due_at (Some (call_kept n slot)) (call_found n holds found) in
+      ⊎_elim
+      (λ q. inl (due ∙ (ap (λ b. if b then None else Some NotNow) q.1 ∙ ap Some (sym q.0))))
+      (λ q. inr (due ∙ ap (λ b. if b then None else Some NotNow) q.1, q.0))
       refuses
 
--- ---- nothing has changed
+-- ---- the head stays
 
-pub unchanged : (n : ℕ) (es entries : List (ℕ × Slot)) (slot later : Slot) → lookup (nat_eq n) es ≡ Some slot → entries ≡ set_value (nat_eq n) es later → later ≡ slot → entries ≡ es
-unchanged n es entries slot later found changed same = changed ∙ (ap (set_value (nat_eq n) es) same ∙ set_same n slot es found)
-
-pub holds_stays : (old new : Head) (count : ℕ) (es : List (ℕ × Slot)) → Holds old count es → Stays old new → Holds new count es
-holds_stays old new count es h s = record {
+pub holds_stays : {old new : Head} {count : ℕ} {es : List (ℕ × Slot)} → Holds old count es → Stays old new → Holds new count es
+holds_stays {old} {new} {count} {es} h s = record {
   whole = (stayed old new h.whole s).whole;
   rest = subst (λ l. AllRest (domain_of new) l es) (sym s.kept) (subst (λ w. AllRest w.newest.domain old.kept es) (sym s.window) h.rest);
   few = h.few;
   counted = h.counted;
 }
 
-pub state_stays : (old new : Head) (count : ℕ) (es : List (ℕ × Slot)) → Stays old new → state_of new count es ≡ state_of old count es
-state_stays old new count es s = λ i. record { domain = (s.window i).newest.domain; journal = batches_of (s.kept i); count = count; calls = calls_kept es }
+pub state_stays : {old new : Head} (count : ℕ) (es : List (ℕ × Slot)) → Stays old new → state_of new count es ≡ state_of old count es
+state_stays count es s = λ i. record { domain = (s.window i).newest.domain; journal = batches_of (s.kept i); count = count; calls = calls_kept es }
 
--- ---- one call has changed
+-- ---- the call that is found has another slot
 
-pub holds_set : (h : Head) (count n : ℕ) (es entries : List (ℕ × Slot)) (slot later : Slot) → Holds h count es → lookup (nat_eq n) es ≡ Some slot → entries ≡ set_value (nat_eq n) es later → SlotRests (domain_of h) h.kept later → slot_events slot + 1 ≤ slot_events later → Holds h (count + 1) entries
-holds_set h count n es entries slot later holds found changed rests more = record {
-  whole = holds.whole;
-  rest = subst (AllRest (domain_of h) h.kept) (sym changed) (rest_set (domain_of h) h.kept n later es holds.rest rests);
-  few = subst (λ l. length l ≤ 4096) (sym changed) (few_set n later es holds.few);
-  counted = subst (λ l. count + 1 ≤ all_events l) (sym changed) (counted_set count n es slot later found more holds.counted);
-}
+module _ {h : Head} {count : ℕ} {es entries : List (ℕ × Slot)} {slot : Slot} (n : ℕ) (later : Slot) (holds : Holds h count es) (found : lookup (nat_eq n) es ≡ Some slot) (changed : entries ≡ set_value (nat_eq n) es later) where
+  -- which is the same as before
+  unchanged : later ≡ slot → entries ≡ es
+  unchanged same = changed ∙ (ap (set_value (nat_eq n) es) same ∙ set_same n slot es found)
 
-pub calls_set : (n : ℕ) (es entries : List (ℕ × Slot)) (later : Slot) → entries ≡ set_value (nat_eq n) es later → calls_kept entries ≡ with_call (call_kept n later) (calls_kept es)
-calls_set n es entries later changed = ap calls_kept changed ∙ set_call n later es
+  pub holds_unchanged : later ≡ slot → Holds h count entries
+  holds_unchanged same = subst (Holds h count) (sym (unchanged same)) holds
 
--- and the journal goes on
-pub holds_on : (old new : Head) (count n : ℕ) (es entries : List (ℕ × Slot)) (slot later : Slot) → Holds old count es → GoesOn old new → lookup (nat_eq n) es ≡ Some slot → entries ≡ set_value (nat_eq n) es later → IsMadeFor (domain_of old) later.batch → IsOver later.state → slot_events slot + 1 ≤ slot_events later → Holds new (count + 1) entries
-holds_on old new count n es entries slot later holds on found changed made over more =
-    let all : AllRest (domain_of new) new.kept es = subst (λ own. AllRest own new.kept es) (sym on.domain) (subst (λ l. AllRest (domain_of old) l es) (sym on.kept) (all_rest_more (domain_of old) old.kept on.more es holds.rest)) in
-    record {
-      whole = on.whole;
-      rest = subst (AllRest (domain_of new) new.kept) (sym changed) (rest_set (domain_of new) new.kept n later es all (ended_rests (domain_of new) new.kept later (subst (λ own. IsMadeFor own later.batch) (sym on.domain) made) over));
-      few = subst (λ l. length l ≤ 4096) (sym changed) (few_set n later es holds.few);
-      counted = subst (λ l. count + 1 ≤ all_events l) (sym changed) (counted_set count n es slot later found more holds.counted);
-    }
+  pub state_unchanged : later ≡ slot → state_of h count entries ≡ state_of h count es
+  state_unchanged same = ap (state_of h count) (unchanged same)
 
-pub commits_kept : (old new : Head) (count n : ℕ) (es entries : List (ℕ × Slot)) (slot later : Slot) (decision : Decision) (place : ℕ) → lookup (nat_eq n) es ≡ Some slot → SlotDecides old slot (count + 1) decision place later new → entries ≡ set_value (nat_eq n) es later → Commits (state_of old count es) n (Decided n decision place) (state_of new (count + 1) entries)
-commits_kept old new count n es entries slot later decision place found d changed =
-    let moved : (g : Stage) → stage_of_slot later ≡ g → calls_kept entries ≡ with_call (record (call_kept n slot) { stage = g; turn = count + 1 }) (calls_kept es) = λ g q.
-    calls_set n es entries later changed ∙ (λ i. with_call (record { number = n; batch = d.batch i; stage = q i; invoked = d.invoked i; turn = d.turn_is i; replied = d.replied i }) (calls_kept es)) in
-    record {
-      call = call_kept n slot;
-      found = lookup_call n es ∙ ap (option_map (call_kept n)) found;
-      base = d.base;
-      in_turn = d.in_turn;
-      decision = ⊎_elim
-          (λ c. let m = moved _ c.stage_is in inl (record {
-            commits = c.commits;
-            answer = λ i. Decided n (c.decision_is i) (c.place_is i);
-            after = λ i. record { domain = d.goes_on.domain i; journal = c.journal_is i; count = count + 1; calls = m i };
-          }))
-          (λ x. ⊎_elim
-          (λ f. let m = moved _ f.stage_is in inr (inl (record {
-            limit = f.limit;
-            full = f.full;
-            answer = λ i. Decided n (f.decision_is i) (f.place_is i);
-            after = λ i. record { domain = d.goes_on.domain i; journal = f.journal_is i; count = count + 1; calls = m i };
-          })))
-          (λ k. let m = moved _ k.stage_is in inr (inr (record {
-            due = k.due;
-            answer = λ i. Decided n (k.decision_is i) (k.place_is i);
-            after = λ i. record { domain = d.goes_on.domain i; journal = k.journal_is i; count = count + 1; calls = m i };
-          })))
-          x)
-          d.decided;
-    }
+  -- which has one event more
+  calls_moved : (call : Call) → call_kept n later ≡ call → calls_kept entries ≡ with_call call (calls_kept es)
+  calls_moved call is = ap calls_kept changed ∙ (set_call n later es ∙ ap (λ k. with_call k (calls_kept es)) is)
+
+  pub state_moved : {call : Call} → call_kept n later ≡ call → state_of h (count + 1) entries ≡ moved call (state_of h count es)
+  state_moved {call} is = ap (λ l. record (state_of h (count + 1) es) { calls = l }) (calls_moved call is)
+
+  pub holds_set : SlotRests (domain_of h) h.kept later → slot_events slot + 1 ≤ slot_events later → Holds h (count + 1) entries
+  holds_set rests more = record {
+    whole = holds.whole;
+    rest = subst (AllRest (domain_of h) h.kept) (sym changed) (rest_set (domain_of h) h.kept n later es holds.rest rests);
+    few = subst (λ l. length l ≤ 4096) (sym changed) (few_set n later es holds.few);
+    counted = subst (λ l. count + 1 ≤ all_events l) (sym changed) (counted_set count n es slot later found more holds.counted);
+  }
+
+  -- and the journal goes on
+  pub holds_on : {new : Head} → GoesOn h new → IsMadeFor (domain_of h) later.batch → IsOver later.state → slot_events slot + 1 ≤ slot_events later → Holds new (count + 1) entries
+  holds_on {new} on made over more =
+      let all : AllRest (domain_of new) new.kept es = subst (λ own. AllRest own new.kept es) (sym on.domain) (subst (λ l. AllRest (domain_of h) l es) (sym on.kept) (all_rest_more (domain_of h) h.kept on.more es holds.rest)) in
+      record {
+        whole = on.whole;
+        rest = subst (AllRest (domain_of new) new.kept) (sym changed) (rest_set (domain_of new) new.kept n later es all (ended_rests (domain_of new) new.kept later (subst (λ own. IsMadeFor own later.batch) (sym on.domain) made) over));
+        few = subst (λ l. length l ≤ 4096) (sym changed) (few_set n later es holds.few);
+        counted = subst (λ l. count + 1 ≤ all_events l) (sym changed) (counted_set count n es slot later found more holds.counted);
+      }
+
+  pub commits_kept : {new : Head} {decision : Decision} {place : ℕ} → SlotDecides h slot (count + 1) decision place later new → Commits (state_of h count es) n (Decided n decision place) (state_of new (count + 1) entries)
+  commits_kept d =
+      let calls : (g : Stage) → stage_of_slot later ≡ g → calls_kept entries ≡ with_call (record (call_kept n slot) { stage = g; turn = count + 1 }) (calls_kept es) = λ g q.
+      calls_moved (record (call_kept n slot) { stage = g; turn = count + 1 }) (λ i. record { number = n; batch = d.batch i; stage = q i; invoked = d.invoked i; turn = d.turn_is i; replied = d.replied i }) in
+      record {
+        call = call_kept n slot;
+        found = call_found n holds found;
+        base = d.base;
+        in_turn = d.in_turn;
+        decision = ⊎_elim
+            (λ c. let m = calls _ c.stage_is in inl (record {
+              commits = c.commits;
+              answer = λ i. Decided n (c.decision_is i) (c.place_is i);
+              after = λ i. record { domain = d.goes_on.domain i; journal = c.journal_is i; count = count + 1; calls = m i };
+            }))
+            (λ x. ⊎_elim
+            (λ f. let m = calls _ f.stage_is in inr (inl (record {
+              limit = f.limit;
+              full = f.full;
+              answer = λ i. Decided n (f.decision_is i) (f.place_is i);
+              after = λ i. record { domain = d.goes_on.domain i; journal = f.journal_is i; count = count + 1; calls = m i };
+            })))
+            (λ k. let m = calls _ k.stage_is in inr (inr (record {
+              due = k.due;
+              answer = λ i. Decided n (k.decision_is i) (k.place_is i);
+              after = λ i. record { domain = d.goes_on.domain i; journal = k.journal_is i; count = count + 1; calls = m i };
+            })))
+            x)
+            d.decided;
+      }
 
 -- ---- a new call
 

@@ -65,8 +65,8 @@ module _ (own : Bytes) (items : List Item) (s : Version) (leads : Leads (first_v
   few_all (e ∷ es) a = let k = few_slot e.1 a.0 in let q = few_all es a.1 in omega arith
 
 -- one event more can be counted
-pub has_room : (h : Head) (count : ℕ) (es : List (ℕ × Slot)) → Holds h count es → count + 1 < 2 ^ 64
-has_room h count es holds =
+pub has_room : {h : Head} {count : ℕ} {es : List (ℕ × Slot)} → Holds h count es → count + 1 < 2 ^ 64
+has_room {h} {count} {es} holds =
     let k = few_all (domain_of h) h.kept (newest_of h) holds.whole.leads es holds.rest in
     let few = holds.few in
     let counted = holds.counted in

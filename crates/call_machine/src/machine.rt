@@ -15,13 +15,13 @@ use spiffe_name::TrustDomain;
 use std::alloc::{AllocError, Global};
 use std::marker::Model;
 
-/// The calls of many callers at once over one book, moved on by events, one at a time: any list of them, in any order. An
-/// event out of turn is refused, handed back, and changes nothing. A contract sees the machine as the record of its trust
-/// domain, the committed batches, the count of accepted events, and its calls in the order of their invokes.
+/// The concurrent calls of many callers over one book. Events move them on, one at a time, in any order. An event out of turn is
+/// refused, returned, and changes nothing. In contracts the machine is the record of its trust domain, the committed batches, the
+/// count of accepted events, and its calls in the order of their invokes.
 ///
-/// A machine has at most 4,096 calls, and keeps each as long as it lives, with its batch and its reply; of a call that is over no
-/// version is kept. As a batch makes at most 2^21 reads, a machine accepts fewer than 2^34 events in its life. An event costs
-/// what its work or its commit costs, and finding the call, by a hash.
+/// A machine has at most 4,096 calls, and stores the batch and the reply of each for its whole life, but no version of a call that
+/// is over. As a batch makes at most 2^21 reads, a machine accepts fewer than 2^34 events in its life. An event costs one hash
+/// look-up of the call, and what its work or its commit costs.
 #[derive(Drop)]
 pub struct Machine {
     alloc: Global,
@@ -55,7 +55,8 @@ impl Machine {
     ghost use Rattle.call_machine.specs.Machine.{Applies, AreFor, Begins, Commits, Invokes, Replies, Runs, Steps, refusal_of};
     ghost use Rattle.call_machine.specs.Laws.{HoldReplies, IsOrder};
 
-    /// The machine of a trust domain's server: no calls, the empty book at place 0. The error is want of memory.
+    /// Returns the machine of a trust domain's server, with no calls and the empty book at place 0. The only error is a failed
+    /// allocation.
     pub fn new(alloc: Global, domain: TrustDomain) -> Result<Machine, AllocError>
         ensures { IfOk result (λ machine. machine ≡ first_state domain) }
     {
@@ -67,8 +68,8 @@ impl Machine {
         })
     }
 
-    /// One event: what it is answered, or why it is refused; then nothing has changed. A batch that is handed in was made for
-    /// the machine's trust domain.
+    /// Applies one event. Returns its answer, or why it is refused; then nothing has changed. The batch of an invoke was made for the
+    /// machine's trust domain.
     pub fn apply(&mut self, event: Event) -> Result<Done, RefusedEvent>
         requires domain { IsFor self.old.domain event }
         ensures { Applies self.old event result self.new }
@@ -88,8 +89,8 @@ impl Machine {
         }
     }
 
-    /// Each event in turn, as `apply` does it, and the answer to each. The error is want of memory for the list of answers, and nothing has
-    /// changed then.
+    /// Applies each event in turn, and returns the answer to each. The only error is a failed allocation of the list of answers, and
+    /// then nothing has changed.
     pub fn run(&mut self, events: Vec<Event>) -> Result<Vec<Result<Done, RefusedEvent>>, AllocError>
         requires domain { AreFor self.old.domain events.items }
         ensures ran { IfOk result (λ answers. Runs self.old events.items answers.items self.new) }
@@ -103,9 +104,8 @@ impl Machine {
         Ok(answers)
     }
 
-    /// The committed calls, and those that have replied otherwise than by a conflict, in the order of their deciding events: begin
-    /// for queries, repeats and refusals but for those by a limit, commit for committed and full ones. The error is want of
-    /// memory.
+    /// Returns the committed calls, and those that have replied and not by a conflict, in the order of their deciding events: the
+    /// commit of committed and full ones, the begin of all others. The only error is a failed allocation.
     pub fn order(&self) -> Result<Vec<u64>, AllocError>
         ensures order { IfOk result (λ order. IsOrder self.now order.items) }
         ensures headline { IfOk result (λ order. (own : Bytes) (events : List AnEvent) (answers : List Answer)
@@ -118,7 +118,7 @@ impl Machine {
         numbers_of(self.alloc, &turns)
     }
 
-    /// What is known of a call; none for an unknown one.
+    /// Returns what is known of a call, or none for an unknown one.
     pub fn call(&self, number: u64) -> Option<KnownCall<'_>>
         ensures { Tells (call_at number self.now.calls) result }
     {
@@ -128,14 +128,14 @@ impl Machine {
         }
     }
 
-    /// A call's batch is handed in. Refused, it is handed back.
+    /// Invokes a call with its batch. If the call is refused, the batch is returned.
     fn invoke(&mut self, number: u64, batch: Batch) -> Result<Done, (EventRefusal, Batch)>
         requires domain { batch.domain ≡ self.old.domain }
         ensures ok { IfOk result (λ done. Invokes self.old number batch done self.new) }
         ensures err { IfErr result (λ r. (r.1 ≡ batch) × IsRefusalOr (refusal_of self.old (event.Invoke number batch)) r.0) }
         ensures stays { OnErr result (self.new ≡ self.old) }
     {
-        // this tells the contract that the batch was made for its trust domain
+        // brings into the proof that the batch was made for its trust domain
         let _ = batch.ops();
         if self.calls.contains_key(&number) {
             return Err((EventRefusal::CallTaken, batch));
@@ -153,7 +153,7 @@ impl Machine {
         Ok(Done::Invoked(number))
     }
 
-    /// A call's work begins on the newest book.
+    /// Begins a call's work on the newest book.
     fn begin(&mut self, number: u64) -> Result<Done, EventRefusal>
         ensures ok { IfOk result (λ done. Begins self.old number done self.new) }
         ensures err { IfErr result (IsRefusalOr (refusal_of self.old (event.Begin number))) }
@@ -171,7 +171,7 @@ impl Machine {
         Ok(Done::Begun(number, self.head.place(), status))
     }
 
-    /// A call's work makes its next read.
+    /// Makes the next read of a call's work.
     fn step(&mut self, number: u64) -> Result<Done, EventRefusal>
         ensures ok { IfOk result (λ done. Steps self.old number done self.new) }
         ensures err { IfErr result (IsRefusalOr (refusal_of self.old (event.Step number))) }
@@ -188,7 +188,7 @@ impl Machine {
         Ok(Done::Stepped(number, mark, status))
     }
 
-    /// A call's changes are to be committed.
+    /// Commits a call's changes.
     fn commit(&mut self, number: u64) -> Result<Done, EventRefusal>
         ensures ok { IfOk result (λ done. Commits self.old number done self.new) }
         ensures err { IfErr result (IsRefusalOr (refusal_of self.old (event.Commit number))) }
@@ -206,7 +206,7 @@ impl Machine {
         Ok(Done::Decided(number, decision, place))
     }
 
-    /// A call's answer is given out.
+    /// Returns a call's answer.
     fn reply(&mut self, number: u64) -> Result<Done, EventRefusal>
         ensures ok { IfOk result (λ done. Replies self.old number done self.new) }
         ensures err { IfErr result (IsRefusalOr (refusal_of self.old (event.Reply number))) }
@@ -225,7 +225,7 @@ impl Machine {
     }
 }
 
-/// Has a machine as many calls as it may have?
+/// Returns true if a machine can take no more calls.
 fn is_full(calls: &IndexMap<u64, Slot>) -> bool
     ensures { nat_lt (length calls.now.entries) 4096 ≡ not result }
 {
@@ -242,7 +242,7 @@ fn with_room(calls: &mut IndexMap<u64, Slot>, batch: &Batch) -> Result<Batch, Al
     batch.clone()
 }
 
-/// The turns of the listed calls, with their numbers.
+/// Returns the turns of the listed calls, with their numbers.
 fn turns_of(alloc: Global, calls: &IndexMap<u64, Slot>) -> Result<Vec<(u64, u64)>, AllocError>
     ensures { IfOk result (λ turns. turns.items ≡ map turn_of_entry (filter is_listed_entry calls.now.entries)) }
 {
@@ -255,7 +255,7 @@ fn turns_of(alloc: Global, calls: &IndexMap<u64, Slot>) -> Result<Vec<(u64, u64)
     Ok(turns)
 }
 
-/// Their numbers, in this order.
+/// Returns their numbers, in this order.
 fn numbers_of(alloc: Global, turns: &[(u64, u64)]) -> Result<Vec<u64>, AllocError>
     ensures { IfOk result (λ numbers. numbers.items ≡ map number_in turns.now) }
 {
@@ -266,7 +266,7 @@ fn numbers_of(alloc: Global, turns: &[(u64, u64)]) -> Result<Vec<u64>, AllocErro
     Ok(numbers)
 }
 
-/// A refusal hands its event back.
+/// Returns the event with its refusal.
 fn handed_back(answer: Result<Done, EventRefusal>, event: Event) -> Result<Done, RefusedEvent>
     ensures { result ≡ with_event answer event }
 {

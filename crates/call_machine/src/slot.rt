@@ -1,4 +1,4 @@
-//! What does a machine keep of a call?
+//! What does a machine store of a call?
 
 ghost use Rattle.std.specs.Prelude.{◌≡◌, ◌⊎◌, IfSome, None, false, true};
 ghost use Rattle.entry_book.specs.History.{is_committed};
@@ -19,9 +19,9 @@ use version_book::Mark;
 /// Where a call stands.
 #[derive(Drop)]
 pub(crate) enum SlotState {
-    /// Its work has a copy of its batch. A call has its answer as soon as its work is settled.
+    /// Its work, which owns a copy of its batch. A call has its answer as soon as its work is settled.
     Open(Work),
-    /// Its work was settled, or its commit was decided. It keeps no version alive.
+    /// Its work is settled, or its commit is decided. No version is kept alive for it.
     Over(CallAnswer),
 }
 
@@ -45,7 +45,7 @@ impl Slot {
     ghost use Rattle.call_machine.specs.Known.{TellsCall, decided_of};
     ghost use Rattle.call_machine.specs.Kept.{AnsweredWhenSettled, IsWhole, SlotBegins, SlotDecides, SlotRefuses, SlotRests, SlotSteps, call_kept, domain_of, is_listed_slot, is_ready_slot, is_running_slot, is_waiting_slot, may_reply, new_slot, stage_of_slot};
 
-    /// A call that is handed in under this accepted number, with a copy of its batch for its work. Takes no memory.
+    /// Returns a call that was invoked under this accepted number, with a copy of its batch for its work. Allocates nothing.
     pub(crate) fn new(alloc: Global, batch: Batch, copy: Batch, invoked: u64) -> Slot
         requires copy { copy ≡ batch }
         ensures { result ≡ new_slot batch invoked }
@@ -59,14 +59,14 @@ impl Slot {
         }
     }
 
-    /// The accepted number of its begin, or of its commit once it had one.
+    /// Returns the accepted number of its begin, or of its commit once it had one.
     pub(crate) fn turn(&self) -> u64
         ensures { result ≡ self.now.turn }
     {
         self.turn
     }
 
-    /// What the call waits for.
+    /// Returns what the call waits for.
     fn status(&self) -> Status
         ensures { result ≡ status_at (stage_of_slot self.now) }
     {
@@ -76,7 +76,7 @@ impl Slot {
         }
     }
 
-    /// Is it committed, or has it replied otherwise than by a conflict?
+    /// Returns true if it is committed, or if it has replied and the reply is no conflict.
     pub(crate) fn is_listed(&self) -> bool
         ensures { result ≡ is_listed_slot self.now }
     {
@@ -89,7 +89,7 @@ impl Slot {
         }
     }
 
-    /// The accepted number of the event that decided it. A conflict has none.
+    /// Returns the accepted number of the event that decided it. A conflict has none.
     fn decided(&self) -> Option<u64>
         requires answered { AnsweredWhenSettled self.now.state }
         ensures { result ≡ decided_of (stage_of_slot self.now) self.now.turn }
@@ -101,7 +101,7 @@ impl Slot {
         }
     }
 
-    /// What is known of the call.
+    /// Returns what is known of the call.
     pub(crate) fn known(&self) -> KnownCall<'_>
         requires answered { AnsweredWhenSettled self.now.state }
         ensures { (n : ℕ) → TellsCall (call_kept n self.now) result }
@@ -115,7 +115,7 @@ impl Slot {
         }
     }
 
-    /// Its answer, once it has one.
+    /// Returns its answer, once it has one.
     fn answer(&self) -> Option<&CallAnswer>
         requires answered { AnsweredWhenSettled self.now.state }
         ensures { option_copied result ≡ answer_of (stage_of_slot self.now) }
@@ -170,7 +170,7 @@ impl Slot {
         Ok((mark, self.status()))
     }
 
-    /// Commits its changes on the head, under the call's number; the accepted number is that of its commit.
+    /// Commits its changes on the head, under the call's number. The accepted number is that of its commit.
     pub(crate) fn commit(
         &mut self,
         head: &mut Head,
@@ -198,7 +198,7 @@ impl Slot {
         Ok((decision, place))
     }
 
-    /// Gives its answer out, once, under this accepted number.
+    /// Returns its answer, once, under this accepted number.
     pub(crate) fn reply(&mut self, number: u64) -> Result<CallAnswer, EventRefusal>
         requires answered { AnsweredWhenSettled self.old.state }
         ensures ok { IfOk result (λ answer. (self.old.replied ≡ None) × (answer_of (stage_of_slot self.old) ≡ Some answer) × (self.new ≡ record self.old { replied = Some number })) }
@@ -219,7 +219,7 @@ impl Slot {
     }
 }
 
-/// Is the work of an open call settled?
+/// Returns true if the call is open and its work is settled.
 fn is_settled(state: &SlotState) -> bool
     ensures settled { result ≡ true → IsSettled state.now }
     ensures answered { result ≡ false → AnsweredWhenSettled state.now }
@@ -230,7 +230,7 @@ fn is_settled(state: &SlotState) -> bool
     }
 }
 
-/// Where a call stands after its work was settled. Drops the work, but for its reply.
+/// Returns the state of a call whose work is settled. Drops the work, except for its reply.
 fn over(work: Work) -> SlotState
     requires settled { status_of work ≡ Status.Settled }
     ensures stage { stage_kept result ≡ stage_kept (slot.Open work) }
@@ -251,7 +251,7 @@ fn let_go(state: &mut SlotState)
     if !is_settled(state) {
         return;
     }
-    // the conflict holds the place until the reply is there
+    // a placeholder, until the reply is there
     let place = SlotState::Over(CallAnswer::Conflict(0));
     let SlotState::Open(work) = replace(state, place) else {
         unreachable!()
@@ -259,7 +259,7 @@ fn let_go(state: &mut SlotState)
     drop(replace(state, over(work)));
 }
 
-/// Was the batch of this reply committed by its call?
+/// Returns true if the call committed the batch of this reply.
 fn is_commit(reply: &Reply) -> bool
     ensures { result ≡ is_committed reply.now.outcome }
 {
@@ -269,8 +269,8 @@ fn is_commit(reply: &Reply) -> bool
     }
 }
 
-/// Finishes a commit that is prepared: the call's answer, and the new book's number. None is a failed allocation, and no book has
-/// changed then.
+/// Finishes a prepared commit. Returns the call's answer and the number of the new book. None is a failed allocation, and then no
+/// book has changed.
 fn finish(head: &mut Head, prepared: Prepared) -> Option<(CallAnswer, u64)>
     requires fits { Fits head.old prepared }
     ensures none { result ≡ None → head.new ≡ head.old }
@@ -285,8 +285,8 @@ fn finish(head: &mut Head, prepared: Prepared) -> Option<(CallAnswer, u64)>
     Some((answer, head.finish(prepared)))
 }
 
-/// What becomes of the commit of a work that is ready, under the call's number: the call's answer, and the number of the new book
-/// where there is one, else of the last one. None is a failed allocation, and no book has changed then.
+/// Decides the commit of a work that is ready, under the call's number. Returns the call's answer, the decision, and the number of
+/// the newest book afterwards. None is a failed allocation, and then no book has changed.
 fn decide(head: &mut Head, number: u64, work: &Work) -> Option<(CallAnswer, Decision, u64)>
     requires whole { IsWhole head.old }
     requires rests { RestsOn (domain_of head.old) head.old.kept work.now }

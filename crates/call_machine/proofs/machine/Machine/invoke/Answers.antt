@@ -1,23 +1,21 @@
 use Rattle.std.proofs.Common.{◌≡◌, ℕ, ◌+◌, true, false, not, List, [], ◌∷◌, ◌++◌, length, Result, Ok, Err, OnOk, IsOk, Some, None, refl, sym, ap, subst, ◌∙◌, inl, inr, arith}
-use Rattle.std.specs.Prelude.{nat_eq, nat_lt, is_some, option_map, if◌then◌else◌}
+use Rattle.std.specs.Prelude.{nat_eq, nat_lt, is_some, if◌then◌else◌}
 use Rattle.std.specs.Map.{lookup}
 use Rattle.std.proofs.lemmas.Bool.{ltb-true}
 use Rattle.std.proofs.lemmas.List.{length-map, map-append}
 use Rattle.indexmap.proofs.CallerLemmas.{insert_entry-new}
 use Rattle.entry_book.specs.Batches.{IsMadeFor}
 use Rattle.call_events.specs.declared.event.EventRefusal.TheVariants.{CallTaken, TooManyCalls}
-use Rattle.call_answers.specs.declared.answer.Done.TheVariants.{Invoked}
 use Rattle.call_machine.specs.declared.slot.Slot.{Slot}
 use Rattle.call_machine.specs.Calls.{State, call_at}
-use Rattle.call_machine.specs.Machine.{Invokes}
 use Rattle.call_machine.specs.Kept.{call_kept, calls_kept, domain_of, slot_events, state_of}
 use Rattle.call_machine.proofs.Counts.{has_room}
-use Rattle.call_machine.proofs.Changed.{holds_more, known_call, none_found}
-use Rattle.call_machine.proofs.Slots.{lookup_call, new_rests}
+use Rattle.call_machine.proofs.Changed.{call_missing, holds_more, known_call, none_found}
+use Rattle.call_machine.proofs.Slots.{new_rests}
 use Rattle.call_machine.proofs.machine.Machine.invoke.Goals as goal
 
 pub overflow_add-invoked : goal.overflow_add-invoked
-overflow_add-invoked c = let room = has_room c.self.inside.head c.self.inside.count c.self.inside.calls.entries c.self.invariant in omega arith
+overflow_add-invoked c = let room = has_room c.self.invariant in omega arith
 
 was_ok : {A E : Type 0} (r : Result A E) (P : Type 0) → IsOk r → OnOk r P → P
 was_ok (Ok x) P k h = h
@@ -71,13 +69,12 @@ returns-clause-ok c =
     let entries : c.insert.new.self.entries ≡ es ++ (n, slot) ∷ [] = was_ok c.insert.result _ ok c.insert.ensures.entries ∙ (insert_entry-new nat_eq c.with_room.new.calls n slot there ∙ ap (λ l. l ++ (n, slot) ∷ []) c.with_room.ensures.entries) in
     let m : length (calls_kept es) ≡ length es = count_kept es in
     let few = ltb-true (length es) 4096 (c.is_full.ensures ∙ ap not c.if-is_full.false) in
-    let invokes : Invokes (state_of h c.self.inside.count es) n c.args.batch (Invoked n) (state_of h (c.self.inside.count + 1) c.insert.new.self.entries) = record {
-      unknown = lookup_call n es ∙ ap (option_map (call_kept n)) absent;
+    rw (← c.self.view_is) (record {
+      unknown = call_missing n c.self.invariant absent;
       room = omega (arith, m, few);
       answer = refl;
       after = ap (λ l. record (state_of h (c.self.inside.count + 1) es) { calls = l }) (ap calls_kept entries ∙ (map-append (λ e. call_kept e.0 e.1) es ((n, slot) ∷ []) ∙ ap (λ (s : Slot). calls_kept es ++ call_kept n s ∷ []) c.new-slot.ensures));
-    } in
-    subst (λ u. Invokes u n c.args.batch (Invoked n) (state_of h (c.self.inside.count + 1) c.insert.new.self.entries)) c.self.view_is invokes
+    })
 
 pub returns-in_default-clause-err : goal.returns-in_default-clause-err
 returns-in_default-clause-err c =
