@@ -1,4 +1,4 @@
-//! What has one caller seen, and what is it answered?
+//! What has one caller seen, and which replies does it get?
 
 ghost use Rattle.std.specs.Prelude.{◌≡◌, ◌<◌, ◌+◌, ◌++◌, ◌∷◌, ◌^◌, [], length, IfOk, IfSome, IsSome, IsTrue, MatchResult, true};
 ghost use mathlib.Core.List.{IsPrefix};
@@ -31,17 +31,17 @@ pub type Answer = Reply;
 /// Why a query has no answer.
 #[derive(Clone, Copy, Debug, PartialEq, Eq, Drop)]
 pub enum NoAnswer {
-    /// Memory was wanting.
+    /// Out of memory.
     NoMemory,
-    /// The seat wasn't let in, or what is published doesn't fit what the seat has seen.
+    /// The registry didn't admit the seat, or what is published doesn't continue what the seat has seen.
     NoEntry,
 }
 
-/// The seat wasn't let in, or what is published doesn't fit what it has seen.
+/// The registry didn't admit the seat, or what is published doesn't continue what the seat has seen.
 #[derive(Clone, Copy, Debug, PartialEq, Eq, Drop)]
 pub struct NoEntry;
 
-/// What a seat had seen when it asked for news. Contracts see it as the list of items.
+/// What a seat had seen when it asked for news. In contracts it is the list of items.
 #[derive(Drop)]
 pub struct Receipt<J: Naming> {
     seen: Front<J>,
@@ -56,11 +56,11 @@ impl<J: Naming> Model for Receipt<J> {
     ghost view = { λ r. r.seen };
 }
 
-/// One caller of a registry: its number, how many calls it has made, and what it has seen. Contracts see the lists; a program
-/// asks for their lengths.
+/// One caller of a registry: its number, how many calls it has made, and what it has seen. In contracts it has the lists, for a
+/// program their lengths.
 ///
-/// A seat keeps what it last found published, or what its own commit published since then. It takes what is published anew only where
-/// that has another number of items.
+/// A seat keeps what it last found published, or what its own commit has published since then. It replaces it only if what is
+/// published has another number of items.
 #[derive(Drop)]
 pub struct Seat<J: Naming> {
     alloc: Global,
@@ -115,14 +115,14 @@ impl<J: Naming> Seat<J> {
         self.calls
     }
 
-    /// May it make a call more? A seat makes 2^48 of them.
+    /// Returns true if the seat can make one more call. A seat makes at most 2^48 calls.
     pub fn has_calls(&self) -> bool
         ensures { result ≡ nat_lt self.now.calls (2 ^ 48) }
     {
         self.calls < 1 << 48
     }
 
-    /// A seat that has seen nothing.
+    /// Returns a seat that has seen nothing.
     pub(crate) fn new(
         alloc: Global,
         reader: SeatReader<J>,
@@ -156,24 +156,17 @@ impl<J: Naming> Seat<J> {
         }
     }
 
-    /// Does what is published fit what it has seen and was told of, and the count of its commits?
+    /// Returns true if the published journal continues what the seat has seen and learnt, and has no other call of the seat.
     pub(crate) fn fits(&self, published: &Published) -> bool
         requires { IsOf J.history J.domain published.now }
         ensures seen { IsTrue result → IsPrefix self.now.seen published.now.journal }
         ensures told { IsTrue result → IsPrefix self.now.told published.now.journal }
         ensures own { IsTrue result → calls_of self.now.number published.now.journal ≡ self.now.own }
     {
-        let front: Front<J> = published.front();
-        if published.count(self.number) != self.count
-            || !self.seen.begins(&front)
-            || !self.told.begins(&front)
-        {
-            return false;
-        }
-        true
+        continues(published, &self.seen, &self.told, self.number, self.count)
     }
 
-    /// Has seen this front from now on, which has the same calls of the seat.
+    /// Advances what the seat has seen to this front, which has no further call of the seat.
     pub(crate) fn see(&mut self, front: Front<J>)
         requires seen { IsPrefix self.old.seen front }
         requires own { calls_of self.old.number front ≡ self.old.own }
@@ -184,7 +177,7 @@ impl<J: Naming> Seat<J> {
         self.seen = front;
     }
 
-    /// Has seen this front from now on, whose last item is the seat's own.
+    /// Advances what the seat has seen to this front, whose last item is the seat's own commit.
     pub(crate) fn see_own(&mut self, front: Front<J>, item: &Item)
         requires seen { front ≡ self.old.seen ++ item.now ∷ [] }
         requires seat { item.now.seat ≡ self.old.number }
@@ -199,7 +192,7 @@ impl<J: Naming> Seat<J> {
         self.count += 1;
     }
 
-    /// Has this page from now on, in place of the one before, which is returned.
+    /// Replaces the page, and returns the one before.
     pub(crate) fn turn_to(&mut self, page: Published) -> Published
         requires page { IsOf J.history J.domain page }
         ensures { self.new ≡ record self.old { found = page.journal } }
@@ -207,7 +200,7 @@ impl<J: Naming> Seat<J> {
         replace(&mut self.page, page)
     }
 
-    /// Takes the number of one call more.
+    /// Takes the number of one more call.
     pub(crate) fn take_call(&mut self)
         requires has_calls { self.old.calls < 2 ^ 48 }
         ensures taken { self.new ≡ record self.old { calls = self.old.calls + 1 } }
@@ -216,8 +209,8 @@ impl<J: Naming> Seat<J> {
         self.calls += 1;
     }
 
-    /// The work of a batch that has begun on what is published, which the seat has then seen, and that has made all its reads.
-    /// It passes the gate after its begin. It waits for nobody.
+    /// Begins a batch on what is published, which the seat has then seen, and makes all its reads. The work passes the gate after
+    /// its begin. Never blocks.
     pub(crate) fn read<G: Gate>(&mut self, gate: &G, batch: Batch) -> Result<Work, NoAnswer>
         requires domain { batch.domain ≡ J.domain }
         ensures goes { Goes self.old self.new }
@@ -254,8 +247,8 @@ impl<J: Naming> Seat<J> {
         }
     }
 
-    /// Looks at what is published, for a query, which is one call. What it has then found can be answered on, and seen. It waits for
-    /// nobody.
+    /// Reads what is published, for a query; this is one call. Afterwards `answer` evaluates queries on what was found, and
+    /// `see_found` makes it what the seat has seen. Never blocks.
     pub fn look(&mut self) -> Result<(), NoAnswer>
         requires has_calls { self.old.calls < 2 ^ 48 }
         ensures found { IfOk result (λ _. MaySee J.domain self.new) }
@@ -281,8 +274,8 @@ impl<J: Naming> Seat<J> {
         }
     }
 
-    /// Returns the answer to a query, on the books of what the seat has found, which borrows its rows from the seat. What was found
-    /// can be seen: a look has found it, or the seat's own commit. It waits for nobody. The only error is a failed allocation.
+    /// Returns the reply to a query on the books of what the seat has found, by `look` or by its own commit. The reply borrows its
+    /// rows from the seat. Never blocks. The only error is a failed allocation.
     pub fn answer(&self, batch: &Batch) -> Result<LentReply<'_>, AllocError>
         requires found { MaySee J.domain self.now }
         requires query { is_query batch.now.ops ≡ true }
@@ -293,7 +286,7 @@ impl<J: Naming> Seat<J> {
         lent_answer(self.alloc, &self.page, batch)
     }
 
-    /// Has seen what it found. Takes no memory.
+    /// Makes what the seat has found what it has seen. Allocates nothing.
     pub fn see_found(&mut self)
         requires found { MaySee J.domain self.old }
         ensures { self.new ≡ record self.old { seen = self.old.found } }
@@ -301,7 +294,8 @@ impl<J: Naming> Seat<J> {
         self.seen = self.page.front();
     }
 
-    /// Returns the answer to a query, on the books of what is then seen, with rows of its own. It waits for nobody.
+    /// Returns the reply to a query, on the books of what the seat has then seen. The reply owns its rows, for callers that keep it.
+    /// Never blocks.
     pub fn query(&mut self, batch: &Batch) -> Result<Answer, NoAnswer>
         requires has_calls { self.old.calls < 2 ^ 48 }
         requires query { is_query batch.now.ops ≡ true }
@@ -321,7 +315,7 @@ impl<J: Naming> Seat<J> {
         }
     }
 
-    /// Returns the answer to a query, on the books of what the seat has found, with rows of its own. The only error is a failed
+    /// Returns the reply to a query on the books of what the seat has found. The reply owns its rows. The only error is a failed
     /// allocation.
     fn kept_answer(&self, batch: &Batch) -> Result<Answer, AllocError>
         requires found { MaySee J.domain self.now }
@@ -336,7 +330,7 @@ impl<J: Naming> Seat<J> {
         reply
     }
 
-    /// Later queries and submits begin with what the receipt's seat had seen. It waits for nobody and takes no memory.
+    /// Makes later queries and submits see at least what the receipt's seat had seen. Never blocks, and allocates nothing.
     pub fn learn(&mut self, receipt: &Receipt<J>)
         ensures told { IsPrefix receipt.now self.new.told × IsPrefix self.old.told self.new.told }
         ensures seen { (self.new.seen ≡ self.old.seen) × (self.new.own ≡ self.old.own) × (self.new.number ≡ self.old.number) × (self.new.calls ≡ self.old.calls) × (self.new.found ≡ self.old.found) }
@@ -345,7 +339,7 @@ impl<J: Naming> Seat<J> {
     }
 }
 
-/// Keeps the page that a look has found, where it is another one; the one before is let go.
+/// Keeps the page that was found if it is a new one, and drops the one before.
 fn turn<J: Naming>(
     page: &mut Published,
     newer: Result<Option<Published>, AllocError>,
@@ -364,7 +358,7 @@ fn turn<J: Naming>(
     }
 }
 
-/// Looks once at what is published, and keeps it where it is another one.
+/// Reads once what is published, and keeps it if it is new.
 fn look<J: Naming>(
     reader: SeatReader<J>,
     page: &mut Published,
@@ -382,7 +376,25 @@ fn look<J: Naming>(
     }
 }
 
-/// Looks, and answers the journal that is published, where it fits what was seen and told, and the count of the seat's commits.
+/// Returns true if the published journal continues what a seat has seen and what it has learnt, and has this many of its calls.
+fn continues<J: Naming>(
+    published: &Published,
+    seen: &Front<J>,
+    told: &Front<J>,
+    number: usize,
+    count: u64,
+) -> bool
+    requires number { number < 32 }
+    requires page { IsOf J.history J.domain published.now }
+    ensures seen { IsTrue result → IsPrefix seen.now published.now.journal }
+    ensures told { IsTrue result → IsPrefix told.now published.now.journal }
+    ensures count { IsTrue result → length (calls_of number published.now.journal) ≡ count }
+{
+    let front: Front<J> = published.front();
+    published.count(number) == count && seen.begins(&front) && told.begins(&front)
+}
+
+/// Reads what is published, and returns its journal if it continues what the seat has seen and learnt, and has as many of its calls.
 fn find<J: Naming>(
     reader: &mut Option<SeatReader<J>>,
     page: &mut Published,
@@ -407,15 +419,14 @@ fn find<J: Naming>(
     let (left, looked) = look(entering, page);
     *reader = Some(left);
     looked?;
-    let front: Front<J> = page.front();
-    if page.count(number) == count && seen.begins(&front) && told.begins(&front) {
-        Ok(front)
+    if continues(page, seen, told, number, count) {
+        Ok(page.front())
     } else {
         Err(NoAnswer::NoEntry)
     }
 }
 
-/// What a query is answered on what is published, which lends the rows. The error is want of memory.
+/// Returns the reply to a query on what is published, which borrows the rows. The only error is a failed allocation.
 fn lent_answer<'a>(
     alloc: Global,
     page: &'a Published,
