@@ -14,7 +14,7 @@ use Rattle.line_reading.specs.declared.fault.Key.TheVariants as key
 use Rattle.line_reading.specs.Batches.{Listed, unless_refused, batch_of, listed_in, missing_beside, batch_in}
 use Rattle.line_reading.specs.Fields.{◌>>=◌, tries_at, no_others}
 use Rattle.line_reading.specs.Operations.{ops_in}
-use Rattle.line_reading.specs.Requests.{request_in, framed, value_in, object_in, spelled}
+use Rattle.line_reading.specs.Requests.{request_in, framed, value_in, object_in, of_line, spelled}
 
 -- what holds of each value that the second reader gives holds of what both give
 pub then_ok : {A B : Type 0} (P : B → Type 0) (r : Result A Fault) (f : A → Result B Fault) → ((x : A) → IfOk (f x) P) → IfOk (r >>= f) P
@@ -73,17 +73,16 @@ request_in-domain domain ids d ms =
 
 -- ---- a line
 
-spelled-made : (domain : List ℕ) (ids : ChaCha) (line : List ℕ) → IfOk (spelled domain ids line) (made domain)
-unfolding spelled
-spelled-made domain ids line =
-    let from_object : Data → Members → Read = λ d ms. request_in domain ids d ms in
-    let from_value : Data → Read = λ d. object_in (as_object d) >>= from_object d in
-    let from_line : ⊤ → Read = λ none. value_in line >>= from_value in
-    then_ok (made domain) (framed line) from_line (λ none.
-    then_ok (made domain) (value_in line) from_value (λ d.
-    then_ok (made domain) (object_in (as_object d)) (from_object d) (λ ms. request_in-domain domain ids d ms)))
+-- what holds of each value that a reader gives holds of what a line spells
+pub of_line-ok : {A : Type 0} (P : A → Type 0) (reader : Data → Members → Result A Fault) (line : List ℕ) (x : A) → ((d : Data) (ms : Members) → IfOk (reader d ms) P) → of_line reader line ≡ Ok x → P x
+of_line-ok {A} P reader line x h e =
+    let from_value : Data → Result A Fault = λ d. object_in (as_object d) >>= reader d in
+    let from_line : ⊤ → Result A Fault = λ none. value_in line >>= from_value in
+    subst (λ r. IfOk r P) e (
+    then_ok P (framed line) from_line (λ none.
+    then_ok P (value_in line) from_value (λ d.
+    then_ok P (object_in (as_object d)) (reader d) (h d))))
 
 pub spelled-domain : (domain : List ℕ) (ids after : ChaCha) (line : List ℕ) (request : Request) → spelled domain ids line ≡ Ok (request, after) → request.batch.domain ≡ domain
-spelled-domain domain ids after line request e =
-    let P : Read → Type 0 = λ r. IfOk r (made domain) in
-    subst P e (spelled-made domain ids line)
+unfolding spelled
+spelled-domain domain ids after line request e = of_line-ok (made domain) (request_in domain ids) line (request, after) (request_in-domain domain ids) e

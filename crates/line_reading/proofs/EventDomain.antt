@@ -1,5 +1,5 @@
 -- The batch of an event that a line spells in a trust domain was made for that domain.
-use Rattle.std.proofs.Common.{◌≡◌, ℕ, List, [], ◌∷◌, Result, Ok, Err, subst}
+use Rattle.std.proofs.Common.{◌≡◌, ℕ, List, [], ◌∷◌, Result, Ok, Err}
 use Rattle.std.specs.Prelude.{⊤, IfOk}
 use Rattle.rand_chacha.specs.ChaCha.{ChaCha}
 use Rattle.entry_book.specs.Batches.{Batch}
@@ -17,8 +17,7 @@ use Rattle.line_reading.specs.Batches.{Listed, listed_in, batch_in, batch_alone_
 use Rattle.line_reading.specs.Codes.{key_name}
 use Rattle.line_reading.specs.Events.{kind_at, invoke_in, event_alone_in, event_of, event_in, spelled_event}
 use Rattle.line_reading.specs.Fields.{◌>>=◌, beside, required, number_at, no_others}
-use Rattle.line_reading.specs.Requests.{framed, value_in, object_in}
-use Rattle.line_reading.proofs.Domain.{ReadBatch, batch_made, batch_in-domain, both_ok, then_ok}
+use Rattle.line_reading.proofs.Domain.{ReadBatch, batch_made, batch_in-domain, both_ok, of_line-ok, then_ok}
 
 abbrev Read : Type 0
 Read = Result (Event × ChaCha) Fault
@@ -80,17 +79,6 @@ event_in-domain domain ids d ms =
 
 -- ---- a line
 
-spelled_event-made : (domain : List ℕ) (ids : ChaCha) (line : List ℕ) → IfOk (spelled_event domain ids line) (made domain)
-unfolding spelled_event
-spelled_event-made domain ids line =
-    let from_object : Data → Members → Read = λ d ms. event_in domain ids d ms in
-    let from_value : Data → Read = λ d. object_in (as_object d) >>= from_object d in
-    let from_line : ⊤ → Read = λ none. value_in line >>= from_value in
-    then_ok (made domain) (framed line) from_line (λ none.
-    then_ok (made domain) (value_in line) from_value (λ d.
-    then_ok (made domain) (object_in (as_object d)) (from_object d) (λ ms. event_in-domain domain ids d ms)))
-
 pub spelled_event-domain : (domain : List ℕ) (ids after : ChaCha) (line : List ℕ) (event : Event) → spelled_event domain ids line ≡ Ok (event, after) → IsFor domain event
-spelled_event-domain domain ids after line event e =
-    let P : Read → Type 0 = λ r. IfOk r (made domain) in
-    subst P e (spelled_event-made domain ids line)
+unfolding spelled_event
+spelled_event-domain domain ids after line event e = of_line-ok (made domain) (event_in domain ids) line (event, after) (event_in-domain domain ids) e

@@ -6,18 +6,16 @@ use Rattle.std.proofs.lemmas.List.{take_all, take-append-le, take-append-drop, l
 use Rattle.std.proofs.lemmas.List.Folds.{list_any-append, list_any_at}
 use Rattle.std.specs.Prelude.{⊤, Result, Ok, nat_lt, ◌||◌, drop}
 use Rattle.std.specs.Io.BufRead.{ends_with_byte, strip_last}
-use Rattle.rand_chacha.specs.ChaCha.{ChaCha}
+use Rattle.serde_json.specs.Data.{Data, Members}
 use Rattle.serde_json.specs.Find.{as_object}
-use Rattle.call_events.specs.declared.event.Event.{Event}
 use Rattle.line_reading.specs.declared.fault.Code.TheVariants as code
 use Rattle.line_reading.specs.declared.fault.Fault.{Fault}
-use Rattle.line_reading.specs.declared.request.Request.{Request}
 use Rattle.line_reading.specs.Fields.{◌>>=◌, at_line}
 use Rattle.line_reading.specs.Events.{event_in, spelled_event}
 use Rattle.line_reading.specs.Kept.{KeptSpells, KeptSpellsEvent, KeptSpellsRecord}
 use Rattle.line_devices.specs.Lines.{has_lf, kept, kept_bytes, IsLine}
-use Rattle.line_reading.specs.Records.{AuditRecord, record_in, spelled_record}
-use Rattle.line_reading.specs.Requests.{framed, line_limit, request_in, object_in, spelled, value_in}
+use Rattle.line_reading.specs.Records.{record_in, spelled_record}
+use Rattle.line_reading.specs.Requests.{framed, line_limit, object_in, of_line, request_in, spelled, value_in}
 
 lt_true : (a b : ℕ) → a < b → nat_lt a b ≡ true
 lt_true a b l = grind (arith, nat_tests)
@@ -62,22 +60,9 @@ framed-cut bytes none l =
     let n : length (strip_last 10 bytes) ≡ length bytes = ap length e in
     framed-long bytes (omega (arith, n, l))
 
-spelled-long : (domain : List ℕ) (ids : ChaCha) (line : List ℕ) → framed line ≡ at_line code.LineTooLong → spelled domain ids line ≡ at_line code.LineTooLong
-unfolding spelled
-spelled-long domain ids line e =
-    let next : ⊤ → Result (Request × ChaCha) Fault = λ none. value_in line >>= (λ d. object_in (as_object d) >>= (λ ms. request_in domain ids d ms)) in
-    ap (λ r. r >>= next) e
-
-spelled_event-long : (domain : List ℕ) (ids : ChaCha) (line : List ℕ) → framed line ≡ at_line code.LineTooLong → spelled_event domain ids line ≡ at_line code.LineTooLong
-unfolding spelled_event
-spelled_event-long domain ids line e =
-    let next : ⊤ → Result (Event × ChaCha) Fault = λ none. value_in line >>= (λ d. object_in (as_object d) >>= (λ ms. event_in domain ids d ms)) in
-    ap (λ r. r >>= next) e
-
-spelled_record-long : (domain line : List ℕ) → framed line ≡ at_line code.LineTooLong → spelled_record domain line ≡ at_line code.LineTooLong
-unfolding spelled_record
-spelled_record-long domain line e =
-    let next : ⊤ → Result AuditRecord Fault = λ none. value_in line >>= (λ d. object_in (as_object d) >>= (λ ms. record_in domain d ms)) in
+of_line-long : {A : Type 0} (reader : Data → Members → Result A Fault) (line : List ℕ) → framed line ≡ at_line code.LineTooLong → of_line reader line ≡ at_line code.LineTooLong
+of_line-long {A} reader line e =
+    let next : ⊤ → Result A Fault = λ none. value_in line >>= (λ d. object_in (as_object d) >>= reader d) in
     ap (λ r. r >>= next) e
 
 take_none : (n : ℕ) (front : List ℕ) → has_lf front ≡ false → has_lf (take n front) ≡ false
@@ -91,31 +76,30 @@ cut_none n line (inl w) l =
     ap has_lf (ap (take n) w.2 ∙ take-append-le n w.0 (10 ∷ []) (omega (arith, e, l))) ∙ take_none n w.0 w.1
 cut_none n line (inr r) l = take_none n line r.0
 
--- a reader that tells of a line that is too long nothing else
-abbrev TellsTooLong : {A : Type 0} → (List ℕ → Result A Fault) → Type 0
-TellsTooLong read = (line : List ℕ) → framed line ≡ at_line code.LineTooLong → read line ≡ at_line code.LineTooLong
-
-kept_reads-long : {A : Type 0} (read : List ℕ → Result A Fault) (n : ℕ) (line : List ℕ) → TellsTooLong read → n ≡ line_limit + 1 → IsLine line → n < length line → read (take n line) ≡ read line
-kept_reads-long read n line too_long is a l =
-    let e = length-take-le n line (omega (arith, l)) in
-    let longer = cut_longer (ends_with_byte 10 line) line in
-    too_long (take n line) (framed-cut (take n line) (cut_none n line a l) (omega (arith, e, is)))
-    ∙ sym (too_long line (framed-long line (omega (arith, longer, is, l))))
-
-kept_reads-by : {A : Type 0} (read : List ℕ → Result A Fault) (line : List ℕ) → TellsTooLong read → IsLine line → (length line ≤ kept_bytes) ⊎ (kept_bytes < length line) → read (kept line) ≡ read line
-kept_reads-by read line too_long a (inl l) = ap read (take_all kept_bytes line l)
-kept_reads-by read line too_long a (inr l) = kept_reads-long read kept_bytes line too_long limit_is a l
-
 split_at : (a b : ℕ) → (a ≤ b) ⊎ (b < a)
 split_at zero b = inl (omega arith)
 split_at (suc a) zero = inr (omega arith)
 split_at (suc a) (suc b) = elim (split_at a b) [ inl l ↦ inl (omega (arith, l)) | inr l ↦ inr (omega (arith, l)) ]
 
+module _ {A : Type 0} (reader : Data → Members → Result A Fault) (line : List ℕ) (is_line : IsLine line) where
+  cut_reads : (n : ℕ) → n ≡ line_limit + 1 → n < length line → of_line reader (take n line) ≡ of_line reader line
+  cut_reads n is l =
+      let e = length-take-le n line (omega (arith, l)) in
+      let longer = cut_longer (ends_with_byte 10 line) line in
+      of_line-long reader (take n line) (framed-cut (take n line) (cut_none n line is_line l) (omega (arith, e, is)))
+      ∙ sym (of_line-long reader line (framed-long line (omega (arith, longer, is, l))))
+
+  kept_reads : of_line reader (kept line) ≡ of_line reader line
+  kept_reads = elim (split_at (length line) kept_bytes) [ inl l ↦ ap (of_line reader) (take_all kept_bytes line l) | inr l ↦ cut_reads kept_bytes limit_is l ]
+
 pub kept_spells : KeptSpells
-kept_spells domain ids line a = kept_reads-by (spelled domain ids) line (spelled-long domain ids) a (split_at (length line) kept_bytes)
+unfolding spelled
+kept_spells domain ids line a = kept_reads (request_in domain ids) line a
 
 pub kept_spells_event : KeptSpellsEvent
-kept_spells_event domain ids line a = kept_reads-by (spelled_event domain ids) line (spelled_event-long domain ids) a (split_at (length line) kept_bytes)
+unfolding spelled_event
+kept_spells_event domain ids line a = kept_reads (event_in domain ids) line a
 
 pub kept_spells_record : KeptSpellsRecord
-kept_spells_record domain line a = kept_reads-by (spelled_record domain) line (spelled_record-long domain) a (split_at (length line) kept_bytes)
+unfolding spelled_record
+kept_spells_record domain line a = kept_reads (record_in domain) line a

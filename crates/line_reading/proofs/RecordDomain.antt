@@ -1,5 +1,5 @@
 -- The batch of a record that a line spells in a trust domain was made for that domain.
-use Rattle.std.proofs.Common.{◌≡◌, ℕ, List, [], ◌∷◌, Option, None, Some, Result, Ok, refl, subst}
+use Rattle.std.proofs.Common.{◌≡◌, ℕ, List, [], ◌∷◌, Option, None, Some, Result, Ok, refl}
 use Rattle.std.specs.Prelude.{⊤, IfOk}
 use Rattle.rand_chacha.specs.ChaCha.{ChaCha}
 use Rattle.entry_book.specs.Batches.{Batch, batch_refusal}
@@ -16,8 +16,7 @@ use Rattle.line_reading.specs.Codes.{key_name}
 use Rattle.line_reading.specs.Fields.{◌>>=◌, required, number_at, no_others}
 use Rattle.line_reading.specs.Operations.{ops_in}
 use Rattle.line_reading.specs.Records.{AuditRecord, number_or_null_at, object_at, no_ids, recorded_batch_in, record_in, spelled_record}
-use Rattle.line_reading.specs.Requests.{framed, value_in, object_in}
-use Rattle.line_reading.proofs.Domain.{both_ok, then_ok}
+use Rattle.line_reading.proofs.Domain.{both_ok, of_line-ok, then_ok}
 
 abbrev Read : Type 0
 Read = Result AuditRecord Fault
@@ -72,17 +71,6 @@ record_in-domain domain d ms =
 
 -- ---- a line
 
-spelled_record-made : (domain line : List ℕ) → IfOk (spelled_record domain line) (made domain)
-unfolding spelled_record
-spelled_record-made domain line =
-    let from_object : Data → Members → Read = λ d ms. record_in domain d ms in
-    let from_value : Data → Read = λ d. object_in (as_object d) >>= from_object d in
-    let from_line : ⊤ → Read = λ none. value_in line >>= from_value in
-    then_ok (made domain) (framed line) from_line (λ none.
-    then_ok (made domain) (value_in line) from_value (λ d.
-    then_ok (made domain) (object_in (as_object d)) (from_object d) (λ ms. record_in-domain domain d ms)))
-
 pub spelled_record-domain : (domain line : List ℕ) (r : AuditRecord) → spelled_record domain line ≡ Ok r → r.batch.domain ≡ domain
-spelled_record-domain domain line r e =
-    let P : Read → Type 0 = λ x. IfOk x (made domain) in
-    subst P e (spelled_record-made domain line)
+unfolding spelled_record
+spelled_record-domain domain line r e = of_line-ok (made domain) (record_in domain) line r (record_in-domain domain) e

@@ -13,7 +13,7 @@ use Rattle.line_reading.specs.declared.event.EventKind.TheVariants as kind
 use Rattle.line_reading.specs.Codes.{key_name}
 use Rattle.line_reading.specs.Batches.{batch_alone_in}
 use Rattle.line_reading.specs.Fields.{◌>>=◌, beside, required, number_at, no_others}
-use Rattle.line_reading.specs.Requests.{framed, value_in, object_in}
+use Rattle.line_reading.specs.Requests.{of_line}
 
 -- ---- what happens to a call
 
@@ -62,11 +62,6 @@ event_in domain ids d ms = do
 
 -- ---- a line
 
--- Which event a line spells in a trust domain, the line with its LF where it has one. Beside the event stands what is left
--- of the ids: a line that spells none draws none.
+-- What a line spells in a trust domain: an event and what is left of the ids. A line that is refused draws none.
 unfoldable pub spelled_event : List ℕ → ChaCha → List ℕ → Result (Event × ChaCha) Fault
-spelled_event domain ids line = do
-  none ← framed line
-  d ← value_in line
-  ms ← object_in (as_object d)
-  event_in domain ids d ms
+spelled_event domain ids line = of_line (event_in domain ids) line

@@ -13,7 +13,7 @@ use Rattle.line_reading.specs.Batches.{batch_of, listed_in}
 use Rattle.line_reading.specs.Fields.{◌>>=◌, optional, number_in, number_at, required, no_others, unless_null}
 use Rattle.line_reading.specs.Ids.{first_ids}
 use Rattle.line_reading.specs.Operations.{ops_in}
-use Rattle.line_reading.specs.Requests.{framed, value_in, object_in}
+use Rattle.line_reading.specs.Requests.{of_line}
 
 -- ---- a record
 
@@ -66,10 +66,6 @@ record_in domain d ms = do
 
 -- ---- a line
 
--- Which record a line spells in a trust domain, the line with its LF where it has one.
+-- What a line spells in a trust domain: a record.
 unfoldable pub spelled_record : List ℕ → List ℕ → Result AuditRecord Fault
-spelled_record domain line = do
-  none ← framed line
-  d ← value_in line
-  ms ← object_in (as_object d)
-  record_in domain d ms
+spelled_record domain line = of_line (record_in domain) line

@@ -50,11 +50,14 @@ abbrev pub object_in : Option Members → Result Members Fault
 object_in None = at_line code.NotObject
 object_in (Some ms) = Ok ms
 
--- What a line spells in a trust domain, the line with its LF where it has one. Beside the request stands what is left of
--- the ids: a line that spells none draws none.
-unfoldable pub spelled : List ℕ → ChaCha → List ℕ → Result (Request × ChaCha) Fault
-spelled domain ids line = do
+-- what a line spells, with its LF if it has one, where the reader says what its object spells
+abbrev pub of_line : {A : Type 0} → (Data → Members → Result A Fault) → List ℕ → Result A Fault
+of_line reader line = do
   none ← framed line
   d ← value_in line
   ms ← object_in (as_object d)
-  request_in domain ids d ms
+  reader d ms
+
+-- What a line spells in a trust domain: a request and what is left of the ids. A line that is refused draws none.
+unfoldable pub spelled : List ℕ → ChaCha → List ℕ → Result (Request × ChaCha) Fault
+spelled domain ids line = of_line (request_in domain ids) line
