@@ -28,9 +28,9 @@ use Rattle.line_reading.specs.declared.fault.Code.{Code}
 use Rattle.line_reading.specs.declared.fault.Fault.{Fault}
 use Rattle.line_reading.specs.declared.fault.Field.{Field}
 use Rattle.line_reading.specs.declared.refusal.LineRefusal.{LineRefusal}
-use Rattle.reg_lines.specs.Refusals.{fault_json, failure_json, no_memory_json, op_member, refusal_json}
+use Rattle.reg_lines.specs.Refusals.{fault_json, failure_json, op_member, refusal_json, refused_line_json}
 use Rattle.reg_lines.specs.Replies.{agent_json, bundle_json, detail_member, dropped_json, entry_json, given_lifetime, lifetime_member, op_reply_json, selector_json, uuid_json, uuid_text, under, done_json, done_of, refused_json, outcome_json, reply_json, page_json, page_of, conflict_json}
-use Rattle.reg_lines.specs.Values.{whole, if_due, list_data, option_data, uuid_data, selector_data, agent_data, bundle_data, dropped_data, entry_data, op_reply_data, done_data, refused_data, outcome_data, reply_data, fault_data, failure_data, refusal_data, page_data, conflict_data}
+use Rattle.reg_lines.specs.Values.{whole, if_due, list_data, option_data, uuid_data, selector_data, agent_data, bundle_data, dropped_data, entry_data, op_reply_data, done_data, refused_data, outcome_data, reply_data, fault_data, failure_data, refusal_data, refused_line_data, page_data, conflict_data}
 
 same_for_all : (f g : ℕ → List ℕ) → ((b : ℕ) → f b ≡ g b) → (s : List ℕ) → flat_map f s ≡ flat_map g s
 same_for_all f g h [] = refl
@@ -263,12 +263,14 @@ fault_json-is line c None (Some n) = simp (append_assoc, text_json-is) refl
 fault_json-is line c (Some field) None = simp (append_assoc, text_json-is) refl
 fault_json-is line c (Some field) (Some n) = simp (append_assoc, text_json-is) refl
 
-no_memory_json-is : (line : ℕ) → no_memory_json line ≡ compact_text (failure_data line NoMemory)
-unfolding no_memory_json serde_json_on_literals
-no_memory_json-is line = simp append_assoc refl
+pub refused_line_json-is : (line : ℕ) (code : List ℕ) → refused_line_json line code ≡ compact_text (refused_line_data line code)
+unfolding refused_line_json serde_json_on_literals
+refused_line_json-is line code =
+    left-right (codes "{\"code\":") (text_json code ∷ codes ",\"line\":" ∷ decimal line ∷ codes "}" ∷ [])
+    ∙ simp text_json-is refl
 
 failure_json-is : (line : ℕ) (e : Failure Fault) → failure_json line e ≡ compact_text (failure_data line e)
-failure_json-is line NoMemory = no_memory_json-is line
+failure_json-is line NoMemory = refused_line_json-is line (codes "L6")
 failure_json-is line (Refused f) = fault_json-is line f.code f.field f.op
 
 pub refusal_json-is : (r : LineRefusal) → refusal_json r ≡ compact_text (refusal_data r)

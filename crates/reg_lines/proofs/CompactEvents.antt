@@ -14,12 +14,12 @@ use Rattle.call_answers.specs.declared.answer.Done.TheVariants.{Invoked, Begun, 
 use Rattle.call_answers.specs.declared.answer.CallAnswer.{CallAnswer}
 use Rattle.call_answers.specs.declared.answer.CallAnswer.TheVariants.{Replied, Conflict}
 use Rattle.reg_lines.specs.Replies.{answer_json}
-use Rattle.reg_lines.specs.EventAnswers.{begun_json, commit_json, decided_json, event_refusal_json, full_json, invoked_json, mark_json, order_json, status_json, stepped_json}
+use Rattle.reg_lines.specs.EventAnswers.{begun_json, commit_json, decided_json, full_json, invoked_json, mark_json, order_json, status_json, stepped_json}
 use Rattle.reg_lines.specs.EventValues.{answer_data, begun_data, commit_data, decided_data, full_data, invoked_data, stepped_data}
 use Rattle.reg_lines.specs.EventValues.{EventsAreCompact, EventsHaveNoFloat, EventRefusalsAreCompact, EventRefusalsHaveNoFloat, OrdersAreCompact, OrdersHaveNoFloat}
 use Rattle.reg_lines.specs.Json.{list_json, text_json}
 use Rattle.reg_lines.specs.Values.{list_data, whole}
-use Rattle.reg_lines.proofs.Compact.{text_json-is, list_json-is, left-right, reply_json-is, conflict_json-is, reply-no_float, conflict-no_float, list-no_float}
+use Rattle.reg_lines.proofs.Compact.{text_json-is, list_json-is, left-right, refused_line_json-is, reply_json-is, conflict_json-is, reply-no_float, conflict-no_float, list-no_float}
 
 -- ---- accepted events
 
@@ -86,10 +86,7 @@ event_json-is (Answered call answer) = answer_json-is call answer
 -- ---- refused events, and the order
 
 pub event_refusal_json-is : EventRefusalsAreCompact
-unfolding event_refusal_json serde_json_on_literals
-event_refusal_json-is line r =
-    left-right (codes "{\"code\":") (text_json (event_code r) ∷ codes ",\"line\":" ∷ decimal line ∷ codes "}" ∷ [])
-    ∙ simp text_json-is refl
+event_refusal_json-is line r = refused_line_json-is line (event_code r)
 
 numbers-are : (ns : List ℕ) → list_json decimal ns ≡ compact_text (list_data whole ns)
 unfolding serde_json_on_literals

@@ -1,4 +1,4 @@
--- Which lines answer events, and which one tells the order: compact text, the keys of each object in ascending order of their bytes.
+-- The lines that answer events, and the line with the order of the calls: compact text, the keys of each object in ascending order of their bytes.
 use Rattle.std.specs.Prelude.{ℕ, List, ◌++◌, codes, decimal}
 use Rattle.entry_book.specs.declared.limit.Limit.{Limit}
 use Rattle.entry_book.specs.Codes.{limit_code}
@@ -13,6 +13,7 @@ use Rattle.call_answers.specs.declared.answer.Done.{Done}
 use Rattle.call_answers.specs.declared.answer.Done.TheVariants.{Invoked, Begun, Stepped, Decided, Answered}
 use Rattle.call_events.specs.declared.event.EventRefusal.{EventRefusal}
 use Rattle.reg_lines.specs.Json.{list_json, text_json}
+use Rattle.reg_lines.specs.Refusals.{refused_line_json}
 use Rattle.reg_lines.specs.Replies.{answer_json, uuid_text}
 
 -- ---- what was read, and what a call waits for
@@ -90,8 +91,8 @@ event_json (Answered call answer) = answer_json call answer
 -- ---- refused events, and the order
 
 -- the event of the line of this number
-unfoldable pub event_refusal_json : ℕ → EventRefusal → List ℕ
-event_refusal_json line r = codes "{\"code\":" ++ text_json (event_code r) ++ codes ",\"line\":" ++ decimal line ++ codes "}"
+abbrev pub event_refusal_json : ℕ → EventRefusal → List ℕ
+event_refusal_json line r = refused_line_json line (event_code r)
 
 unfoldable pub order_json : List ℕ → List ℕ
 order_json calls = codes "{\"order\":" ++ list_json decimal calls ++ codes "}"

@@ -16,7 +16,7 @@ use Rattle.call_events.specs.declared.event.EventRefusal.{EventRefusal}
 use Rattle.call_answers.specs.declared.answer.CallAnswer.{CallAnswer}
 use Rattle.call_answers.specs.declared.answer.CallAnswer.TheVariants.{Replied, Conflict}
 use Rattle.reg_lines.specs.EventAnswers.{event_json, event_refusal_json, mark_text, order_json, status_text}
-use Rattle.reg_lines.specs.Values.{conflict_data, list_data, reply_data, whole}
+use Rattle.reg_lines.specs.Values.{conflict_data, list_data, refused_line_data, reply_data, whole}
 
 abbrev pub mark_data : MarkKind → Data
 mark_data m = string (mark_text m)
@@ -80,10 +80,7 @@ event_data (Answered call answer) = answer_data call answer
 -- ---- refused events, and the order
 
 abbrev pub event_refusal_data : ℕ → EventRefusal → Data
-event_refusal_data line r = object (
-    put (codes "code") (string (event_code r)) (
-    put (codes "line") (whole line)
-    no_members))
+event_refusal_data line r = refused_line_data line (event_code r)
 
 abbrev pub order_data : List ℕ → Data
 order_data calls = object (put (codes "order") (list_data whole calls) no_members)

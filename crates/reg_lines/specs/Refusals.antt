@@ -1,4 +1,4 @@
--- Which line tells that a line was refused.
+-- The line that reports the refusal of a line.
 use Rattle.std.specs.Prelude.{ℕ, List, [], ◌++◌, Option, None, Some, codes, decimal}
 use Rattle.spiffe_name.specs.declared.refusals.Failure.{Failure}
 use Rattle.spiffe_name.specs.declared.refusals.Failure.TheVariants.{NoMemory, Refused}
@@ -17,6 +17,10 @@ abbrev pub op_member : Option ℕ → List ℕ
 op_member None = []
 op_member (Some index) = codes ",\"op\":" ++ decimal index
 
+-- a refusal that has only its code
+unfoldable pub refused_line_json : ℕ → List ℕ → List ℕ
+refused_line_json line code = codes "{\"code\":" ++ text_json code ++ codes ",\"line\":" ++ decimal line ++ codes "}"
+
 unfoldable pub fault_json : ℕ → Fault → List ℕ
 fault_json line f =
     codes "{\"code\":" ++ text_json (code_text f.code)
@@ -25,8 +29,8 @@ fault_json line f =
     ++ op_member f.op
     ++ codes "}"
 
-unfoldable pub no_memory_json : ℕ → List ℕ
-no_memory_json line = codes "{\"code\":\"L6\",\"line\":" ++ decimal line ++ codes "}"
+abbrev pub no_memory_json : ℕ → List ℕ
+no_memory_json line = refused_line_json line (codes "L6")
 
 abbrev pub failure_json : ℕ → Failure Fault → List ℕ
 failure_json line NoMemory = no_memory_json line

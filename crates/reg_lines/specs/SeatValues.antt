@@ -1,16 +1,13 @@
 -- The JSON values that the lines of a seat's refusals are, and the law that they are printed as those values' compact text.
-use Rattle.std.specs.Prelude.{◌≡◌, ℕ, false, codes}
-use Rattle.serde_json.specs.Data.{Data, object, string, put, no_members}
+use Rattle.std.specs.Prelude.{◌≡◌, ℕ, false}
+use Rattle.serde_json.specs.Data.{Data}
 use Rattle.serde_json.specs.Written.{compact_text, has_float}
 use Rattle.reg_lines.specs.declared.printing.seats.SeatRefusal.{SeatRefusal}
 use Rattle.reg_lines.specs.SeatLines.{seat_code, seat_refusal_json}
-use Rattle.reg_lines.specs.Values.{whole}
+use Rattle.reg_lines.specs.Values.{refused_line_data}
 
 abbrev pub seat_refusal_data : ℕ → SeatRefusal → Data
-seat_refusal_data line r = object (
-    put (codes "code") (string (seat_code r)) (
-    put (codes "line") (whole line)
-    no_members))
+seat_refusal_data line r = refused_line_data line (seat_code r)
 
 -- ---- the law
 

@@ -150,6 +150,10 @@ conflict_data call place = object (
     put (codes "result") (string (codes "conflict"))
     no_members)))
 
+-- a refusal that has only its code
+abbrev pub refused_line_data : ℕ → List ℕ → Data
+refused_line_data line code = object (put (codes "code") (string code) (put (codes "line") (whole line) no_members))
+
 abbrev pub field_data : Field → Data
 field_data field = string (field_text field)
 
@@ -162,7 +166,7 @@ fault_data line f = object (
     no_members))))
 
 abbrev pub failure_data : ℕ → Failure Fault → Data
-failure_data line NoMemory = object (put (codes "code") (string (codes "L6")) (put (codes "line") (whole line) no_members))
+failure_data line NoMemory = refused_line_data line (codes "L6")
 failure_data line (Refused fault) = fault_data line fault
 
 abbrev pub refusal_data : LineRefusal → Data

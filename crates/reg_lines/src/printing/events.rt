@@ -1,10 +1,11 @@
-//! Which line answers an event, and which one tells the order?
+//! The lines that answer events, and the line with the order of the calls.
 
 ghost use Rattle.std.specs.Prelude.{◌≡◌};
 ghost use Rattle.reg_lines.specs.EventAnswers.{begun_json, commit_json, decided_json, event_json, event_refusal_json, full_json, invoked_json, order_json, status_json, status_text, stepped_json};
 ghost use Rattle.line_devices.specs.Stream.{Puts};
 
 use crate::printing::print_json::{PrintJson, print_list, print_number};
+use crate::printing::refusal::print_refused_line;
 use crate::printing::replies::AnsweredCall;
 use crate::printing::text::print_text;
 use batch_work::Status;
@@ -14,7 +15,7 @@ use entry_book::Limit;
 use line_devices::{Output, Sink};
 use version_book::Mark;
 
-/// The status in a word.
+/// Returns the word for the status.
 fn status_text(status: Status) -> &'static str
     ensures { result.now ≡ status_text status }
 {
@@ -87,7 +88,7 @@ fn print_stepped<S: Sink>(call: u64, read: &Mark, status: Status, output: &mut O
     output.put(b"}");
 }
 
-/// Prints what a commit came to.
+/// Prints the outcome of a commit.
 fn print_decided<S: Sink>(call: u64, decision: Decision, place: u64, output: &mut Output<S>)
     ensures { Puts output.old output.new (decided_json call decision place) }
 {
@@ -98,7 +99,7 @@ fn print_decided<S: Sink>(call: u64, decision: Decision, place: u64, output: &mu
     }
 }
 
-/// Prints what a commit that met no limit came to.
+/// Prints the outcome of a commit that met no limit.
 fn print_commit<S: Sink>(call: u64, decision_word: &str, place: u64, output: &mut Output<S>)
     ensures { Puts output.old output.new (commit_json call decision_word.now place) }
 {
@@ -111,7 +112,7 @@ fn print_commit<S: Sink>(call: u64, decision_word: &str, place: u64, output: &mu
     output.put(b"}");
 }
 
-/// Prints that a limit didn't let a commit in.
+/// Prints that a commit was refused because a limit is reached.
 fn print_full<S: Sink>(call: u64, limit: Limit, place: u64, output: &mut Output<S>)
     ensures { Puts output.old output.new (full_json call limit place) }
 {
@@ -126,7 +127,7 @@ fn print_full<S: Sink>(call: u64, limit: Limit, place: u64, output: &mut Output<
 
 /// Why an event was refused, with the number of its line.
 ///
-/// Printed it is an object with the refusal's `code` and the `line`. To print it takes no memory.
+/// Prints as an object with the refusal's `code` and the `line`. Printing allocates nothing.
 #[derive(Clone, Copy, Debug, PartialEq, Eq, Drop)]
 pub struct EventRefused {
     /// The line's number, counted from 1.
@@ -139,11 +140,7 @@ impl PrintJson for EventRefused {
     ghost text = { λ r. event_refusal_json r.line r.refusal };
 
     fn print_to<S: Sink>(&self, output: &mut Output<S>) {
-        output.put(b"{\"code\":");
-        print_text(self.refusal.code(), output);
-        output.put(b",\"line\":");
-        print_number(self.line, output);
-        output.put(b"}");
+        print_refused_line(self.line, self.refusal.code(), output);
     }
 }
 

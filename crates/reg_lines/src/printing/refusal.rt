@@ -1,6 +1,6 @@
-//! Which line tells that a line was refused?
+//! The line that reports the refusal of a line.
 
-ghost use Rattle.reg_lines.specs.Refusals.{fault_json, field_member, no_memory_json, op_member, refusal_json};
+ghost use Rattle.reg_lines.specs.Refusals.{fault_json, field_member, op_member, refusal_json, refused_line_json};
 ghost use Rattle.line_devices.specs.Stream.{Puts};
 
 use crate::printing::print_json::{PrintJson, print_number};
@@ -9,23 +9,26 @@ use line_devices::{Output, Sink};
 use line_reading::{Fault, Field, LineRefusal};
 use spiffe_name::Failure;
 
-/// An object with the refusal's `code` and the `line`, where due with the `field` and the `op`; where memory was wanting its code is
-/// L6. To print it takes no memory.
+/// An object with the refusal's `code` and the `line`, and with the `field` and the `op` if there are such. Out of memory has the
+/// code L6. Printing allocates nothing.
 impl PrintJson for LineRefusal {
     ghost text = { refusal_json };
 
     fn print_to<S: Sink>(&self, output: &mut Output<S>) {
         match &self.failure {
-            Failure::NoMemory => print_no_memory(self.line, output),
+            Failure::NoMemory => print_refused_line(self.line, "L6", output),
             Failure::Refused(fault) => print_fault(self.line, fault, output),
         }
     }
 }
 
-fn print_no_memory<S: Sink>(line: u64, output: &mut Output<S>)
-    ensures { Puts output.old output.new (no_memory_json line) }
+/// Prints a refusal that has only its code, with the number of its line.
+pub(crate) fn print_refused_line<S: Sink>(line: u64, code: &str, output: &mut Output<S>)
+    ensures { Puts output.old output.new (refused_line_json line code.now) }
 {
-    output.put(b"{\"code\":\"L6\",\"line\":");
+    output.put(b"{\"code\":");
+    print_text(code, output);
+    output.put(b",\"line\":");
     print_number(line, output);
     output.put(b"}");
 }
@@ -42,7 +45,7 @@ fn print_fault<S: Sink>(line: u64, fault: &Fault, output: &mut Output<S>)
     output.put(b"}");
 }
 
-/// Puts the key at which the fault lies, where it lies at one.
+/// Puts the key with the fault, if the fault is at a key.
 fn put_field<S: Sink>(field: &Option<Field>, output: &mut Output<S>)
     ensures { Puts output.old output.new (field_member field.now) }
 {
@@ -55,7 +58,7 @@ fn put_field<S: Sink>(field: &Option<Field>, output: &mut Output<S>)
     }
 }
 
-/// Puts the operation's index, where there is one.
+/// Puts the operation's index, if there is one.
 pub(crate) fn put_op<S: Sink>(op: Option<usize>, output: &mut Output<S>)
     ensures { Puts output.old output.new (op_member op) }
 {

@@ -1,23 +1,23 @@
-//! Which line tells that a seat has no answer to a request?
+//! The line that reports that a seat has no reply to a request.
 
 ghost use Rattle.std.specs.Prelude.{◌≡◌};
 ghost use Rattle.reg_lines.specs.SeatLines.{seat_code, seat_refusal_json};
 
-use crate::printing::print_json::{PrintJson, print_number};
-use crate::printing::text::print_text;
+use crate::printing::print_json::PrintJson;
+use crate::printing::refusal::print_refused_line;
 use line_devices::{Output, Sink};
 
-/// Why a seat of a shared registry has no answer to a request that its line spells.
+/// Why a seat of a shared registry has no reply to the request on a line.
 #[derive(Clone, Copy, Debug, PartialEq, Eq, Drop)]
 pub enum SeatRefusal {
     /// The seat has no call number left.
     Spent,
-    /// The registry didn't let the seat in.
+    /// The registry didn't admit the seat.
     NoEntry,
 }
 
 impl SeatRefusal {
-    /// The refusal's code, as it is printed.
+    /// Returns the refusal's code, as it is printed.
     pub fn code(self) -> &'static str
         ensures { result.now ≡ seat_code self }
     {
@@ -28,14 +28,14 @@ impl SeatRefusal {
     }
 }
 
-/// Why a seat has no answer to a request, with the number of its line.
+/// Why a seat has no reply to a request, with the number of its line.
 ///
-/// Printed it is an object with the refusal's `code` and the `line`. To print it takes no memory.
+/// Prints as an object with the refusal's `code` and the `line`. Printing allocates nothing.
 #[derive(Clone, Copy, Debug, PartialEq, Eq, Drop)]
 pub struct SeatRefused {
     /// The line's number, counted from 1.
     pub line: u64,
-    /// Why the seat has no answer.
+    /// Why the seat has no reply.
     pub refusal: SeatRefusal,
 }
 
@@ -43,10 +43,6 @@ impl PrintJson for SeatRefused {
     ghost text = { λ r. seat_refusal_json r.line r.refusal };
 
     fn print_to<S: Sink>(&self, output: &mut Output<S>) {
-        output.put(b"{\"code\":");
-        print_text(self.refusal.code(), output);
-        output.put(b",\"line\":");
-        print_number(self.line, output);
-        output.put(b"}");
+        print_refused_line(self.line, self.refusal.code(), output);
     }
 }

@@ -1,7 +1,7 @@
-use Rattle.reg_lines.specs.Refusals.{no_memory_json}
+use Rattle.reg_lines.specs.Refusals.{refused_line_json}
 use Rattle.reg_lines.proofs.Rows.{◌▸◌}
-use Rattle.reg_lines.proofs.printing.refusal.print_no_memory.Goals as goal
+use Rattle.reg_lines.proofs.printing.refusal.print_refused_line.Goals as goal
 
 pub returns : goal.returns
-unfolding no_memory_json
-returns g c = c.put.ensures ▸ c.print_number.ensures ▸ c.put-2.ensures
+unfolding refused_line_json
+returns g c = c.put.ensures ▸ c.print_text.ensures ▸ c.put-2.ensures ▸ c.print_number.ensures ▸ c.put-3.ensures
