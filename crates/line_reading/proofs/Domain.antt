@@ -1,4 +1,4 @@
--- The batch that a line spells in a trust domain was made for that domain.
+-- The batch of a request that a line parses to in a trust domain was made for that domain.
 use Rattle.std.proofs.Common.{◌≡◌, ℕ, List, Option, None, Some, Result, Ok, Err, refl, subst}
 use Rattle.std.specs.Prelude.{⊤, IfOk, [], ◌∷◌}
 use Rattle.rand_chacha.specs.ChaCha.{ChaCha}
@@ -16,7 +16,7 @@ use Rattle.line_reading.specs.Fields.{◌>>=◌, tries_at, no_others}
 use Rattle.line_reading.specs.Operations.{ops_in}
 use Rattle.line_reading.specs.Requests.{request_in, framed, value_in, object_in, of_line, spelled}
 
--- what holds of each value that the second reader gives holds of what both give
+-- a property of each value of the second reader is a property of each value of both in sequence
 pub then_ok : {A B : Type 0} (P : B → Type 0) (r : Result A Fault) (f : A → Result B Fault) → ((x : A) → IfOk (f x) P) → IfOk (r >>= f) P
 then_ok P (Ok x) f h = h x
 then_ok P (Err e) f h = tt
@@ -51,7 +51,7 @@ batch_in-domain domain ids listed =
 
 -- ---- a request
 
--- what holds of each value that the first reader gives, and then of what the second makes of it, holds of what both give
+-- the same if the second reader's values have it only for values of the first with a property, and the first reader's values have that
 pub both_ok : {A B : Type 0} (Q : A → Type 0) (P : B → Type 0) (r : Result A Fault) (f : A → Result B Fault) → IfOk r Q → ((x : A) → Q x → IfOk (f x) P) → IfOk (r >>= f) P
 both_ok Q P (Ok x) f q h = h x q
 both_ok Q P (Err e) f q h = tt
@@ -73,7 +73,7 @@ request_in-domain domain ids d ms =
 
 -- ---- a line
 
--- what holds of each value that a reader gives holds of what a line spells
+-- a property of each value of the reader is a property of what a line parses to with it
 pub of_line-ok : {A : Type 0} (P : A → Type 0) (reader : Data → Members → Result A Fault) (line : List ℕ) (x : A) → ((d : Data) (ms : Members) → IfOk (reader d ms) P) → of_line reader line ≡ Ok x → P x
 of_line-ok {A} P reader line x h e =
     let from_value : Data → Result A Fault = λ d. object_in (as_object d) >>= reader d in

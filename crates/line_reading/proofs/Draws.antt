@@ -1,4 +1,4 @@
--- Four words drawn one after another.
+-- Four words, drawn one after another.
 use Rattle.std.proofs.Common.{◌≡◌, ℕ, ◌+◌, ◌++◌, List, refl, ap, ◌∙◌, arith}
 use Rattle.std.specs.Prelude.{◌%◌, ◌^◌}
 use Rattle.std.proofs.Math.Nat.{mod-add-mod}
@@ -15,7 +15,7 @@ mod_once p n m k = mod-add-mod (p + n) k m ∙ ap (λ x. x % k) (let e : p + n +
 words_on-more : (n m : ℕ) (ids : ChaCha) → words_on m (words_on n ids) ≡ words_on (n + m) ids
 words_on-more n m ids = ap (λ p. record ids { word_pos = p }) (mod_once ids.word_pos n m (2 ^ 68))
 
--- the generator after one word more
+-- the generator after one more word
 one_more : (n : ℕ) (ids a b : ChaCha) (w : ℕ) → a ≡ words_on n ids → (w, b) ≡ next_word 10 a → b ≡ words_on (n + 1) ids
 one_more n ids a b w e d = ap (λ p. p.1) d ∙ (ap (words_on 1) e ∙ words_on-more n 1 ids)
 

@@ -1,4 +1,4 @@
--- What was read so far, in front of what is left.
+-- What was read so far, before the rest that is still to be read.
 use Rattle.std.proofs.Common.{◌≡◌, ℕ, List, [], ◌∷◌, ◌++◌, Result, Ok, Err, refl, sym, ap, ◌∙◌, append_assoc, ◌<◌, ◌≤◌, ◌+◌, length, get_or, drop}
 use Rattle.std.proofs.lemmas.List.{at_drop_more, at_drop_all, append-nil}
 use Rattle.rand_chacha.specs.ChaCha.{ChaCha}
@@ -42,7 +42,7 @@ module _ {X : Type 0} (one : Data → Result X Fault) (all : Items → Result (L
       → with_front front (all (items_view (drop i vs))) ≡ Err f
   items_in-stop vs i v front f l e a = ap (with_front front) (items_in-next vs i v l e ∙ ap (λ r. r >>= (λ x. all (items_view (drop (i + 1) vs)) >>= (λ xs. Ok (x ∷ xs)))) a)
 
-  -- a fault within the loop is that of the whole
+  -- a fault in the loop is the fault of the whole list
   pub items_in-refused : (vs : List Value) (i : ℕ) (v : Value) (front : List X) (e : Failure Fault) (whole : Result (List X) Fault) → i < length vs → v ≡ get_or vs i v → Fails e (one (view v))
       → with_front front (all (items_view (drop i vs))) ≡ whole → Fails e whole
   items_in-refused vs i v front NoMemory whole l e f k = tt
@@ -51,7 +51,7 @@ module _ {X : Type 0} (one : Data → Result X Fault) (all : Items → Result (L
   pub items_in-all : (vs : List Value) (i : ℕ) (front : List X) → length vs ≤ i → with_front front (all (items_view (drop i vs))) ≡ Ok front
   items_in-all vs i front l = ap (with_front front) (at_drop_all (λ ws. all (items_view ws)) vs i l ∙ end) ∙ ap (λ l. Ok l) (append-nil front)
 
--- ---- operations, beside what they leave of the ids
+-- ---- operations, with the ids that they leave
 
 abbrev pub with_ops : List Op → Result (List Op × ChaCha) Fault → Result (List Op × ChaCha) Fault
 with_ops front read = read >>= (λ r. Ok (front ++ r.0, r.1))
@@ -64,7 +64,7 @@ with_ops-more : (front : List Op) (op : Op) (read : Result (List Op × ChaCha) F
 with_ops-more front op (Ok r) = ap (λ l. Ok (l, r.1)) (sym (append_assoc front (op ∷ []) r.0))
 with_ops-more front op (Err e) = refl
 
--- what becomes of a create without an id is the same for all
+-- creates without an id are treated the same in all operations
 module _ (missing : MissingId) where
   -- the operations from this one on
   abbrev ops_from : ℕ → List Value → Result (Op × ChaCha) Fault → Result (List Op × ChaCha) Fault

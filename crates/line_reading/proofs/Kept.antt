@@ -1,4 +1,4 @@
--- What is kept of a line is enough.
+-- The bytes that are kept of a line determine what it parses to.
 use Rattle.std.proofs.Common.{◌≡◌, ◌+◌, ◌-◌, ◌<◌, ◌≤◌, ◌⊎◌, zero, suc, ℕ, Bool, true, false, ◌==◌, ◌&&◌, cond, List, [], ◌∷◌, length, take, refl, sym, ap, ◌∙◌, inl, inr, arith}
 use Rattle.std.proofs.lemmas.Bool.{false≢true}
 use Rattle.std.proofs.lemmas.Bool.Decides.{nat_tests}
@@ -48,12 +48,12 @@ limit_is : kept_bytes ≡ line_limit + 1
 unfolding kept_bytes line_limit
 limit_is = refl
 
--- a line of more bytes than may stand before its LF
+-- a line with more bytes before its LF than the limit is too long
 framed-long : (line : List ℕ) → line_limit < length (strip_last 10 line) → framed line ≡ at_line code.LineTooLong
 unfolding framed
 framed-long line l = ap (λ b. cond b (at_line code.LineTooLong) (cond (ends_with_byte 10 line) (Ok tt) (at_line code.Truncated))) (lt_true line_limit (length (strip_last 10 line)) l)
 
--- where no LF is among the bytes kept
+-- so are more bytes than the limit without an LF
 framed-cut : (bytes : List ℕ) → has_lf bytes ≡ false → line_limit < length bytes → framed bytes ≡ at_line code.LineTooLong
 framed-cut bytes none l =
     let e : strip_last 10 bytes ≡ bytes = ap (λ b. cond b (take (length bytes - 1) bytes) bytes) (ends_none bytes (ends_with_byte 10 bytes) refl none) in
@@ -69,7 +69,7 @@ take_none : (n : ℕ) (front : List ℕ) → has_lf front ≡ false → has_lf (
 take_none n front none =
     no_more _ (has_lf (drop n front)) (sym (list_any-append (λ b. b == 10) (take n front) (drop n front)) ∙ (ap has_lf (take-append-drop n front) ∙ none))
 
--- of a line whose LF comes later no LF is kept
+-- the first n bytes of a longer line have no LF
 cut_none : (n : ℕ) (line : List ℕ) → IsLine line → n < length line → has_lf (take n line) ≡ false
 cut_none n line (inl w) l =
     let e : length line ≡ length w.0 + 1 = ap length w.2 ∙ length-append w.0 (10 ∷ []) in

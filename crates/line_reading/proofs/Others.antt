@@ -1,4 +1,4 @@
--- Which key is refused where an object has others than those of the format: the least in the order of bytes.
+-- Which key is refused if an object has keys other than those of the format: the least in the order of bytes.
 use Rattle.std.proofs.Common.{◌≡◌, ℕ, true, false, cond, List, [], ◌∷◌, Option, None, Some, refl, sym, ap, subst, ◌∙◌, inl, inr, ⊎_elim}
 use Rattle.std.specs.Prelude.{String, ⊤, string_bytes}
 use Rattle.std.specs.List.{AllByRecursion}
@@ -41,9 +41,9 @@ none_between x m n h k = not_before x n (λ e. ⊎_elim
     (λ r. ⊎_elim (λ q. both_ways (is_before m n) k (subst (λ y. is_before y n ≡ true) (sym q) e)) (λ b. both_ways (is_before x m) h b) r)
     (before-total m x))
 
--- ---- where names ascend, the first is the least
+-- ---- if names ascend, the first is the least
 
--- k is before the name, where there is one
+-- k is before the name, if there is one
 abbrev Before : Bytes → Option Bytes → Type 0
 Before k None = ⊤
 Before k (Some name) = is_before k name ≡ true
@@ -97,7 +97,7 @@ known_is_passed keys m ms e =
     let rest = least_other keys (members_view ms) in
     ap (λ b. cond b rest (Some (lesser (string_bytes m.0) rest))) e
 
--- ---- the law
+-- ---- the theorem
 
 abbrev Told : List Key → Members → Option Bytes → Type 0
 Told keys ms None = (name : Bytes) → HasKey name ms → is_one_of keys name ≡ true

@@ -1,4 +1,4 @@
--- The batch of a record that a line spells in a trust domain was made for that domain.
+-- The batch of a record that a line parses to in a trust domain was made for that domain.
 use Rattle.std.proofs.Common.{◌≡◌, ℕ, List, [], ◌∷◌, Option, None, Some, Result, Ok, refl}
 use Rattle.std.specs.Prelude.{⊤, IfOk}
 use Rattle.rand_chacha.specs.ChaCha.{ChaCha}

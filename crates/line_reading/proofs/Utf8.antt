@@ -1,4 +1,4 @@
--- The value that a line's bytes are, from what was found of them.
+-- The JSON value of a line's bytes, from the result of the UTF-8 check.
 use Rattle.std.proofs.Common.{◌≡◌, ℕ, Bool, true, false, cond, List, Option, None, refl, ap, ◌∙◌}
 use Rattle.std.specs.Str.{IsUtf8, is_utf8}
 use Rattle.std.proofs.lemmas.Str.{IsUtf8-from_is_utf8, is_utf8-from_IsUtf8}

@@ -1,4 +1,5 @@
--- Which batch an object spells. An object that holds a batch has keys of the batch's own; a line that has further keys beside them looks at those next, and then come the operations.
+-- Which batch an object parses to. An object that holds a batch has the batch's own keys. The reader of a line with further keys reads
+-- those next; the operations come last.
 use Rattle.std.specs.Prelude.{ℕ, List, [], ◌∷◌, Option, Some, None, Result, Ok, Err, option_and_then, unwrap_or}
 use Rattle.serde_json.specs.Data.{Data, Items, Members}
 use Rattle.serde_json.specs.Find.{get, as_array}
@@ -18,7 +19,7 @@ use Rattle.line_reading.specs.Operations.{ops_in}
 
 -- ---- a batch's own keys
 
--- What stands there: the operations, as they are listed, the least place at which the batch may run, and its token, where it carries one.
+-- The values at these keys: the operations, not read yet; the smallest place at which the batch may run; and its token, if it has one.
 pub record Listed : Type 0 where
   pub items : Items
   pub after : ℕ
@@ -27,7 +28,7 @@ pub record Listed : Type 0 where
 unfoldable pub items_at : Data → Result Items Fault
 items_at d = required key.Ops (option_and_then as_array (get (key_name key.Ops) d))
 
--- it may run at every place by default
+-- the smallest place is 0 by default
 unfoldable pub listed_in : Data → Result Listed Fault
 listed_in d = do
   items ← items_at d
@@ -41,16 +42,16 @@ abbrev pub unless_refused : Option BatchRefusal → Batch → Result Batch Fault
 unless_refused None batch = Ok batch
 unless_refused (Some refusal) batch = Err (record { code = code.Batch refusal; field = None; op = batch_op refusal })
 
--- the batch of these operations for a trust domain
+-- the batch of these operations for a trust domain, or the fault with its refusal
 abbrev pub batch_of : List ℕ → List Op → ℕ → Option (List ℕ) → Result Batch Fault
 batch_of domain ops after token = unless_refused (batch_refusal domain ops token) (record { domain = domain; ops = ops; after = after; token = token })
 
--- a batch with a token can be sent again as it stands only where each new entry has its id
+-- a create without an id is refused if the batch has a token, so that the batch can be sent again unchanged
 abbrev pub missing_beside : Option (List ℕ) → MissingId
 missing_beside None = Drawn
 missing_beside (Some token) = Refused
 
--- the batch of what is listed, for a trust domain; beside it stands what is left of the ids
+-- the batch with these values for a trust domain, and the ids that are left
 unfoldable pub batch_in : List ℕ → ChaCha → Listed → Result (Batch × ChaCha) Fault
 batch_in domain ids listed = do
   ops ← ops_in 0 (missing_beside listed.token) ids listed.items

@@ -1,4 +1,4 @@
--- What an event's line spells: an event, or the first fault found. The order of the lines of each reader is the order of the format.
+-- Which event a line parses to, or the first fault found. The lines of each reader are in the order of the format's checks.
 use Rattle.std.specs.Prelude.{ℕ, List, [], ◌∷◌, Option, Some, None, Result, Ok, bytes_eq, codes, option_and_then, if◌then◌else◌}
 use Rattle.serde_json.specs.Data.{Data, Members}
 use Rattle.serde_json.specs.Find.{get, as_object, as_str}
@@ -15,7 +15,7 @@ use Rattle.line_reading.specs.Batches.{batch_alone_in}
 use Rattle.line_reading.specs.Fields.{◌>>=◌, beside, required, number_at, no_others}
 use Rattle.line_reading.specs.Requests.{of_line}
 
--- ---- what happens to a call
+-- ---- the kind of an event
 
 abbrev pub kind_of : List ℕ → Option EventKind
 kind_of text =
@@ -31,7 +31,7 @@ kind_at key d = required key (option_and_then kind_of (option_and_then as_str (g
 
 -- ---- an event
 
--- A batch is handed in. The keys of its object come after those of the line.
+-- An invoke. The keys of the line are checked before those of the batch's object.
 unfoldable pub invoke_in : List ℕ → ChaCha → ℕ → Data → Members → Result (Event × ChaCha) Fault
 invoke_in domain ids call d ms = do
   inner ← required key.Batch (get (key_name key.Batch) d)
@@ -40,7 +40,7 @@ invoke_in domain ids call d ms = do
   batch ← batch_alone_in domain ids inner members
   Ok (on.Invoke call batch.0, batch.1)
 
--- an event that has nothing but its call
+-- the event, if the line has no keys other than `event` and `call`
 unfoldable pub event_alone_in : Event → Members → Result Event Fault
 event_alone_in event ms = do
   none ← no_others (key.Event ∷ key.Call ∷ []) ms
@@ -53,7 +53,7 @@ event_of domain ids kind.Step call d ms = beside ids (event_alone_in (on.Step ca
 event_of domain ids kind.Commit call d ms = beside ids (event_alone_in (on.Commit call) ms)
 event_of domain ids kind.Reply call d ms = beside ids (event_alone_in (on.Reply call) ms)
 
--- Beside the event stands what is left of the ids.
+-- The event of an object, and the ids that are left.
 unfoldable pub event_in : List ℕ → ChaCha → Data → Members → Result (Event × ChaCha) Fault
 event_in domain ids d ms = do
   kind ← kind_at key.Event d
@@ -62,6 +62,7 @@ event_in domain ids d ms = do
 
 -- ---- a line
 
--- What a line spells in a trust domain: an event and what is left of the ids. A line that is refused draws none.
+-- The event that a line parses to in a trust domain, and the ids that are left. The line has its LF, if there is one. A fault comes
+-- without ids.
 unfoldable pub spelled_event : List ℕ → ChaCha → List ℕ → Result (Event × ChaCha) Fault
 spelled_event domain ids line = of_line (event_in domain ids) line

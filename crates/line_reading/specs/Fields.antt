@@ -1,4 +1,5 @@
--- What a value spells at its keys: a small reader for each kind of key, with the fault that it may find. A reader's lines stand in the order in which faults are looked for.
+-- The values at the keys of an object: a small reader for each kind of key, which gives the value or a fault. The lines of a reader are
+-- in the order in which it looks for faults.
 use Rattle.std.specs.Prelude.{◌≡◌, ◌⊎◌, ℕ, List, [], ◌∷◌, Option, Some, None, Result, Ok, Err, ⊤, Bool, false, true, ◌&&◌, not, nat_lt, is_some, option_and_then, unwrap_or, bytes_eq, codes, if◌then◌else◌}
 use Rattle.std.specs.List.{list_any}
 use Rattle.serde_json.specs.Data.{Data, Items, no_items, item, Members, no_members, member}
@@ -27,7 +28,8 @@ use Rattle.line_reading.specs.declared.ids.MissingId.TheVariants as missing
 use Rattle.line_reading.specs.Codes.{key_name}
 use Rattle.line_reading.specs.Ids.{given_or_drawn}
 
--- What a call answered, seen by view, is what is spelled; where memory was wanting nothing is said of it.
+-- The result of a function agrees with that of a reader, `spelled`: the same fault, or (`Gives`) a value with this view. Out of memory
+-- says nothing about `spelled`.
 abbrev pub Fails : {Y : Type 0} → Failure Fault → Result Y Fault → Type 0
 Fails NoMemory spelled = ⊤
 Fails (Refused fault) spelled = spelled ≡ Err fault
@@ -36,7 +38,7 @@ abbrev pub Gives : {X Y : Type 0} → (X → Y) → Result X (Failure Fault) →
 Gives view (Ok x) spelled = spelled ≡ Ok (view x)
 Gives view (Err e) spelled = Fails e spelled
 
--- one reader after another: the first fault ends it
+-- one reader after another; the first fault ends the sequence
 infixl 10 ◌>>=◌
 abbrev pub ◌>>=◌ : {A B : Type 0} → Result A Fault → (A → Result B Fault) → Result B Fault
 (Ok x) >>= f = f x
@@ -50,12 +52,12 @@ at_line c = Err (record { code = c; field = None; op = None })
 abbrev pub at_key : {A : Type 0} → Code → Key → Result A Fault
 at_key c key = Err (record { code = c; field = Some (Known key); op = None })
 
--- what has to stand at the key
+-- the value that must be at the key, or the fault `Field` at the key
 abbrev pub required : {A : Type 0} → Key → Option A → Result A Fault
 required key None = at_key code.Field key
 required key (Some x) = Ok x
 
--- the value, unless its text is refused
+-- the value, or a fault with this code at the key, if there is a code
 abbrev pub unless : {A : Type 0} → Option Code → Key → A → Result A Fault
 unless None key x = Ok x
 unless (Some c) key x = at_key c key
@@ -64,7 +66,7 @@ abbrev pub coded : {R : Type 0} → (R → Code) → Option R → Option Code
 coded f None = None
 coded f (Some r) = Some (f r)
 
--- what stands at an optional key: null counts as absent
+-- the value at an optional key; null counts as absent
 abbrev pub unless_null : Data → Option Data
 unless_null d = if is_some (as_null d) then None else Some d
 
@@ -86,7 +88,7 @@ text_at key d = required key (option_and_then as_str (get (key_name key) d))
 unfoldable pub optional_text_at : Key → Data → Result (Option (List ℕ)) Fault
 optional_text_at key d = optional (text_in key) (given_at key d)
 
--- what becomes of the entries that name a bundle
+-- the words for what happens to the entries that name a dropped bundle
 abbrev pub mode_of : List ℕ → Option DropMode
 mode_of text =
     if bytes_eq text (codes "restrict") then Some Restrict else (
@@ -100,7 +102,7 @@ mode_in key d = required key (option_and_then mode_of (as_str d))
 unfoldable pub optional_mode_at : Key → Data → Result (Option DropMode) Fault
 optional_mode_at key d = optional (mode_in key) (given_at key d)
 
--- how an entry's selectors have to stand to those of a filter
+-- the words for how the selectors of an entry are compared with those of a filter
 abbrev pub match_of : List ℕ → Option MatchMode
 match_of text =
     if bytes_eq text (codes "exact") then Some Exact else (
@@ -130,7 +132,7 @@ optional_number_at key d = optional (number_in key) (given_at key d)
 abbrev pub tries_of : ℕ → Option ℕ
 tries_of n = if nat_lt 0 n && not (nat_lt 16 n) then Some n else None
 
--- the same of an optional key: 1 where it is absent or null
+-- the number of tries at an optional key: 1 if it is absent or null
 unfoldable pub tries_at : Key → Data → Result ℕ Fault
 tries_at key d = do
   number ← optional_number_at key d
@@ -176,23 +178,23 @@ uuid_at key d = do
 unfoldable pub optional_uuid_at : Key → Data → Result (Option (List ℕ)) Fault
 optional_uuid_at key d = optional (uuid_in key) (given_at key d)
 
--- the id at the key, or one that is drawn, and what is left of the ids
+-- the id at an optional key, or else one that is drawn, and the ids that are left
 unfoldable pub uuid_or_drawn_at : ChaCha → Key → Data → Result (List ℕ × ChaCha) Fault
 uuid_or_drawn_at ids key d = do
   given ← optional (uuid_in key) (given_at key d)
   Ok (given_or_drawn given ids)
 
--- beside what a reader that draws no id gives stand all the ids
+-- the result of a reader that draws no id, with all the ids
 abbrev pub beside : {A : Type 0} → ChaCha → Result A Fault → Result (A × ChaCha) Fault
 beside ids (Ok x) = Ok (x, ids)
 beside ids (Err fault) = Err fault
 
--- the id at the key of something new: where it is missing it is drawn, or refused
+-- the id at the key of a new entry, and the ids that are left; a missing id is drawn, or refused
 abbrev pub new_uuid_at : MissingId → ChaCha → Key → Data → Result (List ℕ × ChaCha) Fault
 new_uuid_at missing.Drawn ids key d = uuid_or_drawn_at ids key d
 new_uuid_at missing.Refused ids key d = beside ids (uuid_at key d)
 
--- ---- lists are looked at item by item
+-- ---- lists, read item by item
 
 unfoldable pub selector_in : Key → Data → Result SelectorPair Fault
 selector_in key d = do
@@ -206,14 +208,14 @@ selectors_in key (item d ds) = do
   selectors ← selectors_in key ds
   Ok (selector ∷ selectors)
 
--- the set of the selectors that are listed
+-- the set of the selectors in the list at the key
 unfoldable pub selectors_at : Key → Data → Result (List SelectorPair) Fault
 selectors_at key d = do
   items ← required key (option_and_then as_array (get (key_name key) d))
   selectors ← selectors_in key items
   Ok (set_of selectors)
 
--- the same of a value, and of an optional key
+-- the same for a value, and for an optional key
 unfoldable pub selector_set_in : Key → Data → Result (List SelectorPair) Fault
 selector_set_in key d = do
   items ← required key (as_array d)
@@ -238,14 +240,14 @@ domains_in key (item d ds) = do
   domains ← domains_in key ds
   Ok (domain ∷ domains)
 
--- the set of the trust domains that are listed
+-- the set of the trust domains in the list
 unfoldable pub domain_set_in : Key → Data → Result (List (List ℕ)) Fault
 domain_set_in key d = do
   items ← required key (as_array d)
   domains ← domains_in key items
   Ok (domain_set domains)
 
--- nothing where the key is absent or null; an entry then has the empty set
+-- None if the key is absent or null; an entry then has the empty set
 unfoldable pub optional_domains_at : Key → Data → Result (Option (List (List ℕ))) Fault
 optional_domains_at key d = optional (domain_set_in key) (given_at key d)
 
@@ -259,7 +261,7 @@ abbrev pub lesser : List ℕ → Option (List ℕ) → List ℕ
 lesser name None = name
 lesser name (Some other) = if is_before other name then other else name
 
--- the least key that is none of these
+-- the least name that is not one of these keys, in the order of bytes
 abbrev pub least_other : List Key → Members → Option (List ℕ)
 least_other keys no_members = None
 least_other keys (member name d ms) = if is_one_of keys name then least_other keys ms else Some (lesser name (least_other keys ms))
@@ -268,11 +270,11 @@ abbrev pub unless_other : Option (List ℕ) → Result ⊤ Fault
 unless_other None = Ok tt
 unless_other (Some name) = Err (record { code = code.Field; field = Some (Unknown name); op = None })
 
--- no key but these: the least other one is refused
+-- refuses an object with keys other than these; the fault names the least other key
 abbrev pub no_others : List Key → Members → Result ⊤ Fault
 no_others keys ms = unless_other (least_other keys ms)
 
--- ---- what is known of the key that is refused
+-- ---- theorems on the key that is refused
 
 abbrev pub HasKey : List ℕ → Members → Type 0
 HasKey name no_members = ⊥
@@ -281,12 +283,12 @@ HasKey name (member other d ms) = (other ≡ name) ⊎ HasKey name ms
 abbrev pub HasOther : List Key → Members → List ℕ → Type 0
 HasOther keys ms name = HasKey name ms × (is_one_of keys name ≡ false)
 
--- it is a key that is none of these, and no such key is before it in the order of bytes
+-- the refused key is in the object and not one of these keys, and no other such key is before it in the order of bytes
 abbrev pub IsLeastOther : Type 0
 IsLeastOther = (keys : List Key) (ms : Members) (name : List ℕ) → least_other keys ms ≡ Some name
     → HasOther keys ms name × ((other : List ℕ) → HasOther keys ms other → is_before other name ≡ false)
 
--- where none is refused, each key is one of these
+-- if no key is refused, each key of the object is one of these
 abbrev pub HasNoOther : Type 0
 HasNoOther = (keys : List Key) (ms : Members) → least_other keys ms ≡ None
     → (name : List ℕ) → HasKey name ms → is_one_of keys name ≡ true

@@ -1,4 +1,4 @@
--- Which operation an object spells, or the first fault found in it. The order of the lines of each reader is the order of the format.
+-- Which operation an object parses to, or the first fault found in it. The lines of each reader are in the order of the format's checks.
 use Rattle.std.specs.Prelude.{ℕ, ◌+◌, List, [], ◌∷◌, Option, Some, None, Result, Ok, Err, bytes_eq, codes, unwrap_or, if◌then◌else◌}
 use Rattle.serde_json.specs.Data.{Data, Items, no_items, item, Members}
 use Rattle.serde_json.specs.Find.{as_object}
@@ -20,7 +20,7 @@ use Rattle.line_reading.specs.Fields.{◌>>=◌, at_key, beside, required, text_
 
 -- ---- entries
 
--- what is given of an entry beside its id; its hint is empty by default, it has no domains, and its expiry and both its lifetimes are 0
+-- the entry of this id; by default its hint and its set of domains are empty, and its expiry and both lifetimes are 0
 unfoldable pub entry_in : List ℕ → Data → Result NewEntry Fault
 entry_in id d = do
   parent ← id_at key.Parent d
@@ -33,7 +33,7 @@ entry_in id d = do
   jwt ← optional_number_at key.JwtSvidTtl d
   Ok (record { id = id; parent = parent; identity = identity; selectors = selectors; hint = unwrap_or hint []; domains = unwrap_or domains []; expiry = unwrap_or expiry 0; x509_svid_ttl = unwrap_or x509 0; jwt_svid_ttl = unwrap_or jwt 0 })
 
--- an entry that comes without an id draws one, or is refused; beside the operation stands what is left of the ids
+-- the create, and the ids that are left; if the entry has no id, one is drawn, or the entry is refused
 unfoldable pub create_in : MissingId → ChaCha → Data → Members → Result (Op × ChaCha) Fault
 create_in missing ids d ms = do
   id ← new_uuid_at missing ids key.Id d
@@ -68,7 +68,8 @@ children_in d ms = do
   none ← no_others (key.Op ∷ key.Parent ∷ []) ms
   Ok (Children parent)
 
--- a filter's question to selectors; by default the entry's contain those that are given, and without these there is no question
+-- a filter's condition on selectors: by default an entry's set contains the given ones; without selectors there is none, and a
+-- mode is a fault
 abbrev pub selector_match : Option (List SelectorPair) → Option MatchMode → Result (Option SelectorMatch) Fault
 selector_match None None = Ok None
 selector_match None (Some mode) = at_key code.Field key.Match
@@ -150,7 +151,7 @@ set_bundle_in d ms = do
   none ← no_others (key.Op ∷ key.Domain ∷ key.Text ∷ []) ms
   Ok (SetBundle domain text)
 
--- a bundle that entries name stays by default
+-- the mode is Restrict by default
 unfoldable pub drop_bundle_in : Data → Members → Result Op Fault
 drop_bundle_in d ms = do
   domain ← domain_at key.Domain d
@@ -158,9 +159,9 @@ drop_bundle_in d ms = do
   none ← no_others (key.Op ∷ key.Domain ∷ key.Mode ∷ []) ms
   Ok (DropBundle domain (unwrap_or mode Restrict))
 
--- ---- the operation of a name
+-- ---- operations by their names
 
--- one that draws no id
+-- an operation that draws no id
 abbrev pub undrawn_in : List ℕ → Data → Members → Result Op Fault
 undrawn_in name d ms =
     if bytes_eq name (codes "update") then update_in d ms else (
@@ -193,8 +194,8 @@ abbrev pub at_op : {A : Type 0} → ℕ → Result A Fault → Result A Fault
 at_op index (Ok x) = Ok x
 at_op index (Err fault) = Err (record { code = fault.code; field = fault.field; op = Some index })
 
--- operation by operation, counted from this index: what becomes of a create without an id, and the ids, of which what one
--- leaves is there for the next
+-- the operations of a list, of which the first has this index, and the ids that are left; each operation draws from the ids that the one
+-- before it left
 abbrev pub ops_in : ℕ → MissingId → ChaCha → Items → Result (List Op × ChaCha) Fault
 ops_in index missing ids no_items = Ok ([], ids)
 ops_in index missing ids (item d ds) = do

@@ -1,4 +1,4 @@
--- What a record that was read stands for.
+-- The audit record that a value of the type `Record` represents.
 use Rattle.serde_json.specs.View.{view}
 use Rattle.line_reading.specs.declared.record.Record.{Record}
 use Rattle.line_reading.specs.Records.{AuditRecord}

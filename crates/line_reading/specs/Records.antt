@@ -1,4 +1,4 @@
--- What a record's line spells: a call of a schedule, or the first fault found. The order of the lines of each reader is the order of the format.
+-- Which record of a call a line parses to, or the first fault found. The lines of each reader are in the order of the format's checks.
 use Rattle.std.specs.Prelude.{ℕ, List, [], ◌∷◌, replicate, Option, Result, Ok}
 use Rattle.serde_json.specs.Data.{Data, Members}
 use Rattle.serde_json.specs.Find.{get, as_object}
@@ -17,7 +17,8 @@ use Rattle.line_reading.specs.Requests.{of_line}
 
 -- ---- a record
 
--- What is told of a call: its batch, its number, the numbers of its invoke and of its reply among the accepted events, and its reply, which is an object. It says that the call hasn't replied by null.
+-- A call: its batch, its number, the numbers of its invoke and its reply among the accepted events, and its reply. `replied` is None if
+-- the call hasn't replied; the line then has null.
 pub record AuditRecord : Type 0 where
   pub batch : Batch
   pub call : ℕ
@@ -25,9 +26,9 @@ pub record AuditRecord : Type 0 where
   pub replied : Option ℕ
   pub reply : Data
 
--- ---- its keys
+-- ---- the keys of a record
 
--- a whole number, or null: what is missing is neither
+-- a whole number, or null; the key must be there
 unfoldable pub number_or_null_at : Key → Data → Result (Option ℕ) Fault
 number_or_null_at key d = do
   value ← required key (get (key_name key) d)
@@ -39,11 +40,11 @@ object_at key d = do
   members ← required key (as_object value)
   Ok value
 
--- The ids of which none is drawn: which ones they are makes no difference.
+-- Ids for a reader that draws none: any others would do.
 unfoldable pub no_ids : ChaCha
 no_ids = first_ids (replicate 32 0)
 
--- The batch of an object that has no further keys: each of its creates has its id.
+-- The batch of an object that has no further keys. Each of its creates must have an id.
 unfoldable pub recorded_batch_in : List ℕ → Data → Members → Result Batch Fault
 recorded_batch_in domain d ms = do
   listed ← listed_in d
@@ -51,7 +52,7 @@ recorded_batch_in domain d ms = do
   ops ← ops_in 0 Refused no_ids listed.items
   batch_of domain ops.0 listed.after listed.token
 
--- The keys of the batch's object come after those of the line.
+-- The keys of the line are checked before those of the batch's object.
 unfoldable pub record_in : List ℕ → Data → Members → Result AuditRecord Fault
 record_in domain d ms = do
   inner ← required key.Batch (get (key_name key.Batch) d)
@@ -66,6 +67,6 @@ record_in domain d ms = do
 
 -- ---- a line
 
--- What a line spells in a trust domain: a record.
+-- The record that a line parses to in a trust domain. The line has its LF, if there is one.
 unfoldable pub spelled_record : List ℕ → List ℕ → Result AuditRecord Fault
 spelled_record domain line = of_line (record_in domain) line

@@ -1,7 +1,8 @@
-//! Which batch does an object spell?
+//! Which batch does an object parse to?
 //!
-//! An object that holds a batch has keys of the batch's own, which [`listed_in`] reads; [`batch_in`] then reads the
-//! operations. A line that has further keys looks at them in between; [`batch_alone_in`] reads an object that has none.
+//! An object that holds a batch has the batch's own keys, which [`listed_in`] reads; [`batch_in`] then reads the
+//! operations. The reader of a line with further keys reads those in between. [`batch_alone_in`] reads an object that has
+//! none.
 
 ghost use Rattle.std.specs.Prelude.{◌≡◌};
 ghost use Rattle.serde_json.specs.View.{items_view, members_view, view};
@@ -18,18 +19,18 @@ use spiffe_name::{Failure, TrustDomain};
 use std::alloc::Global;
 use uuid::Uuid;
 
-/// What stands at a batch's own keys.
+/// The values at a batch's own keys.
 #[derive(Drop)]
 pub(crate) struct Listed<'a> {
-    /// The operations, as they are listed.
+    /// The operations, not read yet, in the order of the list.
     pub(super) items: &'a [Value],
-    /// The least place at which the batch may run.
+    /// The smallest place (commit number) at which the batch may run.
     pub(super) after: u64,
-    /// The token under which its commit is kept, where it carries one.
+    /// The token under which its commit is stored, if it has one.
     pub(super) token: Option<Uuid>,
 }
 
-/// The operations, as an object lists them.
+/// Returns the list of operations of an object.
 #[tactic(auto, unfolding(crate::specs::Batches::items_at))]
 fn items_at(object: &Value) -> Result<&[Value], Failure<Fault>>
     ensures { Gives (λ items. items_view items.now) result (items_at (view object.now)) }
@@ -40,7 +41,7 @@ fn items_at(object: &Value) -> Result<&[Value], Failure<Fault>>
     }
 }
 
-/// What an object has at a batch's own keys: the batch may run at every place by default.
+/// Reads a batch's own keys of an object. Without `after` the batch may run at any place.
 #[tactic(auto, unfolding(crate::specs::Batches::listed_in))]
 pub(crate) fn listed_in(object: &Value) -> Result<Listed<'_>, Failure<Fault>>
     ensures { Gives (λ listed. record {
@@ -59,7 +60,7 @@ pub(crate) fn listed_in(object: &Value) -> Result<Listed<'_>, Failure<Fault>>
     })
 }
 
-/// The batch of these operations.
+/// Makes the batch of these operations.
 pub(super) fn batch_of(
     alloc: Global,
     domain: &TrustDomain,
@@ -80,7 +81,7 @@ pub(super) fn batch_of(
     }
 }
 
-/// What becomes of a create without an id in a batch with this token, or with none.
+/// Returns whether a create without an id draws one or is refused, in a batch with this token, if any.
 fn missing_beside(token: &Option<Uuid>) -> MissingId
     ensures { result ≡ missing_beside token.now }
 {
@@ -90,7 +91,7 @@ fn missing_beside(token: &Option<Uuid>) -> MissingId
     }
 }
 
-/// The batch of what is listed, for a trust domain.
+/// Reads the operations, and makes the batch for a trust domain.
 #[tactic(auto, unfolding(crate::specs::Batches::batch_in))]
 pub(crate) fn batch_in(
     alloc: Global,
@@ -110,7 +111,7 @@ pub(crate) fn batch_in(
     batch_of(alloc, domain, ops, listed.after, listed.token)
 }
 
-/// The batch of an object that has no further keys.
+/// Reads the batch of an object that has no further keys.
 #[tactic(auto, unfolding(crate::specs::Batches::batch_alone_in))]
 pub(crate) fn batch_alone_in(
     alloc: Global,

@@ -1,4 +1,4 @@
-//! Which event does a line spell?
+//! Which event does a line parse to?
 
 ghost use Rattle.std.specs.Prelude.{◌≡◌, IfErr, IfOk, MatchResult, OnErr};
 ghost use Rattle.serde_json.specs.View.{members_view, view};
@@ -19,22 +19,22 @@ use serde_json::{Map, Value};
 use spiffe_name::{Failure, TrustDomain};
 use std::alloc::Global;
 
-/// What happens to a call.
+/// The kind of an event of a call.
 #[derive(Clone, Copy, Debug, PartialEq, Eq, Drop)]
 pub(crate) enum EventKind {
-    /// Its batch is handed in.
+    /// The call submits its batch.
     Invoke,
-    /// Its work begins.
+    /// The call begins to run its batch.
     Begin,
-    /// Its work makes its next read.
+    /// The call makes its next read.
     Step,
-    /// Its changes are to be committed.
+    /// The call asks to commit its changes.
     Commit,
-    /// Its answer is given out.
+    /// The call's answer is returned.
     Reply,
 }
 
-/// The kind of event that has this name.
+/// Returns the kind of event with this name.
 fn kind_of(word: &str) -> Option<EventKind>
     ensures { result ≡ kind_of word.now }
 {
@@ -56,7 +56,7 @@ fn kind_of(word: &str) -> Option<EventKind>
     None
 }
 
-/// The kind of event that is named at the key.
+/// Reads the kind of event at the key.
 #[tactic(auto, unfolding(crate::specs::Events::kind_at))]
 fn kind_at(object: &Value, key: Key) -> Result<EventKind, Failure<Fault>>
     ensures { Gives (λ kind. kind) result (kind_at key (view object.now)) }
@@ -70,7 +70,7 @@ fn kind_at(object: &Value, key: Key) -> Result<EventKind, Failure<Fault>>
     }
 }
 
-/// The call of this number is handed in with a batch, whose keys come after those of the line.
+/// Reads an invoke of the call of this number. The keys of the line are checked before those of the batch.
 #[tactic(auto, unfolding(crate::specs::Events::invoke_in))]
 fn invoke_in(
     alloc: Global,
@@ -94,7 +94,7 @@ fn invoke_in(
     Ok(Event::Invoke(call, batch))
 }
 
-/// An event that has nothing but its call.
+/// Returns the event, unless the line has keys other than `event` and `call`.
 #[tactic(auto, unfolding(crate::specs::Events::event_alone_in))]
 fn event_alone_in(event: Event, members: &Map<String, Value>) -> Result<Event, Failure<Fault>>
     ensures { Gives (λ e. e) result (event_alone_in event (members_view members.now.entries)) }
@@ -103,7 +103,7 @@ fn event_alone_in(event: Event, members: &Map<String, Value>) -> Result<Event, F
     Ok(event)
 }
 
-/// What happens to the call of this number.
+/// Reads the event of this kind, of the call of this number.
 fn event_of(
     alloc: Global,
     domain: &TrustDomain,
@@ -125,7 +125,7 @@ fn event_of(
     }
 }
 
-/// The event that an object spells.
+/// Reads the event of an object.
 #[tactic(auto, unfolding(crate::specs::Events::event_in))]
 fn event_in(
     alloc: Global,
@@ -142,7 +142,7 @@ fn event_in(
     event_of(alloc, domain, ids, kind, call, object, members)
 }
 
-/// What the line spells; if it is no event, the ids stay. The checks that take no memory come first.
+/// Reads the event of the line. On an error the ids are unchanged. The checks that take no memory come first.
 #[tactic(auto, unfolding(crate::specs::Events::spelled_event))]
 fn drawn_event(
     alloc: Global,
@@ -164,10 +164,10 @@ fn drawn_event(
     Ok(event)
 }
 
-/// Reads an event's line: its bytes with its LF where it has one (of a line over the limit the first 1,048,577 bytes are
-/// enough), and its number from 1. Each entry of its batch that comes without an id gets the next of the ids, as
-/// [`read_request`](crate::read_request) gives them. The error is the first fault found, or out of memory, with the line's
-/// number; the ids are then as before. It isn't out of memory for a line that is too long, has no LF or isn't UTF-8.
+/// Reads an event's line: its bytes with its LF, if it has one, and its number, counted from 1. Of a line over the limit
+/// the first 1,048,577 bytes are enough. Each entry of its batch without an id gets the next of the ids, as in
+/// [`read_request`](crate::read_request). The error is the first fault found, or out of memory, with the line's number; the
+/// ids are then unchanged. It isn't out of memory for a line that is too long, has no LF or isn't UTF-8.
 pub fn read_event(
     alloc: Global,
     domain: &TrustDomain,

@@ -10,31 +10,31 @@ use spiffe_name::{Failure, IdRefusal, SelectorRefusal};
 /// A key of the format.
 #[derive(Clone, Copy, Debug, PartialEq, Eq, Drop)]
 pub enum Key {
-    /// The operations of a batch.
+    /// The list of a batch's operations.
     Ops,
-    /// The least place at which a batch may run.
+    /// The smallest place (commit number) at which a batch may run.
     After,
-    /// The token under which a batch's commit is kept.
+    /// The token under which a batch's commit is stored.
     Token,
     /// How often a batch may be tried.
     Tries,
-    /// What happens to a call.
+    /// The kind of an event.
     Event,
     /// The number of a call.
     Call,
-    /// The batch that a call hands in.
+    /// The batch of a call.
     Batch,
-    /// When a call was invoked.
+    /// The event number of a call's invoke.
     Invoked,
-    /// When a call replied.
+    /// The event number of a call's reply.
     Replied,
-    /// What a call replied.
+    /// The reply to a call.
     Reply,
-    /// Which operation an object is.
+    /// The name of an operation.
     Op,
-    /// An entry's key.
+    /// An entry's id.
     Id,
-    /// The ID under which a workload is registered.
+    /// The ID of the agent, the server or the workload under which an entry is registered.
     Parent,
     /// The ID that a workload gets.
     Identity,
@@ -42,38 +42,38 @@ pub enum Key {
     Selectors,
     /// A text for the workload's own use.
     Hint,
-    /// The trust domains whose bundles a workload is given.
+    /// The trust domains whose bundles a workload gets.
     Domains,
-    /// When an entry expires.
+    /// The expiry of an entry, in seconds since the epoch; 0 for none.
     Expiry,
-    /// How long an X.509 document of the workload is good.
+    /// The lifetime of an X.509 SVID of the workload, in seconds; 0 for the server's default.
     X509SvidTtl,
-    /// How long a JWT of the workload is good.
+    /// The lifetime of a JWT SVID of the workload, in seconds; 0 for the server's default.
     JwtSvidTtl,
-    /// The revision that an entry is expected to have.
+    /// The expected revision of an entry.
     Revision,
     /// An agent's ID.
     Agent,
     /// A trust domain.
     Domain,
-    /// The moment before which entries are expired.
+    /// The moment before which the entries to prune expire, in seconds since the epoch.
     Before,
     /// A bundle's text.
     Text,
-    /// What becomes of the entries that name a dropped bundle.
+    /// What happens to the entries that name a dropped bundle.
     Mode,
-    /// How many entries a page lists at most.
+    /// The maximum number of entries of a page.
     Size,
-    /// The number of the book that a page reads.
+    /// The place (commit number) of the book that a page reads.
     At,
     /// The id after which a page begins.
     From,
-    /// How an entry's selectors have to stand to those of a filter.
+    /// How the selectors of an entry are compared with those of a filter.
     Match,
 }
 
 impl Key {
-    /// The key's text.
+    /// Returns the key's text.
     pub fn name(self) -> &'static str
         ensures { result.now ≡ key_name self }
     {
@@ -117,12 +117,12 @@ impl Key {
 pub enum Field {
     /// A key of the format.
     Known(Key),
-    /// A key that has no place where it stands.
+    /// A key that the object may not have.
     Unknown(Text),
 }
 
 impl Field {
-    /// The key's text.
+    /// Returns the key's text.
     pub fn name(&self) -> &str
         ensures { result.now ≡ field_text self.now }
     {
@@ -133,31 +133,31 @@ impl Field {
     }
 }
 
-/// Why a line spells nothing that can be answered.
+/// Why a line is not a valid request, event or record.
 #[derive(Clone, Copy, Debug, PartialEq, Eq, Drop)]
 pub enum Code {
     /// The line has over 1,048,576 bytes before its LF.
     LineTooLong,
-    /// The line is no JSON text in UTF-8, or its lists and objects lie in each other more than 127 deep.
+    /// The line isn't JSON text in UTF-8, or its arrays and objects are nested more than 127 deep.
     NotJson,
     /// The line has no LF at its end.
     Truncated,
-    /// The line is JSON, but no object.
+    /// The line is JSON, but not an object.
     NotObject,
-    /// A key is missing, unknown, of the wrong kind, or not one of its stated values.
+    /// A key is missing or unknown, or its value has the wrong type or isn't allowed there.
     Field,
-    /// A text is no UUID.
+    /// A text isn't a UUID.
     NotUuid,
-    /// A text is no SPIFFE ID, or no trust domain.
+    /// A text isn't a SPIFFE ID, or isn't a trust domain.
     Id(IdRefusal),
-    /// A text is no selector.
+    /// A text isn't a selector.
     Selector(SelectorRefusal),
-    /// The operations are no batch.
+    /// The operations and the token aren't a valid batch.
     Batch(BatchRefusal),
 }
 
 impl Code {
-    /// The code, as it is printed.
+    /// Returns the code, as it is printed.
     pub fn text(self) -> &'static str
         ensures { result.now ≡ code_text self }
     {
@@ -175,18 +175,18 @@ impl Code {
     }
 }
 
-/// What is wrong with a line: the first fault found.
+/// The first fault found in a line.
 #[derive(Drop)]
 pub struct Fault {
-    /// Why the line spells nothing that can be answered.
+    /// Why the line is not valid.
     pub code: Code,
-    /// The key at which the fault lies, where it lies at one.
+    /// The key at which the fault is, if it is at a key.
     pub field: Option<Field>,
-    /// The operation, counted from 0, in which the fault lies or to which it belongs.
+    /// The index, from 0, of the operation that has the fault, if it belongs to one.
     pub op: Option<usize>,
 }
 
-/// A fault found by a check that takes no memory.
+/// Converts a fault that was found by a check that takes no memory.
 impl From<Fault> for Failure<Fault> {
     ghost from_gives = { λ fault failure. failure ≡ Refused fault };
 

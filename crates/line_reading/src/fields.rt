@@ -1,7 +1,7 @@
-//! What does a value spell at its keys?
+//! Which values does an object have at its keys?
 //!
-//! A reader for each kind of key. Each answers the value, or the first fault, as the definition of its name says. What
-//! ends in `_in` reads a value for a key, what ends in `_at` the value at the key.
+//! There is a reader for each kind of key. Each returns the value or the first fault, as the definition of the same name
+//! says. Readers with names in `_in` read a value for a key; those in `_at` read the value at the key.
 
 ghost use Rattle.std.specs.Prelude.{◌≡◌, None, Some, option_map};
 ghost use Rattle.serde_json.specs.Find.{get};
@@ -26,7 +26,7 @@ use serde_json::{Map, Value};
 use spiffe_name::Failure;
 pub(crate) use texts::{optional_match_at, optional_mode_at, optional_text_at, text_at};
 
-/// A fault of the line as a whole.
+/// Returns a fault of the line as a whole.
 pub(crate) fn at_line(code: Code) -> Fault
     ensures { result ≡ record { code = code; field = None; op = None } }
 {
@@ -37,7 +37,7 @@ pub(crate) fn at_line(code: Code) -> Fault
     }
 }
 
-/// A fault at a key.
+/// Returns a fault at a key.
 pub(crate) fn at_key(code: Code, key: Key) -> Failure<Fault>
     ensures { result ≡ Refused (record { code = code; field = Some (Field.Known key); op = None }) }
 {
@@ -48,14 +48,14 @@ pub(crate) fn at_key(code: Code, key: Key) -> Failure<Fault>
     })
 }
 
-/// The value at a key of an object.
+/// Returns the value at a key of an object.
 pub(crate) fn value_at(object: &Value, key: Key) -> Option<&Value>
     ensures { option_map (λ v. view v.now) result ≡ get (key_name key) (view object.now) }
 {
     object.get(key.name())
 }
 
-/// The value at an optional key of an object, where null counts as absent.
+/// Returns the value at an optional key of an object; null counts as absent.
 fn given_at(object: &Value, key: Key) -> Option<&Value>
     ensures { option_map (λ v. view v.now) result ≡ given_at key (view object.now) }
 {
@@ -66,14 +66,14 @@ fn given_at(object: &Value, key: Key) -> Option<&Value>
     Some(value)
 }
 
-/// Is this the name of one of the keys?
+/// Returns true if one of the keys has this name.
 fn is_one_of(keys: &[Key], name: &str) -> bool
     ensures { result ≡ is_one_of keys.now name.now }
 {
     keys.iter().any(|key| key.name() == name)
 }
 
-/// Refuses the least key that is none of these, in the order of bytes.
+/// Refuses an object with keys other than these. The fault names the least other key, in the order of bytes.
 pub(crate) fn no_others(members: &Map<String, Value>, keys: &[Key]) -> Result<(), Failure<Fault>>
     ensures { Gives (λ _. tt) result (no_others keys.now (members_view members.now.entries)) }
 {
@@ -89,8 +89,8 @@ pub(crate) fn no_others(members: &Map<String, Value>, keys: &[Key]) -> Result<()
     Ok(())
 }
 
-/// Which unknown key is told: of those that an object has, the least in the order of bytes; and none only where it has
-/// none. This function has no code: it is a fact to cite.
+/// The unknown key that a fault names is the least that the object has, in the order of bytes; without such a fault, the
+/// object has no unknown key. This function does nothing at run time: its contract is the theorem.
 pub fn unknown_keys_law()
     ensures least { IsLeastOther }
     ensures none { HasNoOther }

@@ -1,4 +1,4 @@
-//! Which ids does a server give?
+//! Which ids does a server give to new entries?
 
 ghost use Rattle.std.specs.Prelude.{◌≡◌, ◌++◌};
 ghost use Rattle.std.specs.Int.{to_le_bytes, w32};
@@ -11,17 +11,17 @@ use std::alloc::AllocError;
 use std::marker::Model;
 use uuid::{Builder, Uuid};
 
-/// What becomes of a new entry that comes without an id?
+/// What happens to a new entry without an id.
 #[derive(Clone, Copy, Debug, PartialEq, Eq, Drop)]
 pub enum MissingId {
-    /// It draws one.
+    /// The server draws an id for it.
     Drawn,
-    /// It is refused.
+    /// The entry is refused.
     Refused,
 }
 
-/// The ids that a server gives to entries that come without one: version 4 UUIDs of the words of a ChaCha20 stream.
-/// A contract sees the generator: its key, its stream and the place of the next word.
+/// The ids that a server gives to entries without one: version 4 UUIDs of the words of a ChaCha20 stream. The model in
+/// contracts is the generator: its key, its stream and the position of its next word.
 #[derive(Drop)]
 pub struct Ids {
     words: ChaCha20Rng,
@@ -39,7 +39,7 @@ impl Ids {
     ghost use Rattle.std.specs.Prelude.{◌≡◌};
     ghost use Rattle.line_reading.specs.Ids.{after_id, first_ids, next_id, stream_ids};
 
-    /// The ids of a seed, by stream 0.
+    /// Returns the ids of a seed, from the start of stream 0.
     pub fn of_seed(seed: [u8; 32]) -> Ids
         ensures { result ≡ first_ids seed }
     {
@@ -48,7 +48,8 @@ impl Ids {
         }
     }
 
-    /// The ids of a seed by the stream of this number, one of 2^64; stream 0 is that of [`Ids::of_seed`].
+    /// Returns the ids of a seed, from the start of the stream of this number, one of 2^64. Stream 0 is that of
+    /// [`Ids::of_seed`].
     pub fn of_stream(seed: [u8; 32], stream: u64) -> Ids
         ensures { result ≡ stream_ids seed stream }
     {
@@ -57,7 +58,8 @@ impl Ids {
         Ids { words }
     }
 
-    /// The next id: four words, each as four bytes, least byte first, then version 4 and the variant.
+    /// Returns the next id: four words, each as four bytes in little-endian order, with the bits of version 4 and the
+    /// variant set.
     pub(crate) fn draw(&mut self) -> Uuid
         ensures id { result ≡ next_id self.old }
         ensures after { self.new ≡ after_id self.old }
@@ -80,15 +82,15 @@ impl Clone for Ids {
     }
 }
 
-/// Which words the ids of a stream are made of, that stream 0 is a seed's own, and the first id of the seed of zeros.
-/// This function has no code: it is a fact to cite.
+/// Which words of a stream each id is made of; that stream 0 is that of the seed; and the first id of the seed of zeros.
+/// This function does nothing at run time: its contract is the theorem.
 pub fn ids_law()
     ensures words { AreOfTheirWords }
     ensures zero { ZeroIsTheSeeds }
     ensures first { IsKnownFirst }
 {}
 
-/// The bytes of four words, least byte first.
+/// Returns the bytes of four words, each in little-endian order.
 fn bytes_of(first: u32, second: u32, third: u32, fourth: u32) -> [u8; 16]
     ensures { result ≡ to_le_bytes w32 first ++ to_le_bytes w32 second
         ++ to_le_bytes w32 third ++ to_le_bytes w32 fourth }

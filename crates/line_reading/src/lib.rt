@@ -1,21 +1,22 @@
-//! Which request, which event of a schedule, or which record of a call does a line spell?
+//! Which request, which event of a schedule, or which record of a call does a line parse to?
 //!
-//! - [`read_request`] says which [`Request`] a line spells, or why it spells none: a [`LineRefusal`] with the line's
-//!   number and the first [`Fault`] found, or want of memory. One definition, `spelled`, says both. A request has its
-//!   [`Tries`], 1 to 16; [`unknown_keys_law`] says which unknown key is told.
-//! - [`read_event`] says the same of the line of an event, for the machine of calls; `spelled_event` is its definition.
-//! - [`read_record`] says which [`Record`] of a call a line spells, for an audit; `spelled_record` is its definition.
-//! - [`Ids`] gives ids to entries that come without one; [`ids_law`] says which words of its stream they are made of.
-//! - [`kept_law`] says that what is kept of a line is enough.
+//! - [`read_request`] parses a line to a [`Request`]. The error is a [`LineRefusal`] with the line's number and the first
+//!   [`Fault`] found, or out of memory. One definition, `spelled`, says both. A request has its [`Tries`], 1 to 16;
+//!   [`unknown_keys_law`] says which unknown key a fault names.
+//! - [`read_event`] does the same for the line of an event of the machine of calls; `spelled_event` is its definition.
+//! - [`read_record`] parses a line to a [`Record`] of a call, for an audit; `spelled_record` is its definition.
+//! - [`Ids`] gives ids to entries without one; [`ids_law`] says which words of its stream they are made of.
+//! - [`kept_law`] says that the bytes kept of a line parse to what the whole line parses to.
 //!
-//! The definitions stand in `specs/`: what a line spells in `Requests`, `Events` and `Records`, of objects that hold a batch as
-//! `Batches` and `Operations` say, and of values at their keys as `Fields` says; the codes and keys in `Codes`; the ids in `Ids`.
+//! The definitions are in `specs/`. `Requests`, `Events` and `Records` define what a line parses to. `Batches` and
+//! `Operations` define what an object with a batch parses to, and `Fields` the values at the keys. `Codes` has the codes
+//! and keys, `Ids` the ids.
 //!
-//! - `fault`: what can be wrong with a line; `refusal`: the same of the line of a number.
-//! - `request`: a line, and a request's keys beside the batch; `tries`: how often a batch may be tried.
-//! - `event`: a line that tells what happens to a call; `record`: one that tells what became of it.
-//! - `batch`, `ops`: an object that holds a batch, and its operations; `ids`: the ids of entries that come without one.
-//! - `fields`: what a value spells at its keys; `kept_lines`: what is kept of a line.
+//! - `fault`: what can be wrong with a line; `refusal`: the same with the line's number.
+//! - `request`: a line, and a request's keys next to those of its batch; `tries`: how often a batch may be tried.
+//! - `event`: a line that is an event of a call; `record`: a line that reports a call with its reply.
+//! - `batch`, `ops`: an object that holds a batch, and its operations; `ids`: the ids for entries without one.
+//! - `fields`: the values at an object's keys; `kept_lines`: the bytes kept of a line.
 #![tactic(auto)]
 
 mod batch;

@@ -1,4 +1,4 @@
-//! Which operation does an object spell?
+//! Which operation does an object parse to?
 
 ghost use Rattle.std.specs.Prelude.{Some};
 ghost use Rattle.serde_json.specs.View.{items_view, members_view, view};
@@ -22,7 +22,7 @@ use serde_json::{Map, Value};
 use spiffe_name::Failure;
 use std::alloc::Global;
 
-/// The operation of this name, one that draws no id.
+/// Reads the operation of this name, which is not one that draws ids.
 fn undrawn_in(
     alloc: Global,
     name: &str,
@@ -77,7 +77,7 @@ fn undrawn_in(
     Err(at_key(Code::Field, Key::Op))
 }
 
-/// The operation of this name.
+/// Reads the operation of this name.
 fn named_op(
     alloc: Global,
     missing: MissingId,
@@ -111,7 +111,7 @@ fn op_in(
     named_op(alloc, missing, ids, name, object, members)
 }
 
-/// The operation of this index.
+/// Reads the operation of this index, which its faults carry.
 fn op_at(
     alloc: Global,
     missing: MissingId,
@@ -133,7 +133,7 @@ fn op_at(
     }
 }
 
-/// The operations of a list, in order.
+/// Reads the operations of a list, in order.
 pub(crate) fn ops_in(
     alloc: Global,
     missing: MissingId,

@@ -1,4 +1,4 @@
-//! Which record of a call does a line spell?
+//! Which record of a call does a line parse to?
 
 ghost use Rattle.std.specs.Prelude.{◌≡◌, IfErr, Ok, IfOk, MatchResult};
 ghost use Rattle.serde_json.specs.View.{members_view, view};
@@ -20,22 +20,22 @@ use serde_json::{Map, Value};
 use spiffe_name::{Failure, TrustDomain};
 use std::alloc::Global;
 
-/// What a record tells of a call.
+/// A call, as its record reports it.
 #[derive(Drop)]
 pub struct Record {
-    /// The batch that was handed in.
+    /// The batch of the call.
     pub batch: Batch,
     /// The number of the call.
     pub call: u64,
     /// The number of its invoke among the accepted events.
     pub invoked: u64,
-    /// That of its reply; none where it hasn't replied.
+    /// The number of its reply; `None` if it hasn't replied.
     pub replied: Option<u64>,
-    /// Its reply, an object.
+    /// Its reply; a record with a reply that isn't an object is refused.
     pub reply: Value,
 }
 
-/// The whole number at a key, or none where null stands there: the key can't be missing.
+/// Reads the whole number at a key, or `None` if the value is null. The key must be there.
 #[tactic(auto, unfolding(crate::specs::Records::number_or_null_at))]
 fn number_or_null_at(object: &Value, key: Key) -> Result<Option<u64>, Failure<Fault>>
     ensures { Gives (λ n. n) result (number_or_null_at key (view object.now)) }
@@ -49,7 +49,7 @@ fn number_or_null_at(object: &Value, key: Key) -> Result<Option<u64>, Failure<Fa
     Ok(Some(number_in(value, key)?))
 }
 
-/// The object at a key.
+/// Reads the object at a key.
 #[tactic(auto, unfolding(crate::specs::Records::object_at))]
 fn object_at(object: &Value, key: Key) -> Result<&Value, Failure<Fault>>
     ensures { Gives (λ value. view value.now) result (object_at key (view object.now)) }
@@ -63,7 +63,7 @@ fn object_at(object: &Value, key: Key) -> Result<&Value, Failure<Fault>>
     Ok(value)
 }
 
-/// The batch of an object of a record: each of its creates has its id.
+/// Reads the batch of a record's object. Each of its creates must have an id.
 #[tactic(auto, unfolding(crate::specs::Records::recorded_batch_in, crate::specs::Records::no_ids))]
 fn recorded_batch_in(
     alloc: Global,
@@ -81,7 +81,7 @@ fn recorded_batch_in(
     batch_of(alloc, domain, ops, listed.after, listed.token)
 }
 
-/// The record that an object spells.
+/// Reads the record of an object.
 #[tactic(auto, unfolding(crate::specs::Records::record_in))]
 fn record_in(
     alloc: Global,
@@ -122,7 +122,7 @@ fn record_in(
     })
 }
 
-/// What the line spells. The checks that take no memory come first.
+/// Reads the record of the line. The checks that take no memory come first.
 #[tactic(auto, unfolding(crate::specs::Records::spelled_record))]
 fn spelled_record(
     alloc: Global,
@@ -139,9 +139,9 @@ fn spelled_record(
     record_in(alloc, domain, &value, members)
 }
 
-/// Reads a record's line: its bytes with its LF where it has one (of a line over the limit the first 1,048,577 bytes are
-/// enough), and its number from 1. Each create of its batch has to have its id. The error is the first fault found, or out
-/// of memory, with the line's number. It isn't out of memory for a line that is too long, has no LF or isn't UTF-8.
+/// Reads a record's line: its bytes with its LF, if it has one, and its number, counted from 1. Of a line over the limit
+/// the first 1,048,577 bytes are enough. Each create of its batch must have an id. The error is the first fault found, or
+/// out of memory, with the line's number. It isn't out of memory for a line that is too long, has no LF or isn't UTF-8.
 pub fn read_record(
     alloc: Global,
     domain: &TrustDomain,

@@ -1,4 +1,4 @@
-//! Why has a line no reply?
+//! Why does a line have no reply?
 
 use crate::fault::Fault;
 use spiffe_name::Failure;
@@ -8,6 +8,6 @@ use spiffe_name::Failure;
 pub struct LineRefusal {
     /// The line's number, counted from 1.
     pub line: u64,
-    /// What is wrong with the line, or that memory was wanting while it was read, run or answered.
+    /// The line's fault, or that memory ran out while the line was read, run or answered.
     pub failure: Failure<Fault>,
 }

@@ -1,4 +1,4 @@
-//! Which request does a line spell?
+//! Which request does a line parse to?
 
 ghost use Rattle.std.specs.Prelude.{◌≡◌, IfErr, IfOk, MatchResult, OnErr, length};
 ghost use Rattle.std.specs.Io.BufRead.{ends_with_byte, strip_last};
@@ -20,13 +20,13 @@ use serde_json::{Map, Value};
 use spiffe_name::{Failure, TrustDomain};
 use std::alloc::Global;
 
-/// How many bytes may stand before a line's LF.
+/// The maximum number of bytes before a line's LF.
 const LINE_LIMIT: usize = 1_048_576;
 
-/// What a request line asks for.
+/// The content of a request line.
 #[derive(Drop)]
 pub struct Request {
-    /// The batch that is to be run.
+    /// The batch to run.
     pub batch: Batch,
     /// How often it may be tried.
     pub tries: Tries,
@@ -38,7 +38,7 @@ fn ends_with_lf(line: &[u8]) -> bool
     !line.is_empty() && line[line.len() - 1] == b'\n'
 }
 
-/// How many bytes stand before the LF.
+/// Returns the number of bytes before the LF.
 fn len_before_lf(line: &[u8]) -> usize
     ensures { result ≡ length (strip_last 10 line.now) }
 {
@@ -49,7 +49,7 @@ fn len_before_lf(line: &[u8]) -> usize
     }
 }
 
-/// Refuses a line that is too long, or has no LF. This takes no memory.
+/// Refuses a line that is too long or has no LF. This takes no memory.
 #[tactic(auto, unfolding(crate::specs::Requests::framed, crate::specs::Requests::line_limit))]
 pub(super) fn framed(line: &[u8]) -> Result<(), Fault>
     ensures { result ≡ framed line.now }
@@ -63,7 +63,7 @@ pub(super) fn framed(line: &[u8]) -> Result<(), Fault>
     Ok(())
 }
 
-/// The line's text: what isn't UTF-8 is no JSON. This takes no memory.
+/// Returns the line's text; a line that isn't UTF-8 isn't JSON. This takes no memory.
 pub(super) fn text_in(line: &[u8]) -> Result<&str, Fault>
     ensures { MatchResult result
         (λ text. (text.now ≡ line.now) × IsUtf8 line.now)
@@ -75,7 +75,7 @@ pub(super) fn text_in(line: &[u8]) -> Result<&str, Fault>
     }
 }
 
-/// The value that the text is.
+/// Parses the text as a JSON value.
 #[tactic(auto, unfolding(crate::specs::Requests::value_in))]
 pub(super) fn value_in(alloc: Global, text: &str) -> Result<Value, Failure<Fault>>
     ensures { Gives view result (value_in text.now) }
@@ -99,7 +99,7 @@ pub(super) fn object_in(value: &Value) -> Result<&Map<String, Value>, Failure<Fa
     }
 }
 
-/// The request that an object spells.
+/// Reads the request of an object.
 #[tactic(auto, unfolding(crate::specs::Requests::request_in))]
 fn request_in(
     alloc: Global,
@@ -118,7 +118,7 @@ fn request_in(
     Ok(Request { batch, tries })
 }
 
-/// What the line spells; if it is no request, the ids stay. The checks that take no memory come first.
+/// Reads the request of the line. On an error the ids are unchanged. The checks that take no memory come first.
 #[tactic(auto, unfolding(crate::specs::Requests::spelled))]
 fn drawn(
     alloc: Global,
@@ -140,10 +140,10 @@ fn drawn(
     Ok(request)
 }
 
-/// Reads a request line: its bytes with its LF where it has one (of a line over the limit the first 1,048,577 bytes
-/// are enough), and its number from 1. Each entry that comes without an id gets the next of the ids, unless its batch
-/// carries a token: then it is refused. The error is the first fault found, or out of memory, with the line's number;
-/// the ids are then as before. It isn't out of memory for a line that is too long, has no LF or isn't UTF-8.
+/// Reads a request line: its bytes with its LF, if it has one, and its number, counted from 1. Of a line over the limit the
+/// first 1,048,577 bytes are enough. Each entry without an id gets the next of the ids; if the batch has a token, such an
+/// entry is refused. The error is the first fault found, or out of memory, with the line's number; the ids are then
+/// unchanged. It isn't out of memory for a line that is too long, has no LF or isn't UTF-8.
 pub fn read_request(
     alloc: Global,
     domain: &TrustDomain,

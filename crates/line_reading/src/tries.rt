@@ -2,7 +2,7 @@
 
 use std::marker::Model;
 
-/// How often a batch may be tried: 1 to 16 times. A contract sees the number.
+/// How often a batch may be tried: 1 to 16 times. The model in contracts is the number.
 #[derive(Debug, Drop)]
 pub struct Tries {
     count: u64,
@@ -25,7 +25,7 @@ impl Tries {
     ghost use Rattle.std.specs.Prelude.{◌≡◌, ◌≤◌};
     ghost use Rattle.line_reading.specs.Fields.{tries_of};
 
-    /// This many tries, where that is 1 to 16.
+    /// Returns this number of tries, if it is 1 to 16.
     pub(crate) fn of(count: u64) -> Option<Tries>
         ensures { result ≡ tries_of count }
     {
@@ -36,7 +36,7 @@ impl Tries {
         }
     }
 
-    /// How many, 1 to 16.
+    /// Returns the number, 1 to 16.
     pub fn count(&self) -> u64
         ensures value { result ≡ self.now }
         ensures least { 1 ≤ result }

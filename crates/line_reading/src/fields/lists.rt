@@ -1,4 +1,4 @@
-//! Lists of names, each item looked at in its turn.
+//! Lists of names, read item by item.
 
 ghost use Rattle.std.specs.Prelude.{◌≡◌, IfOk};
 ghost use Rattle.serde_json.specs.View.{items_view, view};
@@ -14,7 +14,7 @@ use serde_json::Value;
 use spiffe_name::{Failure, Selector, SelectorSet, TrustDomain};
 use std::alloc::{AllocError, Global};
 
-/// The selector that an item of the key's list is.
+/// Reads an item of the key's list as a selector.
 #[tactic(auto, unfolding(crate::specs::Fields::selector_in))]
 fn selector_in(alloc: Global, item: &Value, key: Key) -> Result<Selector, Failure<Fault>>
     ensures { Gives (λ selector. selector) result (selector_in key (view item.now)) }
@@ -27,7 +27,7 @@ fn selector_in(alloc: Global, item: &Value, key: Key) -> Result<Selector, Failur
     }
 }
 
-/// The selectors that the items of the key's list are.
+/// Reads the items of the key's list as selectors.
 fn selectors_in(
     alloc: Global,
     items: &[Value],
@@ -42,7 +42,7 @@ fn selectors_in(
     Ok(selectors)
 }
 
-/// The set of the selectors that are listed at the key.
+/// Reads the list at the key as a set of selectors.
 #[tactic(auto, unfolding(crate::specs::Fields::selectors_at))]
 pub(crate) fn selectors_at(
     alloc: Global,
@@ -58,7 +58,7 @@ pub(crate) fn selectors_at(
     Ok(SelectorSet::of(selectors.into_vec())?)
 }
 
-/// The set of the selectors that the items of the key's list are.
+/// Reads a value, the list of the key, as a set of selectors.
 #[tactic(auto, unfolding(crate::specs::Fields::selector_set_in))]
 fn selector_set_in(alloc: Global, value: &Value, key: Key) -> Result<SelectorSet, Failure<Fault>>
     ensures { Gives (λ set. set) result (selector_set_in key (view value.now)) }
@@ -70,7 +70,7 @@ fn selector_set_in(alloc: Global, value: &Value, key: Key) -> Result<SelectorSet
     Ok(SelectorSet::of(selectors.into_vec())?)
 }
 
-/// The set of the selectors that are listed at an optional key.
+/// Reads the list at an optional key as a set of selectors.
 #[tactic(auto, unfolding(crate::specs::Fields::optional_selectors_at))]
 pub(crate) fn optional_selectors_at(
     alloc: Global,
@@ -85,7 +85,7 @@ pub(crate) fn optional_selectors_at(
     Ok(Some(selector_set_in(alloc, value, key)?))
 }
 
-/// The trust domain that an item of the key's list is.
+/// Reads an item of the key's list, or the key's value, as a trust domain.
 #[tactic(auto, unfolding(crate::specs::Fields::domain_in))]
 fn domain_in(alloc: Global, item: &Value, key: Key) -> Result<TrustDomain, Failure<Fault>>
     ensures { Gives (λ domain. domain) result (domain_in key (view item.now)) }
@@ -94,7 +94,7 @@ fn domain_in(alloc: Global, item: &Value, key: Key) -> Result<TrustDomain, Failu
     domain_of(alloc, text, key)
 }
 
-/// The trust domain at an optional key.
+/// Reads the trust domain at an optional key.
 #[tactic(auto, unfolding(crate::specs::Fields::optional_domain_at))]
 pub(crate) fn optional_domain_at(
     alloc: Global,
@@ -109,7 +109,7 @@ pub(crate) fn optional_domain_at(
     Ok(Some(domain_in(alloc, value, key)?))
 }
 
-/// The trust domains that the items of the key's list are.
+/// Reads the items of the key's list as trust domains.
 fn domains_in(
     alloc: Global,
     items: &[Value],
@@ -124,14 +124,14 @@ fn domains_in(
     Ok(domains)
 }
 
-/// The set of these trust domains.
+/// Returns the set of these trust domains. The error is out of memory.
 fn domain_set(alloc: Global, domains: Sequence<TrustDomain>) -> Result<DomainSet, AllocError>
     ensures { IfOk result (λ set. set ≡ domain_set domains) }
 {
     Ok(DomainSet::of(alloc, domains.into_vec())?)
 }
 
-/// The set of the trust domains that the items of the key's list are.
+/// Reads a value, the list of the key, as a set of trust domains.
 #[tactic(auto, unfolding(crate::specs::Fields::domain_set_in))]
 fn domain_set_in(alloc: Global, value: &Value, key: Key) -> Result<DomainSet, Failure<Fault>>
     ensures { Gives (λ set. set) result (domain_set_in key (view value.now)) }
@@ -143,7 +143,7 @@ fn domain_set_in(alloc: Global, value: &Value, key: Key) -> Result<DomainSet, Fa
     Ok(domain_set(alloc, domains)?)
 }
 
-/// The set of the trust domains that are listed at an optional key.
+/// Reads the list at an optional key as a set of trust domains.
 #[tactic(auto, unfolding(crate::specs::Fields::optional_domains_at))]
 pub(crate) fn optional_domains_at(
     alloc: Global,

@@ -13,7 +13,7 @@ use spiffe_name::{Failure, SpiffeId, TrustDomain};
 use std::alloc::Global;
 use uuid::Uuid;
 
-/// The SPIFFE ID at the key.
+/// Reads the SPIFFE ID at the key.
 #[tactic(auto, unfolding(crate::specs::Fields::id_at))]
 pub(crate) fn id_at(alloc: Global, object: &Value, key: Key) -> Result<SpiffeId, Failure<Fault>>
     ensures { Gives (λ id. id) result (id_at key (view object.now)) }
@@ -26,7 +26,7 @@ pub(crate) fn id_at(alloc: Global, object: &Value, key: Key) -> Result<SpiffeId,
     }
 }
 
-/// The SPIFFE ID that a value is.
+/// Reads a value as a SPIFFE ID.
 #[tactic(auto, unfolding(crate::specs::Fields::id_in))]
 fn id_in(alloc: Global, value: &Value, key: Key) -> Result<SpiffeId, Failure<Fault>>
     ensures { Gives (λ id. id) result (id_in key (view value.now)) }
@@ -39,7 +39,7 @@ fn id_in(alloc: Global, value: &Value, key: Key) -> Result<SpiffeId, Failure<Fau
     }
 }
 
-/// The SPIFFE ID at an optional key.
+/// Reads the SPIFFE ID at an optional key.
 #[tactic(auto, unfolding(crate::specs::Fields::optional_id_at))]
 pub(crate) fn optional_id_at(
     alloc: Global,
@@ -54,7 +54,7 @@ pub(crate) fn optional_id_at(
     Ok(Some(id_in(alloc, value, key)?))
 }
 
-/// The trust domain of this text.
+/// Parses a text as a trust domain.
 pub(super) fn domain_of(alloc: Global, text: &str, key: Key) -> Result<TrustDomain, Failure<Fault>>
     ensures { Gives (λ domain. domain) result (domain_of key text.now) }
 {
@@ -65,7 +65,7 @@ pub(super) fn domain_of(alloc: Global, text: &str, key: Key) -> Result<TrustDoma
     }
 }
 
-/// The trust domain at the key.
+/// Reads the trust domain at the key.
 #[tactic(auto, unfolding(crate::specs::Fields::domain_at))]
 pub(crate) fn domain_at(
     alloc: Global,
@@ -78,7 +78,7 @@ pub(crate) fn domain_at(
     domain_of(alloc, text, key)
 }
 
-/// The UUID of this text.
+/// Parses a text as a UUID.
 fn uuid_of(text: &str, key: Key) -> Result<Uuid, Failure<Fault>>
     ensures { Gives (λ id. id) result (uuid_of key (parsed text.now)) }
 {
@@ -88,7 +88,7 @@ fn uuid_of(text: &str, key: Key) -> Result<Uuid, Failure<Fault>>
     }
 }
 
-/// The UUID that a value is.
+/// Reads a value as a UUID.
 #[tactic(auto, unfolding(crate::specs::Fields::uuid_in))]
 fn uuid_in(value: &Value, key: Key) -> Result<Uuid, Failure<Fault>>
     ensures { Gives (λ id. id) result (uuid_in key (view value.now)) }
@@ -97,7 +97,7 @@ fn uuid_in(value: &Value, key: Key) -> Result<Uuid, Failure<Fault>>
     uuid_of(text, key)
 }
 
-/// The UUID at the key.
+/// Reads the UUID at the key.
 #[tactic(auto, unfolding(crate::specs::Fields::uuid_at))]
 pub(crate) fn uuid_at(object: &Value, key: Key) -> Result<Uuid, Failure<Fault>>
     ensures { Gives (λ id. id) result (uuid_at key (view object.now)) }
@@ -106,7 +106,7 @@ pub(crate) fn uuid_at(object: &Value, key: Key) -> Result<Uuid, Failure<Fault>>
     uuid_of(text, key)
 }
 
-/// The UUID at an optional key.
+/// Reads the UUID at an optional key.
 #[tactic(auto, unfolding(crate::specs::Fields::optional_uuid_at))]
 pub(crate) fn optional_uuid_at(object: &Value, key: Key) -> Result<Option<Uuid>, Failure<Fault>>
     ensures { Gives (λ id. id) result (optional_uuid_at key (view object.now)) }
@@ -117,7 +117,7 @@ pub(crate) fn optional_uuid_at(object: &Value, key: Key) -> Result<Option<Uuid>,
     Ok(Some(uuid_in(value, key)?))
 }
 
-/// The UUID at an optional key, or else one that is drawn.
+/// Reads the UUID at an optional key, or draws one.
 #[tactic(auto, unfolding(crate::specs::Fields::uuid_or_drawn_at))]
 fn uuid_or_drawn_at(ids: &mut Ids, object: &Value, key: Key) -> Result<Uuid, Failure<Fault>>
     ensures { Gives (λ id. (id, ids.new)) result (uuid_or_drawn_at ids.old key (view object.now)) }
@@ -128,7 +128,7 @@ fn uuid_or_drawn_at(ids: &mut Ids, object: &Value, key: Key) -> Result<Uuid, Fai
     }
 }
 
-/// The UUID at the key of something new: where it is missing, it is drawn, or refused.
+/// Reads the UUID at the key of a new entry. A missing one is drawn or refused.
 pub(crate) fn new_uuid_at(
     missing: MissingId,
     ids: &mut Ids,

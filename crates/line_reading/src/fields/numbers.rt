@@ -9,7 +9,7 @@ use crate::tries::Tries;
 use serde_json::Value;
 use spiffe_name::Failure;
 
-/// The whole number that a value is.
+/// Reads a value as a whole number of 64 bits.
 #[tactic(auto, unfolding(crate::specs::Fields::number_in))]
 pub(crate) fn number_in(value: &Value, key: Key) -> Result<u64, Failure<Fault>>
     ensures { Gives (λ n. n) result (number_in key (view value.now)) }
@@ -20,7 +20,7 @@ pub(crate) fn number_in(value: &Value, key: Key) -> Result<u64, Failure<Fault>>
     }
 }
 
-/// The whole number at the key.
+/// Reads the whole number at the key.
 #[tactic(auto, unfolding(crate::specs::Fields::number_at))]
 pub(crate) fn number_at(object: &Value, key: Key) -> Result<u64, Failure<Fault>>
     ensures { Gives (λ n. n) result (number_at key (view object.now)) }
@@ -31,7 +31,7 @@ pub(crate) fn number_at(object: &Value, key: Key) -> Result<u64, Failure<Fault>>
     }
 }
 
-/// The whole number at an optional key.
+/// Reads the whole number at an optional key.
 #[tactic(auto, unfolding(crate::specs::Fields::optional_number_at))]
 pub(crate) fn optional_number_at(object: &Value, key: Key) -> Result<Option<u64>, Failure<Fault>>
     ensures { Gives (λ n. n) result (optional_number_at key (view object.now)) }
@@ -42,7 +42,7 @@ pub(crate) fn optional_number_at(object: &Value, key: Key) -> Result<Option<u64>
     Ok(Some(number_in(value, key)?))
 }
 
-/// How often a batch may be tried: 1 to 16 times, once where the key is absent.
+/// Reads how often a batch may be tried: 1 to 16 times, and once if the key is absent or null.
 #[tactic(auto, unfolding(crate::specs::Fields::tries_at))]
 pub(crate) fn tries_at(object: &Value, key: Key) -> Result<Tries, Failure<Fault>>
     ensures { Gives (λ tries. tries) result (tries_at key (view object.now)) }

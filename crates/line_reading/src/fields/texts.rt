@@ -1,4 +1,4 @@
-//! Texts, and words of a short list.
+//! Texts, and words of a fixed list.
 
 ghost use Rattle.std.specs.Prelude.{◌≡◌, option_map};
 ghost use Rattle.serde_json.specs.View.{view};
@@ -11,7 +11,7 @@ use serde_json::Value;
 use spiffe_name::Failure;
 use std::alloc::Global;
 
-/// The text that a value is.
+/// Reads a value as a text.
 #[tactic(auto, unfolding(crate::specs::Fields::text_in))]
 pub(super) fn text_in(value: &Value, key: Key) -> Result<&str, Failure<Fault>>
     ensures { Gives (λ s. s.now) result (text_in key (view value.now)) }
@@ -22,7 +22,7 @@ pub(super) fn text_in(value: &Value, key: Key) -> Result<&str, Failure<Fault>>
     }
 }
 
-/// The text at the key.
+/// Reads the text at the key.
 #[tactic(auto, unfolding(crate::specs::Fields::text_at))]
 pub(crate) fn text_at(object: &Value, key: Key) -> Result<&str, Failure<Fault>>
     ensures { Gives (λ s. s.now) result (text_at key (view object.now)) }
@@ -33,7 +33,7 @@ pub(crate) fn text_at(object: &Value, key: Key) -> Result<&str, Failure<Fault>>
     }
 }
 
-/// The text at an optional key.
+/// Reads the text at an optional key.
 #[tactic(auto, unfolding(crate::specs::Fields::optional_text_at))]
 pub(crate) fn optional_text_at(
     alloc: Global,
@@ -49,7 +49,7 @@ pub(crate) fn optional_text_at(
     Ok(Some(Text::of(String::from_str(alloc, text)?)))
 }
 
-/// The mode of this name.
+/// Returns the drop mode with this name.
 fn mode_of(word: &str) -> Option<DropMode>
     ensures { result ≡ mode_of word.now }
 {
@@ -65,7 +65,7 @@ fn mode_of(word: &str) -> Option<DropMode>
     None
 }
 
-/// The mode that a value names.
+/// Reads a value as a drop mode.
 #[tactic(auto, unfolding(crate::specs::Fields::mode_in))]
 fn mode_in(value: &Value, key: Key) -> Result<DropMode, Failure<Fault>>
     ensures { Gives (λ mode. mode) result (mode_in key (view value.now)) }
@@ -76,7 +76,7 @@ fn mode_in(value: &Value, key: Key) -> Result<DropMode, Failure<Fault>>
     }
 }
 
-/// The mode at an optional key.
+/// Reads the drop mode at an optional key.
 #[tactic(auto, unfolding(crate::specs::Fields::optional_mode_at))]
 pub(crate) fn optional_mode_at(object: &Value, key: Key) -> Result<Option<DropMode>, Failure<Fault>>
     ensures { Gives (λ mode. mode) result (optional_mode_at key (view object.now)) }
@@ -87,7 +87,7 @@ pub(crate) fn optional_mode_at(object: &Value, key: Key) -> Result<Option<DropMo
     Ok(Some(mode_in(value, key)?))
 }
 
-/// The way to match that has this name.
+/// Returns the match mode with this name.
 fn match_of(word: &str) -> Option<MatchMode>
     ensures { result ≡ match_of word.now }
 {
@@ -106,7 +106,7 @@ fn match_of(word: &str) -> Option<MatchMode>
     None
 }
 
-/// The way to match that a value names.
+/// Reads a value as a match mode.
 #[tactic(auto, unfolding(crate::specs::Fields::match_in))]
 fn match_in(value: &Value, key: Key) -> Result<MatchMode, Failure<Fault>>
     ensures { Gives (λ mode. mode) result (match_in key (view value.now)) }
@@ -117,7 +117,7 @@ fn match_in(value: &Value, key: Key) -> Result<MatchMode, Failure<Fault>>
     }
 }
 
-/// The way to match at an optional key.
+/// Reads the match mode at an optional key.
 #[tactic(auto, unfolding(crate::specs::Fields::optional_match_at))]
 pub(crate) fn optional_match_at(
     object: &Value,

@@ -11,7 +11,7 @@ use serde_json::{Map, Value};
 use spiffe_name::{Failure, SpiffeId};
 use std::alloc::Global;
 
-/// The one key of an operation that only names an agent.
+/// Reads the one key of an operation that only names an agent.
 #[tactic(auto, unfolding(crate::specs::Operations::agent_in))]
 fn agent_in(
     alloc: Global,

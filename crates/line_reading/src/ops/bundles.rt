@@ -41,7 +41,7 @@ pub(super) fn set_bundle_in(
     Ok(Op::SetBundle(Shared::of(alloc, domain)?, Shared::of(alloc, text)?))
 }
 
-/// Without a mode, a bundle that entries name stays.
+/// Reads a drop of a bundle. The mode is `restrict` by default, which refuses to drop a bundle that entries name.
 #[tactic(auto, unfolding(crate::specs::Operations::drop_bundle_in))]
 pub(super) fn drop_bundle_in(
     alloc: Global,

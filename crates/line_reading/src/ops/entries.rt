@@ -16,8 +16,8 @@ use spiffe_name::Failure;
 use std::alloc::Global;
 use uuid::Uuid;
 
-/// What is given of the entry of this id: without them, its hint is empty, it has no domains, and its expiry and both its
-/// lifetimes are 0.
+/// Reads the fields of the entry with this id. By default its hint and its set of domains are empty, and its expiry and
+/// both lifetimes are 0.
 #[tactic(auto, unfolding(crate::specs::Operations::entry_in))]
 fn entry_in(alloc: Global, id: Uuid, object: &Value) -> Result<NewEntry, Failure<Fault>>
     ensures { Gives (λ entry. entry) result (entry_in id (view object.now)) }
@@ -43,7 +43,7 @@ fn entry_in(alloc: Global, id: Uuid, object: &Value) -> Result<NewEntry, Failure
     })
 }
 
-/// An entry that comes without an id draws one, or is refused.
+/// Reads the create of an entry. If its id is missing, one is drawn, or the entry is refused.
 #[tactic(auto, unfolding(crate::specs::Operations::create_in))]
 pub(super) fn create_in(
     alloc: Global,

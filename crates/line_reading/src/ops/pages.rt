@@ -15,7 +15,7 @@ use serde_json::{Map, Value};
 use spiffe_name::{Failure, SelectorSet, SpiffeId, TrustDomain};
 use std::alloc::{AllocError, Global};
 
-/// The ID, where it is given, to be shared. The error is want of memory.
+/// Makes the ID, if there is one, a shared value. The error is out of memory.
 fn shared_id(alloc: Global, given: Option<SpiffeId>) -> Result<Option<Shared<SpiffeId>>, AllocError>
     ensures { IfOk result (λ shared. shared ≡ given) }
 {
@@ -25,7 +25,7 @@ fn shared_id(alloc: Global, given: Option<SpiffeId>) -> Result<Option<Shared<Spi
     }
 }
 
-/// The trust domain, where it is given, to be shared. The error is want of memory.
+/// Makes the trust domain, if there is one, a shared value. The error is out of memory.
 fn shared_domain(
     alloc: Global,
     given: Option<TrustDomain>,
@@ -38,8 +38,8 @@ fn shared_domain(
     }
 }
 
-/// The question to selectors: by default an entry's contain those that are given. A way to match without selectors is
-/// refused.
+/// Returns the condition on selectors, if there is one. By default an entry's set must contain the given selectors. A match
+/// mode without selectors is refused.
 fn selector_match(
     alloc: Global,
     selectors: Option<SelectorSet>,
