@@ -63,7 +63,7 @@ pub agent_json-is : (a : Agent) → agent_json a ≡ compact_text (agent_data a)
 unfolding agent_json serde_json_on_literals
 agent_json-is a = simp (append_assoc, text_json-is, selectors-are) refl
 
--- ---- pieces one behind another, from the left and from the right
+-- ---- texts one after another, joined from the left and from the right
 
 abbrev pub left : List ℕ → List (List ℕ) → List ℕ
 left a [] = a

@@ -94,9 +94,9 @@ children_json-is : (parent : List ℕ) → children_json parent ≡ compact_text
 unfolding children_json serde_json_on_literals
 children_json-is parent = simp (append_assoc, text_json-is) refl
 
--- ---- pages: an optional key in front of others
+-- ---- pages: an optional key before others
 
--- the key is before those that stand there, and there is one
+-- the key is before those of the members, and there is one
 abbrev IsBefore : List ℕ → Members → Type 0
 IsBefore key no_members = ⊥
 IsBefore key (member other d ms) = slice_cmp nat_cmp key other ≡ Less
@@ -105,7 +105,7 @@ put-front : (key : List ℕ) (d : Data) (ms : Members) → IsBefore key ms → p
 put-front key d no_members b = absurd b
 put-front key d (member other e ms) b = rw b refl
 
--- with a key in front, what comes behind has a comma before it
+-- after a first key, the next member has a comma before it
 later_text : (key : List ℕ) (ms : Members) → IsBefore key ms → members_text true ms ≡ 44 ∷ members_text false ms
 later_text key no_members b = absurd b
 later_text key (member other e ms) b = refl
@@ -124,7 +124,7 @@ leading-is : {A : Type 0} (key before : List ℕ) (t : A → List ℕ) (f : A �
 leading-is key before t f None ms e h b = refl
 leading-is key before t f (Some x) ms e h b = rw (put-front key (f x) ms b) (rw (later_text key ms b) (rw e (rw (h x) (glued (compact_text (string key)) (compact_text (f x)) (members_text false ms)))))
 
--- what stands behind the optional keys: the name, and what is after it in the order of bytes
+-- the members after the optional keys: the operation's name, and those after it in the order of bytes
 abbrev page_tail : Option (List ℕ) → Option SelectorMatch → ℕ → Members
 page_tail parent question size =
     put (codes "op") (string (codes "page")) (

@@ -1,4 +1,4 @@
--- Runs of bytes that stand as they are.
+-- Runs of bytes without an escape.
 use Rattle.std.proofs.Common.{◌≡◌, ◌≢◌, ◌+◌, ◌<◌, ◌≤◌, ◌/◌, ◌%◌, ℕ, suc, true, false, cond, ltb, List, [], ◌∷◌, ◌++◌, None, Some, length, take, drop, get_or, refl, sym, ap, ◌∙◌, append_assoc, arith}
 use Rattle.std.specs.Prelude.{codes, position}
 use Rattle.std.specs.List.{flat_map, position_or_len}
@@ -31,7 +31,7 @@ flat_map-plain (x ∷ xs) h =
 not_past : (i n : ℕ) → cond (ltb i n) (Some i) None ≡ None → n ≤ i
 not_past i n e = grind (arith, nat_tests)
 
--- all bytes that are left stand as they are
+-- none of the remaining bytes has an escape
 pub escaped_none : (rest : List ℕ) → position needs_escape rest ≡ None → flat_map escaped rest ≡ rest
 escaped_none rest none =
     let past = not_past (position_or_len needs_escape rest) (length rest) none in

@@ -1,4 +1,4 @@
--- A line feed behind a printed text makes no difference to its tokens.
+-- A line feed after a printed text doesn't change its tokens.
 use Rattle.std.proofs.Common.{◌≡◌, ℕ, Bool, true, false, cond, ◌&&◌, List, [], ◌∷◌, ◌++◌, refl, sym, ap, ap₂, ◌∙◌, append_assoc, append-nil}
 use Rattle.json.specs.Token.{Token, begin_object, end_object, begin_array, end_array, key, string, number, boolean, null, bad}
 use Rattle.json.specs.Word.{ends_word, word}
@@ -45,7 +45,7 @@ unfolding lex
 lex-separator true r = refl
 lex-separator false r = refl
 
--- after a value stands a comma, a closing bracket or what follows the text
+-- a value is followed by a comma, a closing bracket or what follows the text
 value_ends : (ts : List Token) (end : List ℕ) → ends_word end ≡ true → ends_word (print_from true ts ++ end) ≡ true
 unfolding print_from
 value_ends [] end e = e

@@ -1,4 +1,4 @@
--- The compact text of a value reads as that value, where its objects have their keys in order.
+-- The compact text of a value parses to that value, if the keys of its objects are in order.
 use Rattle.std.proofs.Common.{◌≡◌, ℕ, zero, suc, ◌<◌, ◌≤◌, ◌^◌, Bool, true, false, Ordering, Less, Equal, Greater, List, [], ◌∷◌, ◌++◌, Option, Some, option_map, option_and_then, decimal, IsUtf8, refl, sym, ap, ◌∙◌, arith, append-nil}
 use Rattle.std.specs.Prelude.{⊤}
 use Rattle.std.specs.Ordering.{nat_cmp, match_ordering, ordering_reverse}
@@ -23,12 +23,12 @@ use Rattle.reg_lines.proofs.LineTokens.{tokens-line}
 
 -- ---- keys in order
 
--- the key is before each that stands there
+-- the key is before each of the members
 abbrev IsBelow : List ℕ → Members → Type 0
 IsBelow k no_members = ⊤
 IsBelow k (member l e ms) = (slice_cmp nat_cmp k l ≡ Less) × IsBelow k ms
 
--- the value nests at most so deep, and each object has each key once, in order, in UTF-8
+-- the value nests at most n deep, and each object has each key once, in order, in UTF-8
 abbrev mutual
   pub IsNeat : ℕ → Data → Type 0
   IsNeat n null = ⊤
@@ -48,7 +48,7 @@ abbrev mutual
   MembersAreNeat n no_members = ⊤
   MembersAreNeat n (member k d ms) = IsUtf8 k × IsBelow k ms × IsNeat n d × MembersAreNeat n ms
 
--- ---- what is put keeps the order
+-- ---- `put` keeps the order
 
 IsBelow-later : (j k : List ℕ) (ms : Members) → slice_cmp nat_cmp j k ≡ Less → IsBelow k ms → IsBelow j ms
 IsBelow-later j k no_members l b = tt
@@ -75,7 +75,7 @@ pub put-neat : (n : ℕ) (k : List ℕ) (d : Data) (ms : Members) → IsUtf8 k �
 put-neat n k d no_members u a h = (u, tt, a, tt)
 put-neat n k d (member l e ms) u a h = put_neat_at _ n k l d e ms refl u a h (put-neat n k d ms u a h.3)
 
--- ---- what is written is that value's
+-- ---- the parser builds that value
 
 abbrev joined : Members → Members → Members
 joined no_members ms = ms
@@ -89,7 +89,7 @@ joined-more : (found : Members) (k : List ℕ) (d : Data) (ms : Members) → joi
 joined-more no_members k d ms = refl
 joined-more (member l e found) k d ms = ap (member l e) (joined-more found k d ms)
 
--- each key found is before k
+-- each key found so far is before k
 abbrev IsAbove : List ℕ → Members → Type 0
 IsAbove k no_members = ⊤
 IsAbove k (member l e found) = (slice_cmp nat_cmp l k ≡ Less) × IsAbove k found
@@ -182,7 +182,7 @@ mutual
 abbrev whole : Option (json.Json × List Token) → Option Data
 whole o = option_and_then of_json (option_and_then (λ p. json.if_last p.0 p.1) o)
 
--- the text of a value, with the LF that ends its line, reads as the value
+-- the text of a value, with the LF that ends its line, parses to the value
 pub read-line : (n : ℕ) (d : Data) → n ≤ max_depth → IsNeat n d → IsTyped d → read (compact_text d ++ 10 ∷ []) ≡ Some d
 read-line n d shallow h w =
     let ts : List Token = tree.json_tokens (outline d) in
@@ -190,7 +190,7 @@ read-line n d shallow h w =
     ap whole (ap (json.value max_depth) (same ∙ sym (append-nil ts)) ∙ value-json_tokens (outline d) max_depth [] (omega (arith, depth-outline n d h)))
     ∙ of_json-outline n d h w
 
--- ---- it is UTF-8
+-- ---- the text is UTF-8
 
 comma-utf8 : (later : Bool) → IsUtf8 (comma_if later)
 comma-utf8 true = IsUtf8-are_ascii (44 ∷ []) refl

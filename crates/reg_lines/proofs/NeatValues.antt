@@ -1,4 +1,4 @@
--- The values of the lines of records are neat: what is put into an object has its place, and nothing nests deep.
+-- The values of the lines of records are neat: `put` keeps the keys of an object in order, and no value nests deep.
 use Rattle.std.proofs.Common.{◌≡◌, ℕ, suc, true, List, [], ◌∷◌, map, Option, None, Some, refl}
 use Rattle.std.specs.Prelude.{codes}
 use Rattle.json.proofs.Printed.Utf8.{are_ascii, IsUtf8-are_ascii}
@@ -23,7 +23,7 @@ use Rattle.reg_lines.specs.RecordValues.{asked_data, batch_data, children_data, 
 use Rattle.reg_lines.specs.Values.{agent_data, bundle_data, done_data, entry_data, if_due, list_data, op_reply_data, option_data, outcome_data, refused_data, selector_data, uuid_data, whole}
 use Rattle.reg_lines.proofs.Neat.{IsNeat, ItemsAreNeat, MembersAreNeat, put-neat}
 
--- ---- pieces
+-- ---- parts
 
 record Neat (n : ℕ) (d : Data) : Type 0 where
   is : IsNeat n d
@@ -172,7 +172,7 @@ bundle-neat n b =
     into n (codes "sequence") _ _ refl (num n _) (
     into n (codes "text") _ no_members refl (text n _) (none _))))
 
--- one object with one key
+-- an object with one key
 alone : (n : ℕ) (k : List ℕ) (d : Data) → are_ascii k ≡ true → Neat n d → Neat (suc n) (object (put k d no_members))
 alone n k d a h = of_members n _ (into n k d no_members a h (none _))
 

@@ -1,4 +1,4 @@
--- Compact text, and with it each printed line, has no line feed.
+-- Compact text contains no line feed, nor does any printed line.
 use Rattle.std.proofs.Common.{◌≡◌, ℕ, zero, suc, ◌+◌, ◌/◌, ◌%◌, ◌<◌, ℤ, pos, negsuc, Bool, true, false, cond, ◌||◌, ◌==◌, ltb, List, [], ◌∷◌, ◌++◌, decimal, inl, inr, refl, ap, ap₂, ◌∙◌, arith}
 use Rattle.std.proofs.lemmas.Bool.{cases_eq, cases_lt, ne_eqb}
 use Rattle.std.proofs.lemmas.List.Folds.{list_any-append}
@@ -31,7 +31,7 @@ neither : (a b : Bool) → (a || b) ≡ false → (a ≡ false) × (b ≡ false)
 neither true b e = absurd (cc)
 neither false b e = (refl, e)
 
--- whether some escape of a byte below n has a line feed
+-- whether the escape of some byte below n contains a line feed
 abbrev lf_below : ℕ → Bool
 lf_below zero = false
 lf_below (suc n) = has_lf (escape_byte n) || lf_below n
@@ -91,7 +91,7 @@ no_lf-signed (negsuc n) = no_lf-append (45 ∷ []) (decimal (suc n)) refl (no_lf
 
 -- ---- values
 
--- as a record, so that the text can be told from it
+-- a record, so that the prover can infer the text from it
 record NoLf (text : List ℕ) : Type 0 where
   none : has_lf text ≡ false
 
@@ -136,7 +136,7 @@ mutual
 compact : (text : List ℕ) (d : Data) → text ≡ compact_text d → has_lf text ≡ false
 compact text d e = ap has_lf e ∙ (value d).none
 
--- ---- what is printed
+-- ---- the printed values
 
 pub number-no_lf : NumbersHaveNoLf
 number-no_lf n = no_lf-decimal n

@@ -1,4 +1,4 @@
--- What is printed of a batch reads as that batch.
+-- The printed value of a batch parses to that batch.
 use Rattle.std.proofs.Common.{◌≡◌, ℕ, Bool, true, false, cond, Ordering, Less, Equal, Greater, List, [], ◌∷◌, map, Option, None, Some, Ok, refl, sym, ap, ◌∙◌, arith}
 use Rattle.std.specs.Prelude.{bytes_eq, nat_lt, is_some, option_map, option_and_then, unwrap_or, IfSome}
 use Rattle.std.specs.List.{AllByRecursion}
@@ -26,7 +26,7 @@ use Rattle.reg_lines.specs.ReadBack.{AreDomains, AreSelectors, IsDomainText, IsI
 use Rattle.reg_lines.specs.Replies.{given_lifetime, uuid_text}
 use Rattle.reg_lines.specs.Values.{if_due, list_data, selector_data, uuid_data, whole}
 
--- ---- an object as a list of keys, each with the value that is due there, if one is
+-- ---- an object as a list of keys, each with its value, if it has one
 
 abbrev pub Due : Type 0
 Due = List ℕ × Option Data
@@ -39,7 +39,7 @@ abbrev or_else : Option Data → Option Data → Option Data
 or_else None o = o
 or_else (Some d) o = Some d
 
--- what the list has at a key
+-- the value at a key of the list
 abbrev pub due_at : List ℕ → List Due → Option Data
 due_at q [] = None
 due_at q (x ∷ xs) = cond (bytes_eq q x.0) (or_else x.1 (due_at q xs)) (due_at q xs)
@@ -66,12 +66,12 @@ pub or_none : (o : Option Data) → or_else o None ≡ o
 or_none None = refl
 or_none (Some d) = refl
 
--- the value that is due is seen by f
+-- an optional value, converted by f first
 pub due-map : {A : Type 0} (k : List ℕ) (f : A → Data) (o : Option A) (ms : Members) → if_due k f o ms ≡ if_due k (λ d. d) (option_map f o) ms
 due-map k f None ms = refl
 due-map k f (Some x) ms = refl
 
--- ---- its keys are known
+-- ---- its keys are all known
 
 known-rest : (keys : List Key) (l : List ℕ) (e : Data) (ms : Members) (b : Bool) → is_one_of keys l ≡ b → least_other keys (member l e ms) ≡ None → (is_one_of keys l ≡ true) × (least_other keys ms ≡ None)
 known-rest keys l e ms true is h = (is, sym (ap (λ b. cond b (least_other keys ms) (Some (lesser l (least_other keys ms)))) is) ∙ h)
@@ -103,7 +103,7 @@ pub known : (keys : List Key) (xs : List Due) → AreKnown keys xs → least_oth
 known keys [] h = refl
 known keys (x ∷ xs) h = known-due keys x.0 x.1 (members_due xs) h.0 (known keys xs h.1)
 
--- ---- what each reader gives of a value that was printed
+-- ---- what each reader returns for a printed value
 
 pub text-back : (k : Key) (d : Data) (s : List ℕ) → get (key_name k) d ≡ Some (string s) → text_at k d ≡ Ok s
 unfolding text_at

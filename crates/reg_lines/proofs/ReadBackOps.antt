@@ -1,4 +1,4 @@
--- What is printed of an operation reads as that operation.
+-- The printed value of an operation parses to that operation.
 use Rattle.std.proofs.Common.{◌≡◌, ℕ, Bool, true, false, List, [], ◌∷◌, Option, None, Some, Result, Ok, refl, ap, ◌∙◌}
 use Rattle.std.specs.Prelude.{◌&&◌, codes, option_map}
 use Rattle.std.specs.List.{AllByRecursion, list_all}
@@ -44,14 +44,14 @@ no_others-known keys ms e = rw e refl
 pub only : (keys : List Key) (xs : List Due) → list_all (λ x. is_one_of keys x.0) xs ≡ true → no_others keys (members_due xs) ≡ Ok tt
 only keys xs e = no_others-known keys (members_due xs) (known keys xs (all_known keys xs e))
 
--- one key more
+-- one more key
 pub next-put : (k : List ℕ) (d : Data) (ms ns : Members) → ms ≡ ns → put k d ms ≡ put k d ns
 next-put k d ms ns e = ap (put k d) e
 
 pub next-due : {A : Type 0} (k : List ℕ) (f : A → Data) (o : Option A) (ms ns : Members) → ms ≡ ns → if_due k f o ms ≡ if_due k (λ d. d) (option_map f o) ns
 next-due k f o ms ns e = due-map k f o ms ∙ ap (if_due k (λ d. d) (option_map f o)) e
 
--- the name of an operation says which reader reads its other keys
+-- the name of an operation decides which reader reads its other keys
 named : (missing : MissingId) (ids : ChaCha) (ms : Members) (word : List ℕ) (r : Result (Op × ChaCha) Fault) → get_member (codes "op") ms ≡ Some (string word) → named_op missing ids word (object ms) ms ≡ r → op_in missing ids (object ms) ≡ r
 unfolding op_in
 named missing ids ms word r e h = rw (text-back key.Op (object ms) word e) h
@@ -148,7 +148,7 @@ create_due e =
     ∷ (codes "x509_svid_ttl", option_map whole (given_lifetime e.x509_svid_ttl))
     ∷ []
 
--- no revision is expected of an entry that is created: the same members
+-- a create has no expected revision: its members are the same
 create-same : (e : NewEntry) → members_due (entry_due (codes "create") e None) ≡ members_due (create_due e)
 create-same e = refl
 

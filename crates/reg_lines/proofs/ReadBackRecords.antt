@@ -1,4 +1,4 @@
--- What is printed of a batch, and of a record, reads as that.
+-- The printed value of a batch, and of a record, parses to that batch or record.
 use Rattle.std.proofs.Common.{◌≡◌, ℕ, List, [], ◌∷◌, map, Option, None, Some, Ok, refl, ap, ◌∙◌}
 use Rattle.std.specs.Prelude.{◌+◌, codes, option_map, IfSome}
 use Rattle.std.specs.List.{AllByRecursion}

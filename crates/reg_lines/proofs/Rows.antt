@@ -1,4 +1,4 @@
--- Pieces put one after another, written as a row.
+-- Texts put one after another, joined in one list.
 use Rattle.std.proofs.Common.{ℕ, List, ◌++◌}
 use Rattle.line_devices.specs.Stream.{OutputState, Puts}
 use Rattle.line_devices.proofs.Puts.{Puts-then}

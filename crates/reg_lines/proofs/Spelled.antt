@@ -1,4 +1,4 @@
--- The text of a batch is a line that spells it, and that of a record spells what it tells.
+-- The text of a batch is a line that parses to it, and that of a record parses to that record.
 use Rattle.std.proofs.Common.{◌≡◌, ℕ, ◌-◌, ◌<◌, ◌≤◌, ◌^◌, true, false, cond, List, [], ◌∷◌, ◌++◌, map, take, length, Option, None, Some, Ok, refl, ap, ◌∙◌, arith, length-append, lt-ltb, le-ltb}
 use Rattle.std.specs.Prelude.{slice_index, codes, nat_lt, ◌&&◌, ◌==◌, IfSome}
 use Rattle.std.specs.List.{AllByRecursion}

@@ -1,4 +1,4 @@
--- Values whose parts are as their types ask.
+-- Values whose parts satisfy the type invariants that a record needs.
 use Rattle.std.proofs.Common.{ℕ, Ordering, Less, Equal, Greater, List}
 use Rattle.std.specs.Ordering.{match_ordering}
 use Rattle.serde_json.specs.Data.{Data, Members, no_members, member, put}

@@ -1,4 +1,4 @@
--- Values whose parts their types see to.
+-- Values whose parts satisfy the type invariants.
 use Rattle.std.proofs.Common.{ℕ, List, Option, None, Some, IsUtf8, refl}
 use Rattle.std.specs.Prelude.{codes}
 use Rattle.serde_json.specs.Data.{Data, string, Members, no_members, put}
@@ -18,7 +18,7 @@ use Rattle.reg_lines.specs.Spelled.{IsTyped, MembersAreTyped}
 use Rattle.reg_lines.specs.Values.{detail, done_data, if_due, list_data, op_reply_data, option_data, refused_data, uuid_data, whole}
 use Rattle.reg_lines.proofs.Typed.{typed-put}
 
--- a member that stands there where it is due
+-- an optional member
 typed-due : {A : Type 0} (k : List ℕ) (f : A → Data) (o : Option A) (ms : Members) → IsTyped (option_data f o) → MembersAreTyped ms → MembersAreTyped (if_due k f o ms)
 typed-due k f None ms t m = m
 typed-due k f (Some x) ms t m = typed-put k (f x) ms t m

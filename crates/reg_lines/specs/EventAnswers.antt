@@ -1,4 +1,5 @@
--- The lines that answer events, and the line with the order of the calls: compact text, the keys of each object in ascending order of their bytes.
+-- The lines that answer events, and the one that reports the order: compact text, with the keys of each object in ascending order of
+-- their bytes.
 use Rattle.std.specs.Prelude.{ℕ, List, ◌++◌, codes, decimal}
 use Rattle.entry_book.specs.declared.limit.Limit.{Limit}
 use Rattle.entry_book.specs.Codes.{limit_code}
@@ -16,9 +17,9 @@ use Rattle.reg_lines.specs.Json.{list_json, text_json}
 use Rattle.reg_lines.specs.Refusals.{refused_line_json}
 use Rattle.reg_lines.specs.Replies.{answer_json, uuid_text}
 
--- ---- what was read, and what a call waits for
+-- ---- reads and statuses
 
--- the kind of rows that a mark names, and which they are
+-- the kind of the rows of a mark, and which they are
 abbrev pub mark_text : MarkKind → List ℕ
 mark_text (mark.Entry id) = codes "entry " ++ uuid_text id
 mark_text (mark.Group parent identity) = codes "group " ++ parent ++ codes " " ++ identity
@@ -61,7 +62,7 @@ stepped_json call read status =
     ++ codes ",\"state\":" ++ status_json status
     ++ codes "}"
 
--- a commit that met no limit
+-- a commit that met no limit, with the word for its decision
 unfoldable pub commit_json : ℕ → List ℕ → ℕ → List ℕ
 commit_json call word place =
     codes "{\"call\":" ++ decimal call
@@ -90,7 +91,7 @@ event_json (Answered call answer) = answer_json call answer
 
 -- ---- refused events, and the order
 
--- the event of the line of this number
+-- the refusal of the event on the line of this number
 abbrev pub event_refusal_json : ℕ → EventRefusal → List ℕ
 event_refusal_json line r = refused_line_json line (event_code r)
 

@@ -1,4 +1,4 @@
--- The JSON values that the lines of schedules are, and the law that they are printed as those values' compact text.
+-- The JSON values of the lines of schedules, and the theorem that each line is the compact text of its value.
 use Rattle.std.specs.Prelude.{◌≡◌, ℕ, false, List, codes}
 use Rattle.serde_json.specs.Data.{Data, object, string, put, no_members}
 use Rattle.serde_json.specs.Written.{compact_text, has_float}
@@ -85,7 +85,7 @@ event_refusal_data line r = refused_line_data line (event_code r)
 abbrev pub order_data : List ℕ → Data
 order_data calls = object (put (codes "order") (list_data whole calls) no_members)
 
--- ---- the law
+-- ---- the theorem
 
 abbrev pub EventsAreCompact : Type 0
 EventsAreCompact = (done : Done) → event_json done ≡ compact_text (event_data done)

@@ -5,23 +5,23 @@ use Rattle.std.specs.List.{flat_map}
 abbrev pub hex_digit : ℕ → ℕ
 hex_digit d = if nat_lt d 10 then 48 + d else 97 + (d - 10)
 
--- whether a byte can't stand in a text as it is
+-- whether a byte of a JSON string must be escaped
 abbrev pub needs_escape : ℕ → Bool
 needs_escape b = nat_lt b 32 || b == 34 || b == 92
 
--- a byte of a text
+-- a byte of a JSON string, escaped if it must be
 unfoldable pub escaped : ℕ → List ℕ
 escaped b = if b == 34 then codes "\\\"" else (if b == 92 then codes "\\\\" else (if b == 8 then codes "\\b" else (if b == 9 then codes "\\t" else (if b == 10 then codes "\\n" else (if b == 12 then codes "\\f" else (if b == 13 then codes "\\r" else (if nat_lt b 32 then codes "\\u00" ++ hex_digit (b / 16) ∷ hex_digit (b % 16) ∷ [] else b ∷ [])))))))
 
 unfoldable pub text_json : List ℕ → List ℕ
 text_json s = codes "\"" ++ flat_map escaped s ++ codes "\""
 
--- the items with a comma between two
+-- the items, separated by commas
 abbrev pub items_json : {A : Type 0} → (A → List ℕ) → List A → List ℕ
 items_json f [] = []
 items_json f (x ∷ xs) = f x ++ flat_map (λ y. codes "," ++ f y) xs
 
--- what stands before the item of this index
+-- the comma before the item of this index; the first item has none
 abbrev pub comma : ℕ → List ℕ
 comma index = if nat_lt 0 index then codes "," else []
 

@@ -1,4 +1,4 @@
--- Each printed line is one line: its text has no line feed, and `print_line` puts one behind it.
+-- Each printed line is one line: its text contains no line feed, and `print_line` adds one at its end.
 use Rattle.std.specs.Prelude.{◌≡◌, ℕ, false, List, Option, decimal}
 use Rattle.call_answers.specs.declared.answer.Done.{Done}
 use Rattle.call_events.specs.declared.event.EventRefusal.{EventRefusal}
@@ -22,7 +22,7 @@ RepliesHaveNoLf = (call : ℕ) (reply : Reply) → has_lf (reply_json call reply
 abbrev pub ConflictsHaveNoLf : Type 0
 ConflictsHaveNoLf = (call place : ℕ) → has_lf (conflict_json call place) ≡ false
 
--- out of memory among them
+-- including that of out of memory
 abbrev pub RefusalsHaveNoLf : Type 0
 RefusalsHaveNoLf = (r : LineRefusal) → has_lf (refusal_json r) ≡ false
 
@@ -45,7 +45,7 @@ OrdersHaveNoLf = (calls : List ℕ) → has_lf (order_json calls) ≡ false
 abbrev pub RecordsHaveNoLf : Type 0
 RecordsHaveNoLf = (batch : Batch) (call invoked : ℕ) (replied : Option ℕ) (reply : Reply) → has_lf (record_json batch call invoked replied reply) ≡ false
 
--- ---- parts of lines, for a line that another crate prints of them
+-- ---- parts of lines, for lines that other crates print
 
 abbrev pub TextsHaveNoLf : Type 0
 TextsHaveNoLf = (text : List ℕ) → has_lf (text_json text) ≡ false

@@ -1,4 +1,4 @@
--- What is printed of a batch reads as that batch.
+-- The printed value of a batch parses to that batch.
 use Rattle.std.specs.Prelude.{◌≡◌, ⊤, ℕ, List, Option, None, Some, IfSome, Ok}
 use Rattle.std.specs.List.{AllByRecursion}
 use Rattle.uuid.specs.Text.{parsed}
@@ -26,9 +26,9 @@ use Rattle.reg_lines.specs.Replies.{uuid_text}
 use Rattle.reg_lines.specs.Values.{reply_data}
 use Rattle.line_reading.specs.declared.fault.Key.TheVariants as key
 
--- ---- what the types of an operation's parts see to
+-- ---- the type invariants of an operation's parts
 
--- a UUID is what its text parses to
+-- the id is what its text parses to
 abbrev pub IsUuid : List ℕ → Type 0
 IsUuid id = parsed (uuid_text id) ≡ Some id
 
@@ -38,11 +38,11 @@ IsIdText text = id_refusal text ≡ None
 abbrev pub IsDomainText : List ℕ → Type 0
 IsDomainText text = domain_refusal text ≡ None
 
--- a selector is what its text splits into
+-- the selector's text is valid and parses to the selector
 abbrev pub IsSelector : SelectorPair → Type 0
 IsSelector s = (selector_refusal (selector_text s) ≡ None) × (pair_of (selector_text s) ≡ s)
 
--- a set is the set of its own members
+-- the selectors are valid, and are the set of themselves: in order, each once
 abbrev pub AreSelectors : List SelectorPair → Type 0
 AreSelectors selectors = AllByRecursion IsSelector selectors × (set_of selectors ≡ selectors)
 
@@ -84,18 +84,18 @@ IsWrittenOp (op.DropAgent id) = IsIdText id
 IsWrittenOp (op.SetBundle domain text) = IsDomainText domain
 IsWrittenOp (op.DropBundle domain mode) = IsDomainText domain
 
--- ---- the laws
+-- ---- the theorems
 
--- Of an operation's value that operation is read, whatever becomes of a create without an id, and no id is drawn.
+-- An operation's value parses to that operation, without drawing an id, however creates without an id are treated.
 abbrev pub OpsReadBack : Type 0
 OpsReadBack = (o : Op) (missing : MissingId) (ids : ChaCha) → IsWrittenOp o → op_in missing ids (op_data o) ≡ Ok (o, ids)
 
--- what a record's reader makes of a value that holds a batch
+-- the value of a batch parses to that batch, with the reader of a record's batch
 abbrev pub BatchesReadBack : Type 0
 BatchesReadBack = (batch : Batch) → AllByRecursion IsWrittenOp batch.ops → IfSome batch.token IsUuid → batch_refusal batch.domain batch.ops batch.token ≡ None
     → required key.Batch (as_object (batch_data batch)) >>= recorded_batch_in batch.domain (batch_data batch) ≡ Ok batch
 
--- The same of a record: its value reads as what it tells.
+-- The value of a record parses to its batch, its numbers and the JSON value of its reply.
 abbrev pub RecordsReadBack : Type 0
 RecordsReadBack = (batch : Batch) (call invoked : ℕ) (replied : Option ℕ) (reply : Reply) → AllByRecursion IsWrittenOp batch.ops → IfSome batch.token IsUuid → batch_refusal batch.domain batch.ops batch.token ≡ None
     → object_in (as_object (record_data batch call invoked replied reply)) >>= record_in batch.domain (record_data batch call invoked replied reply) ≡ Ok (record { batch = batch; call = call; invoked = invoked; replied = replied; reply = reply_data call reply })

@@ -1,4 +1,5 @@
--- Which line records a call: its batch, when it was handed in and when its reply was given out, and the reply. Compact text, the keys of each object in ascending order of their bytes.
+-- The line of a call's record: its batch, the numbers of its invoke and its reply, and the reply. Compact text, with the keys of each
+-- object in ascending order of their bytes.
 use Rattle.std.specs.Prelude.{ℕ, List, [], ◌++◌, Option, None, Some, codes, decimal}
 use Rattle.entry_book.specs.Batches.{Batch}
 use Rattle.entry_book.specs.declared.agent.Agent.{Agent}
@@ -34,21 +35,21 @@ match_text Subset = codes "subset"
 abbrev pub match_json : MatchMode → List ℕ
 match_json mode = text_json (match_text mode)
 
--- ---- members that stand there where they were given
+-- ---- members that are printed only if they have a value
 
--- with what stands before it
+-- the value with this text before it
 abbrev pub given_member : {A : Type 0} → List ℕ → (A → List ℕ) → Option A → List ℕ
 given_member before f None = []
 given_member before f (Some x) = before ++ f x
 
--- the same, with a comma behind it: more members follow
+-- the same, with a comma after it, as more members follow
 abbrev pub leading_member : {A : Type 0} → List ℕ → (A → List ℕ) → Option A → List ℕ
 leading_member before f None = []
 leading_member before f (Some x) = before ++ f x ++ codes ","
 
 -- ---- operations
 
--- an entry that is created or updated, and the revision that is expected, where one is
+-- an entry that is created or updated, and the expected revision, if there is one
 unfoldable pub entry_op_json : List ℕ → NewEntry → Option ℕ → List ℕ
 entry_op_json word e expected =
     codes "{\"domains\":" ++ list_json text_json e.domains
@@ -71,7 +72,7 @@ delete_json id expected =
     ++ given_member (codes ",\"revision\":") decimal expected
     ++ codes "}"
 
--- an operation with one key, which stands before its name
+-- an operation with one key, which comes before its name
 unfoldable pub keyed_op_json : List ℕ → List ℕ → List ℕ → List ℕ
 keyed_op_json key text word =
     codes "{" ++ text_json key ++ codes ":" ++ text
@@ -81,7 +82,7 @@ keyed_op_json key text word =
 unfoldable pub children_json : List ℕ → List ℕ
 children_json parent = codes "{\"op\":\"children\",\"parent\":" ++ text_json parent ++ codes "}"
 
--- how selectors are compared, where a page asks for some: always printed beside them
+-- the match mode, with a comma after it, if the page has a condition on selectors
 abbrev pub match_member : Option SelectorMatch → List ℕ
 match_member None = []
 match_member (Some question) = codes "\"match\":" ++ match_json question.mode ++ codes ","
@@ -149,7 +150,8 @@ batch_json batch =
     ++ given_member (codes ",\"token\":") uuid_json batch.token
     ++ codes "}"
 
--- the call of a number, with the numbers of its invoke and of its reply among the accepted events, null where it hasn't replied, and what the plain book replies to it
+-- the record of a call: its batch, its number, the numbers of its invoke and its reply among the accepted events, null if it hasn't
+-- replied, and its reply
 unfoldable pub record_json : Batch → ℕ → ℕ → Option ℕ → Reply → List ℕ
 record_json batch call invoked replied reply =
     codes "{\"batch\":" ++ batch_json batch

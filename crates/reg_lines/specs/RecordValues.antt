@@ -1,4 +1,4 @@
--- The JSON values that the lines of records are, and the law that they are printed as those values' compact text.
+-- The JSON values of the lines of records, and the theorem that each line is the compact text of its value.
 use Rattle.std.specs.Prelude.{◌≡◌, ℕ, false, List, Option, None, codes}
 use Rattle.serde_json.specs.Data.{Data, object, string, put, no_members}
 use Rattle.serde_json.specs.Written.{compact_text, has_float}
@@ -123,7 +123,7 @@ record_data batch call invoked replied reply = object (
     put (codes "reply") (reply_data call reply)
     no_members)))))
 
--- ---- the law
+-- ---- the theorem
 
 abbrev pub BatchesAreCompact : Type 0
 BatchesAreCompact = (batch : Batch) → batch_json batch ≡ compact_text (batch_data batch)

@@ -1,4 +1,4 @@
--- The line that reports the refusal of a line.
+-- The line that reports that a line was refused.
 use Rattle.std.specs.Prelude.{ℕ, List, [], ◌++◌, Option, None, Some, codes, decimal}
 use Rattle.spiffe_name.specs.declared.refusals.Failure.{Failure}
 use Rattle.spiffe_name.specs.declared.refusals.Failure.TheVariants.{NoMemory, Refused}
@@ -8,7 +8,7 @@ use Rattle.line_reading.specs.declared.refusal.LineRefusal.{LineRefusal}
 use Rattle.line_reading.specs.Codes.{code_text, field_text}
 use Rattle.reg_lines.specs.Json.{text_json}
 
--- a member with the comma before it, where there is one
+-- a member with the comma before it, if there is one
 abbrev pub field_member : Option Field → List ℕ
 field_member None = []
 field_member (Some field) = codes ",\"field\":" ++ text_json (field_text field)

@@ -1,4 +1,4 @@
--- Which line prints the reply to a batch: compact text, the keys of each object in ascending order of their bytes.
+-- The line of the reply to a batch: compact text, with the keys of each object in ascending order of their bytes.
 use Rattle.std.specs.Prelude.{ℕ, List, [], ◌++◌, Option, None, Some, nat_lt, if◌then◌else◌, codes, decimal}
 use Rattle.uuid.specs.Text.{hyphenated_text, lower}
 use Rattle.spiffe_name.specs.Selector.{SelectorPair, selector_text}
@@ -32,11 +32,11 @@ uuid_json id = text_json (uuid_text id)
 abbrev pub selector_json : SelectorPair → List ℕ
 selector_json s = text_json (selector_text s)
 
--- a lifetime of documents, where it isn't the server's default
+-- a lifetime in seconds; None for 0, which means the server's default
 abbrev pub given_lifetime : ℕ → Option ℕ
 given_lifetime seconds = if nat_lt 0 seconds then Some seconds else None
 
--- what stands before a lifetime, and the lifetime, where one is given
+-- the lifetime with this text before it, if one is given
 abbrev pub lifetime_member : List ℕ → Option ℕ → List ℕ
 lifetime_member before None = []
 lifetime_member before (Some seconds) = before ++ decimal seconds
@@ -74,7 +74,7 @@ bundle_json b =
 unfoldable pub under : List ℕ → List ℕ → List ℕ
 under key text = codes "{" ++ text_json key ++ codes ":" ++ text ++ codes "}"
 
--- the entries of a page, each printed so, and the id after which the next one begins, or null
+-- the entries of a page, each with this text, and the id after which the next page begins, or null
 unfoldable pub page_of : {X : Type 0} → (X → List ℕ) → List X → Option (List ℕ) → List ℕ
 page_of text es next =
     codes "{\"entries\":" ++ list_json text es
@@ -84,14 +84,14 @@ page_of text es next =
 abbrev pub page_json : List Entry → Option (List ℕ) → List ℕ
 page_json es next = page_of entry_json es next
 
--- what was dropped with a bundle: the ids that were deleted, and those that were dissociated
+-- the entries of a dropped bundle: the ids that were deleted, and those that were dissociated
 unfoldable pub dropped_json : List (List ℕ) → List (List ℕ) → List ℕ
 dropped_json deleted dissociated =
     codes "{\"deleted\":" ++ list_json uuid_json deleted
     ++ codes ",\"dissociated\":" ++ list_json uuid_json dissociated
     ++ codes "}"
 
--- an object whose first key says of what kind the reply is; a row that isn't there is null
+-- an object whose first key names the kind of the reply; a row that doesn't exist is null
 abbrev pub op_reply_json : OpReply → List ℕ
 op_reply_json (replied.Entry e) = under (codes "entry") (entry_json e)
 op_reply_json (replied.EntryShown e) = under (codes "entry") (option_json entry_json e)
@@ -107,7 +107,7 @@ op_reply_json (replied.Dropped deleted dissociated) = dropped_json deleted disso
 
 -- ---- the reply to a batch, with its call number
 
--- the operations were all answered, with replies each of which is printed so
+-- the operations were all executed, with replies each of which has this text
 unfoldable pub done_of : {X : Type 0} → (X → List ℕ) → ℕ → ℕ → List X → List ℕ → List ℕ
 done_of text call place replies result =
     codes "{\"call\":" ++ decimal call
@@ -119,7 +119,7 @@ done_of text call place replies result =
 abbrev pub done_json : ℕ → ℕ → List OpReply → List ℕ → List ℕ
 done_json call place replies result = done_of op_reply_json call place replies result
 
--- what a refusal is about, where its code says of what kind that is: a similar entry, a missing domain
+-- the detail of an operation's refusal: the id of the similar entry, or the missing trust domain
 abbrev pub op_detail_member : OpRefusal → List ℕ
 op_detail_member refused.IdTaken = []
 op_detail_member (refused.Similar id) = codes ",\"detail\":" ++ uuid_json id
@@ -136,7 +136,7 @@ detail_member TokenReused = []
 detail_member (OfOp n r) = op_detail_member r
 detail_member (Full limit) = []
 
--- a refusal of the whole batch belongs to no single operation: neither `detail` nor `op`
+-- the refusal of a batch; neither `detail` nor `op` if it belongs to no single operation
 unfoldable pub refused_json : ℕ → ℕ → Refusal → List ℕ
 refused_json call place r =
     codes "{\"call\":" ++ decimal call
@@ -155,14 +155,14 @@ outcome_json call place (outcome.Refused refusal) = refused_json call place refu
 abbrev pub reply_json : ℕ → Reply → List ℕ
 reply_json call reply = outcome_json call reply.place reply.outcome
 
--- a call whose changes were given up at this place
+-- a call that ended in a conflict, which was found at this place
 unfoldable pub conflict_json : ℕ → ℕ → List ℕ
 conflict_json call place =
     codes "{\"call\":" ++ decimal call
     ++ codes ",\"place\":" ++ decimal place
     ++ codes ",\"result\":\"conflict\"}"
 
--- what a call is answered
+-- the answer to a call
 abbrev pub answer_json : ℕ → CallAnswer → List ℕ
 answer_json call (Replied reply) = reply_json call reply
 answer_json call (Conflict place) = conflict_json call place

@@ -1,4 +1,4 @@
--- Each batch without a fault is spelled by a line, its own text, and the text of a record by the record.
+-- The text of each batch without a fault is a line that parses to it, and the text of a record parses to that record.
 use Rattle.std.specs.Prelude.{◌≡◌, ◌<◌, ◌≤◌, ◌^◌, ◌++◌, ⊤, ℕ, List, [], ◌∷◌, length, codes, Option, None, IfSome, Ok}
 use Rattle.std.specs.List.{AllByRecursion}
 use Rattle.std.specs.Str.{IsUtf8}
@@ -14,14 +14,14 @@ use Rattle.reg_lines.specs.RecordValues.{batch_data, op_data}
 use Rattle.line_reading.specs.Requests.{line_limit, spelled}
 use Rattle.reg_lines.specs.Values.{reply_data}
 
--- ---- what the types of a value's parts see to
+-- ---- the type invariants of a value's parts
 
 abbrev pub IsWord : Num → Type 0
 IsWord (unsigned n) = n < 2 ^ 64
 IsWord (negative z) = ⊥
 IsWord (float x) = ⊥
 
--- each text in the value is UTF-8, and each number a whole one of 64 bits
+-- each string of the value is UTF-8, and each number a whole one of 64 bits; keys may be any bytes
 abbrev mutual
   pub IsTyped : Data → Type 0
   IsTyped null = ⊤
@@ -39,14 +39,14 @@ abbrev mutual
   MembersAreTyped no_members = ⊤
   MembersAreTyped (member k d ms) = IsTyped d × MembersAreTyped ms
 
--- a batch without a fault
+-- a batch without a fault whose parts satisfy their type invariants
 pub record IsWrittenBatch (batch : Batch) : Type 0 where
   pub ops : AllByRecursion IsWrittenOp batch.ops
   pub token : IfSome batch.token IsUuid
   pub typed : IsTyped (batch_data batch)
   pub no_fault : batch_refusal batch.domain batch.ops batch.token ≡ None
 
--- what the types of a call's numbers and of its reply see to
+-- the type invariants of a call's numbers and its reply
 pub record IsWrittenCall (call invoked : ℕ) (replied : Option ℕ) (reply : Reply) : Type 0 where
   pub number : call < 2 ^ 64
   pub handed_in : invoked < 2 ^ 64
@@ -57,23 +57,23 @@ pub record IsWrittenCall (call invoked : ℕ) (replied : Option ℕ) (reply : Re
 abbrev pub Fits : List ℕ → Type 0
 Fits text = length text ≤ line_limit
 
--- ---- the laws
+-- ---- the theorems
 
--- The text of a batch is a request for it, tried once; no id is drawn.
+-- The text of a batch parses to a request for it, with one try; no id is drawn.
 abbrev pub BatchesAreSpelled : Type 0
 BatchesAreSpelled = (batch : Batch) (ids : ChaCha) → IsWrittenBatch batch → Fits (batch_json batch)
     → spelled batch.domain ids (batch_json batch ++ codes "\n") ≡ Ok (record { batch = batch; tries = 1 }, ids)
 
--- the batch of one operation, which may run at every place
+-- the batch of one operation, which may run at any place
 abbrev pub batch_of_one : List ℕ → Op → Batch
 batch_of_one domain o = record { domain = domain; ops = o ∷ []; after = 0; token = None }
 
--- So each operation without a fault is spelled by some line.
+-- So for each operation without a fault some line parses to a request for it alone.
 abbrev pub OpsAreSpelled : Type 0
 OpsAreSpelled = (domain : List ℕ) (o : Op) (ids : ChaCha) → IsWrittenOp o → IsTyped (op_data o) → op_fault domain o ≡ None → Fits (batch_json (batch_of_one domain o))
     → (line : List ℕ) × (spelled domain ids line ≡ Ok (record { batch = batch_of_one domain o; tries = 1 }, ids))
 
--- The text of a record spells what it tells.
+-- The text of a record parses to its batch, its numbers and the JSON value of its reply.
 abbrev pub RecordsAreSpelled : Type 0
 RecordsAreSpelled = (batch : Batch) (call invoked : ℕ) (replied : Option ℕ) (reply : Reply) → IsWrittenBatch batch → IsWrittenCall call invoked replied reply
     → Fits (record_json batch call invoked replied reply)

@@ -1,4 +1,5 @@
--- The JSON value that each printed line is, and the law that it is printed as that value's compact text. `put` keeps the keys of an object in ascending order of their bytes.
+-- The JSON values of the printed lines, and the theorem that each line is the compact text of its value. `put` keeps the keys of an
+-- object in ascending order of their bytes.
 use Rattle.std.specs.Prelude.{◌≡◌, ℕ, false, List, map, codes, Option, None, Some}
 use Rattle.serde_json.specs.Data.{Data, null, object, array, string, number, unsigned, Members, put, no_members}
 use Rattle.serde_json.specs.View.{items_of}
@@ -43,7 +44,7 @@ uuid_data id = string (uuid_text id)
 abbrev pub selector_data : SelectorPair → Data
 selector_data s = string (selector_text s)
 
--- a key that stands there where it is due
+-- puts the key with the value, if there is one
 abbrev pub if_due : {A : Type 0} → List ℕ → (A → Data) → Option A → Members → Members
 if_due key f None ms = ms
 if_due key f (Some x) ms = put key (f x) ms
@@ -172,7 +173,7 @@ failure_data line (Refused fault) = fault_data line fault
 abbrev pub refusal_data : LineRefusal → Data
 refusal_data r = failure_data r.line r.failure
 
--- ---- the law
+-- ---- the theorem
 
 abbrev pub RepliesAreCompact : Type 0
 RepliesAreCompact = (call : ℕ) (reply : Reply) → reply_json call reply ≡ compact_text (reply_data call reply)

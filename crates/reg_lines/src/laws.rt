@@ -1,19 +1,20 @@
-//! Does what is printed read as what it was printed of, and is each printed line one line?
+//! Do printed values parse to themselves, and is each printed line one line?
 
 ghost use Rattle.reg_lines.specs.OneLine.{ConflictsHaveNoLf, EventRefusalsHaveNoLf, EventsHaveNoLf, NumbersHaveNoLf, OrdersHaveNoLf, RecordsHaveNoLf, RefusalsHaveNoLf, RepliesHaveNoLf, SeatRefusalsHaveNoLf, TextsHaveNoLf};
 ghost use Rattle.reg_lines.specs.ReadBack.{BatchesReadBack, OpsReadBack, RecordsReadBack};
 ghost use Rattle.reg_lines.specs.Spelled.{BatchesAreSpelled, OpsAreSpelled, RecordsAreSpelled};
 
-/// Each batch without a fault is spelled by a line, the text that is printed of it, where that isn't too long for one: so is each
-/// operation. This function has no code: it is a fact to cite.
+/// The printed text of each batch without a fault parses to that batch, if it isn't too long for a line. The same holds of
+/// each operation without a fault, as the only one of a batch. This function does nothing at run time: its contract is the
+/// theorem.
 pub fn spelled_law()
     ensures batches { BatchesAreSpelled }
     ensures ops { OpsAreSpelled }
 {}
 
-/// What is printed of an operation, of a batch and of a record reads as that, told of their JSON values; and the text that is
-/// printed of a record spells what the record tells, where it isn't too long for a line. This function has no code: it is a
-/// fact to cite.
+/// The JSON values of a printed operation, batch or record parse to that operation, batch or record. The printed text of a
+/// record parses to it, if it isn't too long for a line. This function does nothing at run time: its contract is the
+/// theorem.
 pub fn read_back_law()
     ensures ops { OpsReadBack }
     ensures batches { BatchesReadBack }
@@ -21,9 +22,9 @@ pub fn read_back_law()
     ensures record_texts { RecordsAreSpelled }
 {}
 
-/// No printed line has a line feed inside: no reply, conflict or refusal of a line, no answer to an event, refusal of one or order,
-/// and no record. Nor has a JSON text or a number, of which other crates print lines. This function has no code: it is a fact to
-/// cite.
+/// No printed line contains a line feed: no reply, conflict or refusal of a line, no answer to an event, refusal of an
+/// event or order, and no record. Nor does a JSON string or a number, of which other crates print lines. This function does
+/// nothing at run time: its contract is the theorem.
 pub fn one_line_law()
     ensures replies { RepliesHaveNoLf }
     ensures conflicts { ConflictsHaveNoLf }

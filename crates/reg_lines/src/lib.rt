@@ -1,23 +1,24 @@
-//! Which lines do bytes hold, what do lines spell, and which bytes print a value?
+//! Which lines are in a byte stream, what do lines parse to, and which bytes print a value?
 //!
-//! What lines are stands in `line_devices`, and what they spell in `line_reading`: whoever uses this crate finds both here. This
-//! crate prints.
+//! `line_devices` defines lines, and `line_reading` what they parse to. This crate re-exports both, and prints values.
 //!
-//! - [`PrintJson`] is a value with one compact JSON text, which it puts piece by piece on an [`Output`] without
-//!   taking memory: [`print_text`], [`print_number`], [`print_list`], [`print_line`].
-//! - A [`LineRefusal`], and a book's reply with its call number, a [`CallReply`], or where the rows are lent a [`LentCallReply`], are
-//!   printed as lines, and so is what a call is answered, an [`AnsweredCall`]; [`printed_law`] says which JSON values these lines are.
-//! - A [`SeatRefused`] is printed as a line, too: that a seat of a shared registry has no answer to a request, for one
-//!   [`SeatRefusal`] or the other; [`printed_seats_law`] says which values these lines are.
+//! - [`PrintJson`] is a value with one compact JSON text, which it puts piece by piece on an [`Output`] without taking
+//!   memory; [`print_text`], [`print_number`], [`print_list`] and [`print_line`] help.
+//! - A [`LineRefusal`] is printed as a line. So are a reply with its call number, a [`CallReply`] or, with borrowed rows, a
+//!   [`LentCallReply`], and the answer to a call, an [`AnsweredCall`]. [`printed_law`] says which JSON values these lines
+//!   are.
+//! - A [`SeatRefused`] is printed as a line, too: a seat of a shared registry doesn't answer a request, because of a
+//!   [`SeatRefusal`]; [`printed_seats_law`] says which values these lines are.
 //! - The answer to an event, an [`EventRefused`] and a [`CallOrder`] are printed as the lines of a schedule;
 //!   [`printed_events_law`] says which values they are.
-//! - A [`CallRecord`] is printed as the line of a record, with the call's batch; [`printed_records_law`] says which values they
-//!   are, and [`CallRecord::know_types`] that they hold what the types of their parts see to, so that the line is read back.
-//! - [`spelled_law`] says that each batch without a fault is spelled by the text that is printed of it, and [`read_back_law`] that
-//!   the text of a record spells it.
-//! - [`one_line_law`] says that no printed line has a line feed inside.
+//! - A [`CallRecord`] is printed as the line of a record, with the call's batch; [`printed_records_law`] says which values
+//!   they are. [`CallRecord::know_types`] brings in the type invariants of its parts, from which it follows that the line
+//!   parses back.
+//! - [`spelled_law`] says that the printed text of each batch without a fault parses to it. [`read_back_law`] says the same
+//!   of each record.
+//! - [`one_line_law`] says that no printed line contains a line feed.
 //!
-//! - `printing`: which bytes print a value; `laws`: what is printed is read back, and each line is one line.
+//! - `printing`: which bytes print a value; `laws`: what is printed parses back, and each line is one line.
 #![tactic(auto)]
 
 mod laws;

@@ -1,10 +1,10 @@
 //! Which bytes print a value?
 //!
 //! - `print_json`: a value that has one JSON text, which it puts piece by piece; `text`: a text as a JSON string.
-//! - `names`, `book_rows`: what a book holds; `marks`: what a call read.
-//! - `replies`, `lent_replies`, `events`, `refusal`, `seats`: the lines that go out.
-//! - `batches`, `records`: what was asked, as a record of a call has it.
-//! - `values`: which JSON values these lines are; `written`: what the types of a record's parts see to.
+//! - `names`, `book_rows`: the rows of a book; `marks`: the entries of a read set.
+//! - `replies`, `lent_replies`, `events`, `refusal`, `seats`: the lines of the output.
+//! - `batches`, `records`: the batch of a call, as its record has it.
+//! - `values`: which JSON values these lines are; `written`: the type invariants of a record's parts.
 
 pub(crate) mod batches;
 pub(crate) mod book_rows;

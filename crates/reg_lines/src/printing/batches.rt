@@ -12,7 +12,7 @@ use line_devices::{Output, Sink};
 use spiffe_name::{SpiffeId, TrustDomain};
 use uuid::Uuid;
 
-/// The mode in a word.
+/// Returns the word for the mode.
 fn mode_text(mode: DropMode) -> &'static str
     ensures { result.now ≡ mode_text mode }
 {
@@ -31,7 +31,7 @@ impl PrintJson for DropMode {
     }
 }
 
-/// The way to match in a word.
+/// Returns the word for the match mode.
 fn match_text(mode: MatchMode) -> &'static str
     ensures { result.now ≡ match_text mode }
 {
@@ -51,7 +51,7 @@ impl PrintJson for MatchMode {
     }
 }
 
-/// Puts a value with what stands before it, where one is given.
+/// Puts the value with `before` in front of it, if there is one.
 fn put_given<T: PrintJson, S: Sink>(before: &[u8], value: &Option<T>, output: &mut Output<S>)
     ensures { Puts output.old output.new (given_member before.now T.text value.now) }
 {
@@ -64,7 +64,7 @@ fn put_given<T: PrintJson, S: Sink>(before: &[u8], value: &Option<T>, output: &m
     }
 }
 
-/// Puts a value with what stands before it and a comma behind it, where one is given.
+/// Puts the value with `before` in front of it and a comma after it, if there is one.
 fn put_leading<T: PrintJson, S: Sink>(before: &[u8], value: &Option<T>, output: &mut Output<S>)
     ensures { Puts output.old output.new (leading_member before.now T.text value.now) }
 {
@@ -78,8 +78,8 @@ fn put_leading<T: PrintJson, S: Sink>(before: &[u8], value: &Option<T>, output: 
     }
 }
 
-/// An object with the name of the operation and its keys, in the order of their bytes. What an operation does without is
-/// left out; what it has by default is printed.
+/// An object with the name of the operation and its keys, in the order of their bytes. Optional values that aren't given
+/// are left out; defaults are printed.
 impl PrintJson for Op {
     ghost text = { op_json };
 
@@ -104,7 +104,7 @@ impl PrintJson for Op {
     }
 }
 
-/// Prints the operation of this name on an entry; a lifetime of 0 is left out.
+/// Prints the operation of this name on an entry. A lifetime of 0 is left out.
 fn print_entry_op<S: Sink>(
     name: &str,
     entry: &NewEntry,
@@ -145,7 +145,7 @@ fn print_delete<S: Sink>(id: &Uuid, expected: &Option<u64>, output: &mut Output<
     output.put(b"}");
 }
 
-/// Prints the operation of this name, which has one key, before the name.
+/// Prints the operation of this name with one key, which comes before the name.
 fn print_keyed_op<T: PrintJson, S: Sink>(key: &str, value: &T, name: &str, output: &mut Output<S>)
     ensures { Puts output.old output.new (keyed_op_json key.now (T.text value.now) name.now) }
 {
@@ -183,7 +183,7 @@ fn print_page_op<S: Sink>(query: &PageQuery, output: &mut Output<S>)
     output.put(b"}");
 }
 
-/// Puts how selectors are compared, with a comma behind it, where some are asked for.
+/// Puts the match mode with a comma after it, if there is a condition on selectors.
 fn put_match<S: Sink>(question: &Option<SelectorMatch>, output: &mut Output<S>)
     ensures { Puts output.old output.new (match_member question.now) }
 {
@@ -197,7 +197,7 @@ fn put_match<S: Sink>(question: &Option<SelectorMatch>, output: &mut Output<S>)
     }
 }
 
-/// Puts the selectors that are asked for, where some are.
+/// Puts the selectors of the condition, if there is one.
 fn put_selectors<S: Sink>(question: &Option<SelectorMatch>, output: &mut Output<S>)
     ensures { Puts output.old output.new (selectors_member question.now) }
 {
@@ -240,7 +240,7 @@ fn print_drop_bundle<S: Sink>(domain: &TrustDomain, mode: DropMode, output: &mut
     output.put(b",\"op\":\"drop_bundle\"}");
 }
 
-/// The least place, the operations, and the token where there is one.
+/// The smallest place, the operations, and the token, if there is one.
 impl PrintJson for Batch {
     ghost text = { batch_json };
 

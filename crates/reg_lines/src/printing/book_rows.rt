@@ -7,7 +7,7 @@ use crate::printing::print_json::{PrintJson, print_number};
 use entry_book::{Agent, Bundle, Entry};
 use line_devices::{Output, Sink};
 
-/// The fields, in the order of their keys' bytes; a lifetime of 0 is left out.
+/// The fields, in the order of their keys' bytes. A lifetime of 0 is left out.
 impl PrintJson for Entry {
     ghost text = { entry_json };
 
@@ -34,7 +34,7 @@ impl PrintJson for Entry {
     }
 }
 
-/// Puts a lifetime of documents with what stands before it, where it isn't 0.
+/// Puts a lifetime in seconds with `before` in front of it, if it isn't 0.
 pub(crate) fn put_lifetime<S: Sink>(before: &[u8], seconds: u64, output: &mut Output<S>)
     ensures { Puts output.old output.new (lifetime_member before.now (given_lifetime seconds)) }
 {

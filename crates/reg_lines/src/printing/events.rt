@@ -1,4 +1,4 @@
-//! The lines that answer events, and the line with the order of the calls.
+//! Which line answers an event, and which one reports the order?
 
 ghost use Rattle.std.specs.Prelude.{◌≡◌};
 ghost use Rattle.reg_lines.specs.EventAnswers.{begun_json, commit_json, decided_json, event_json, event_refusal_json, full_json, invoked_json, order_json, status_json, status_text, stepped_json};
@@ -62,7 +62,7 @@ fn print_invoked<S: Sink>(call: u64, output: &mut Output<S>)
     output.put(b",\"state\":\"new\"}");
 }
 
-/// Prints where a call began, and what it waits for.
+/// Prints at which place a call began, and its status.
 fn print_begun<S: Sink>(call: u64, place: u64, status: Status, output: &mut Output<S>)
     ensures { Puts output.old output.new (begun_json call place status) }
 {
@@ -75,7 +75,7 @@ fn print_begun<S: Sink>(call: u64, place: u64, status: Status, output: &mut Outp
     output.put(b"}");
 }
 
-/// Prints what a call read, and what it waits for.
+/// Prints what a call read, and its status.
 fn print_stepped<S: Sink>(call: u64, read: &Mark, status: Status, output: &mut Output<S>)
     ensures { Puts output.old output.new (stepped_json call read.now status) }
 {
@@ -88,7 +88,7 @@ fn print_stepped<S: Sink>(call: u64, read: &Mark, status: Status, output: &mut O
     output.put(b"}");
 }
 
-/// Prints the outcome of a commit.
+/// Prints the decision on a commit.
 fn print_decided<S: Sink>(call: u64, decision: Decision, place: u64, output: &mut Output<S>)
     ensures { Puts output.old output.new (decided_json call decision place) }
 {
@@ -99,7 +99,7 @@ fn print_decided<S: Sink>(call: u64, decision: Decision, place: u64, output: &mu
     }
 }
 
-/// Prints the outcome of a commit that met no limit.
+/// Prints the decision on a commit that met no limit.
 fn print_commit<S: Sink>(call: u64, decision_word: &str, place: u64, output: &mut Output<S>)
     ensures { Puts output.old output.new (commit_json call decision_word.now place) }
 {
@@ -112,7 +112,7 @@ fn print_commit<S: Sink>(call: u64, decision_word: &str, place: u64, output: &mu
     output.put(b"}");
 }
 
-/// Prints that a commit was refused because a limit is reached.
+/// Prints that a limit refused a commit.
 fn print_full<S: Sink>(call: u64, limit: Limit, place: u64, output: &mut Output<S>)
     ensures { Puts output.old output.new (full_json call limit place) }
 {
@@ -127,7 +127,7 @@ fn print_full<S: Sink>(call: u64, limit: Limit, place: u64, output: &mut Output<
 
 /// Why an event was refused, with the number of its line.
 ///
-/// Prints as an object with the refusal's `code` and the `line`. Printing allocates nothing.
+/// It is printed as an object with the refusal's `code` and the `line`. Printing takes no memory.
 #[derive(Clone, Copy, Debug, PartialEq, Eq, Drop)]
 pub struct EventRefused {
     /// The line's number, counted from 1.
@@ -144,7 +144,7 @@ impl PrintJson for EventRefused {
     }
 }
 
-/// The numbers of the calls in their order, as the last line of a schedule has them.
+/// The numbers of the calls in their order, for the last line of a schedule.
 #[derive(Clone, Copy, Drop)]
 pub struct CallOrder<'a> {
     /// The numbers of the calls.

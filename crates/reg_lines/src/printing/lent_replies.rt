@@ -1,4 +1,4 @@
-//! Which line prints the reply to a batch that only asks, where the rows are lent?
+//! Which line prints the reply to a read-only batch, with borrowed rows?
 
 ghost use Rattle.reg_lines.specs.Replies.{op_reply_json, reply_json};
 
@@ -8,7 +8,7 @@ use batch_work::{LentOpReply, LentReply, LentRows};
 use line_devices::{Output, Sink};
 use version_book::Lent;
 
-/// As the value is printed.
+/// Printed like the borrowed value.
 impl<T: PrintJson> PrintJson for Lent<'_, T> {
     ghost text = { T.text };
 
@@ -17,7 +17,7 @@ impl<T: PrintJson> PrintJson for Lent<'_, T> {
     }
 }
 
-/// An object whose first key says what kind of reply it is. A row that isn't there is `null`.
+/// An object whose first key names the kind of the reply. A row that doesn't exist is `null`.
 impl PrintJson for LentOpReply<'_> {
     ghost text = { op_reply_json };
 
@@ -33,10 +33,10 @@ impl PrintJson for LentOpReply<'_> {
     }
 }
 
-/// The reply to a batch that only asks with the number of its call, as a reply line has them.
+/// The reply to a read-only batch with the number of its call, for a reply line.
 #[derive(Drop)]
 pub struct LentCallReply<'a> {
-    /// The number of the call that asked.
+    /// The number of the call.
     pub call: u64,
     /// The reply to the batch.
     pub reply: LentReply<'a>,

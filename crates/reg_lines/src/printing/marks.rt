@@ -1,4 +1,4 @@
-//! How is printed what a call read?
+//! How is a read of a call printed?
 
 ghost use Rattle.std.specs.Prelude.{◌++◌, codes, decimal};
 ghost use Rattle.reg_lines.specs.EventAnswers.{mark_json};
@@ -22,7 +22,7 @@ impl PrintJson for Mark {
     }
 }
 
-/// A text: the kind of rows that it names, and which they are, with a space between two parts.
+/// A text: the kind of the rows, and which they are, with a space between two parts.
 impl PrintJson for MarkKind {
     ghost text = { mark_json };
 
@@ -41,7 +41,7 @@ impl PrintJson for MarkKind {
     }
 }
 
-/// Prints one text of a word, with its space, and a name.
+/// Prints one text: a word, which ends in its space, and a name.
 fn print_named<S: Sink>(word: &str, name: &str, output: &mut Output<S>)
     ensures { Puts output.old output.new (text_json (word.now ++ name.now)) }
 {
@@ -51,7 +51,7 @@ fn print_named<S: Sink>(word: &str, name: &str, output: &mut Output<S>)
     output.put(b"\"");
 }
 
-/// The same of an id, in the hyphenated form in lower case.
+/// Prints one text: a word, and an id in the hyphenated form in lower case.
 fn print_named_id<S: Sink>(word: &str, id: &Uuid, output: &mut Output<S>)
     ensures { Puts output.old output.new (text_json (word.now ++ uuid_text id.now)) }
 {
@@ -59,7 +59,7 @@ fn print_named_id<S: Sink>(word: &str, id: &Uuid, output: &mut Output<S>)
     print_named(word, id.hyphenated().encode_lower(&mut buffer), output);
 }
 
-/// The same of a moment, in decimal.
+/// Prints one text: the word `expiring`, and a moment in decimal.
 fn print_moment<S: Sink>(moment: u64, output: &mut Output<S>)
     ensures { Puts output.old output.new (text_json (codes "expiring " ++ decimal moment)) }
 {
@@ -67,7 +67,7 @@ fn print_moment<S: Sink>(moment: u64, output: &mut Output<S>)
     print_named("expiring ", buffer.format(moment), output);
 }
 
-/// Prints one text of a word and two names, with a space between two parts.
+/// Prints one text: the word `group` and two names, with a space between two parts.
 fn print_group<S: Sink>(parent: &SpiffeId, identity: &SpiffeId, output: &mut Output<S>)
     ensures { Puts output.old output.new
         (text_json (codes "group " ++ parent.now ++ codes " " ++ identity.now)) }

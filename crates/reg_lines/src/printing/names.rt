@@ -1,4 +1,4 @@
-//! How names, and what holds them, are printed.
+//! How are names printed, and the containers of values?
 
 ghost use Rattle.reg_lines.specs.Json.{list_json, text_json};
 ghost use Rattle.reg_lines.specs.Replies.{selector_json, uuid_json};

@@ -8,9 +8,9 @@ use crate::printing::text::print_text;
 use itoa::Buffer;
 use line_devices::{Output, Sink};
 
-/// A value that has one compact JSON text. To print it takes no memory.
+/// A value that has one compact JSON text. Printing it takes no memory.
 pub trait PrintJson {
-    // Its text.
+    // The text.
     ghost text: { Self → List ℕ };
 
     /// Prints the text.
@@ -44,7 +44,7 @@ fn print_items<T: PrintJson, S: Sink>(items: &[T], output: &mut Output<S>)
     }
 }
 
-/// Puts what stands before the item of this index.
+/// Puts the comma before the item of this index; the first item has none.
 fn put_comma<S: Sink>(index: usize, output: &mut Output<S>)
     ensures { Puts output.old output.new (comma index) }
 {

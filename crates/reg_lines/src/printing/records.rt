@@ -9,21 +9,21 @@ use call_answers::{CallAnswer, KnownCall};
 use entry_book::{Batch, Reply};
 use line_devices::{Output, Sink};
 
-/// A call of a schedule that stands in the order, as the line of a record has it.
+/// A call with a reply, for the line of its record.
 ///
-/// Printed it is an object with the `batch`, the `call`'s number, when it was `invoked` and `replied`, and the `reply` as its
-/// reply line has it. To print it takes no memory.
+/// It is printed as an object. The keys are `batch`, `call` (its number), `invoked` and `replied` (the numbers of its
+/// events), and `reply`, as on its reply line. Printing takes no memory.
 #[derive(Clone, Copy, Drop)]
 pub struct CallRecord<'a> {
-    /// The batch that was handed in.
+    /// The batch of the call.
     pub batch: &'a Batch,
     /// The number of the call.
     pub call: u64,
     /// The number of its invoke among the accepted events, counted from 1.
     pub invoked: u64,
-    /// That of its reply; none where the call was committed and hasn't replied.
+    /// The number of its reply; `None` if it hasn't replied.
     pub replied: Option<u64>,
-    /// The reply, given out or not.
+    /// The reply, returned to the client or not.
     pub reply: &'a Reply,
 }
 
@@ -31,7 +31,7 @@ impl<'a> CallRecord<'a> {
     ghost use Rattle.reg_lines.specs.CallRecords.{HasRecord};
     ghost use Rattle.reg_lines.specs.Spelled.{IsWrittenBatch, IsWrittenCall};
 
-    /// The record of the call of this number, once it has a reply: a conflict is none.
+    /// Returns the record of the call of this number, if it has a reply. A conflict isn't a reply.
     pub fn of(call: u64, known: &KnownCall<'a>) -> Option<CallRecord<'a>>
         ensures { HasRecord call known.now result }
     {
@@ -48,8 +48,9 @@ impl<'a> CallRecord<'a> {
         }
     }
 
-    /// The record's batch has no fault, and its parts are as their types see to; of such a record [`crate::read_back_law`] says
-    /// that its line spells it. This only reads the record, and takes no memory: what it ensures is a fact to cite.
+    /// Brings the type invariants of the record's parts into a proof: the batch has no fault, and the parts are valid. They
+    /// are the premises of [`crate::read_back_law`], which says that its line parses to it. This only reads the record, and
+    /// takes no memory.
     pub fn know_types(&self)
         ensures batch { IsWrittenBatch self.now.batch.now }
         ensures call { IsWrittenCall self.now.call self.now.invoked self.now.replied self.now.reply.now }

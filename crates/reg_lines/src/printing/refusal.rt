@@ -1,4 +1,4 @@
-//! The line that reports the refusal of a line.
+//! Which line reports that a line was refused?
 
 ghost use Rattle.reg_lines.specs.Refusals.{fault_json, field_member, op_member, refusal_json, refused_line_json};
 ghost use Rattle.line_devices.specs.Stream.{Puts};
@@ -9,8 +9,8 @@ use line_devices::{Output, Sink};
 use line_reading::{Fault, Field, LineRefusal};
 use spiffe_name::Failure;
 
-/// An object with the refusal's `code` and the `line`, and with the `field` and the `op` if there are such. Out of memory has the
-/// code L6. Printing allocates nothing.
+/// An object with the refusal's `code` and the `line`, and the `field` and the `op` if the fault has them. Out of memory
+/// has the code L6. Printing takes no memory.
 impl PrintJson for LineRefusal {
     ghost text = { refusal_json };
 
@@ -45,7 +45,7 @@ fn print_fault<S: Sink>(line: u64, fault: &Fault, output: &mut Output<S>)
     output.put(b"}");
 }
 
-/// Puts the key with the fault, if the fault is at a key.
+/// Puts the key at which the fault is, if it is at a key.
 fn put_field<S: Sink>(field: &Option<Field>, output: &mut Output<S>)
     ensures { Puts output.old output.new (field_member field.now) }
 {

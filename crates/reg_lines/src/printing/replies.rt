@@ -12,7 +12,7 @@ use entry_book::{OpRefusal, OpReply, Outcome, Refusal, Reply};
 use line_devices::{Output, Sink};
 use uuid::Uuid;
 
-/// An object whose first key says what kind of reply it is. A row that isn't there is `null`.
+/// An object whose first key names the kind of the reply. A row that doesn't exist is `null`.
 impl PrintJson for OpReply {
     ghost text = { op_reply_json };
 
@@ -46,7 +46,7 @@ pub(crate) fn print_under<T: PrintJson, S: Sink>(key: &str, value: &T, output: &
     output.put(b"}");
 }
 
-/// Prints the entries of a page, and the id after which the next one begins.
+/// Prints the entries of a page, and the id after which the next page begins.
 pub(crate) fn print_page<T: PrintJson, S: Sink>(
     entries: &[T],
     next: &Option<Uuid>,
@@ -72,7 +72,7 @@ fn print_dropped<S: Sink>(deleted: &[Uuid], dissociated: &[Uuid], output: &mut O
     output.put(b"}");
 }
 
-/// The reply to a batch with the number of its call, as a reply line has them.
+/// The reply to a batch with the number of its call, for a reply line.
 #[derive(Clone, Copy, Drop)]
 pub struct CallReply<'a> {
     /// The number of the call that ran the batch.
@@ -119,7 +119,7 @@ impl PrintJson for CallReply<'_> {
     }
 }
 
-/// Prints the reply to a batch whose operations were all answered.
+/// Prints the reply to a batch whose operations were all executed.
 pub(crate) fn print_done<T: PrintJson, S: Sink>(
     call: u64,
     place: u64,
@@ -160,7 +160,7 @@ pub(crate) fn print_refused<S: Sink>(
     output.put(b",\"result\":\"refused\"}");
 }
 
-/// Puts what a refusal is about, where its code says of what kind that is.
+/// Puts the detail of a refusal, if it has one.
 fn put_detail<S: Sink>(refusal: &Refusal, output: &mut Output<S>)
     ensures { Puts output.old output.new (detail_member refusal.now) }
 {
@@ -172,7 +172,7 @@ fn put_detail<S: Sink>(refusal: &Refusal, output: &mut Output<S>)
     }
 }
 
-/// Puts the similar entry's id, or the missing domain, where the refusal has one.
+/// Puts the id of the similar entry or the missing trust domain, if the refusal has one.
 fn put_op_detail<S: Sink>(refusal: &OpRefusal, output: &mut Output<S>)
     ensures { Puts output.old output.new (op_detail_member refusal.now) }
 {
@@ -195,13 +195,13 @@ fn put_detail_of<T: PrintJson, S: Sink>(value: &T, output: &mut Output<S>)
     value.print_to(output);
 }
 
-/// What a call is answered with its number, as a reply line has them: the reply to its batch, or that its changes were given up
-/// for those of others.
+/// The answer to a call with its number, for a reply line: the reply to its batch, or that its commit failed with a
+/// conflict.
 #[derive(Clone, Copy, Drop)]
 pub struct AnsweredCall<'a> {
     /// The number of the call.
     pub call: u64,
-    /// What it is answered.
+    /// The answer to the call.
     pub answer: &'a CallAnswer,
 }
 
@@ -217,7 +217,7 @@ impl PrintJson for AnsweredCall<'_> {
     }
 }
 
-/// Prints that a call's changes were given up for those of others, and at which place this was found.
+/// Prints that a call ended in a conflict, and at which place this was found.
 fn print_conflict<S: Sink>(call: u64, place: u64, output: &mut Output<S>)
     ensures { Puts output.old output.new (conflict_json call place) }
 {

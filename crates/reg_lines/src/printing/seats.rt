@@ -1,4 +1,4 @@
-//! The line that reports that a seat has no reply to a request.
+//! Which line reports that a seat doesn't answer a request?
 
 ghost use Rattle.std.specs.Prelude.{◌≡◌};
 ghost use Rattle.reg_lines.specs.SeatLines.{seat_code, seat_refusal_json};
@@ -7,12 +7,12 @@ use crate::printing::print_json::PrintJson;
 use crate::printing::refusal::print_refused_line;
 use line_devices::{Output, Sink};
 
-/// Why a seat of a shared registry has no reply to the request on a line.
+/// Why a seat of a shared registry doesn't answer a valid request.
 #[derive(Clone, Copy, Debug, PartialEq, Eq, Drop)]
 pub enum SeatRefusal {
     /// The seat has no call number left.
     Spent,
-    /// The registry didn't admit the seat.
+    /// The seat couldn't enter the registry.
     NoEntry,
 }
 
@@ -28,14 +28,14 @@ impl SeatRefusal {
     }
 }
 
-/// Why a seat has no reply to a request, with the number of its line.
+/// Why a seat doesn't answer a request, with the number of its line.
 ///
-/// Prints as an object with the refusal's `code` and the `line`. Printing allocates nothing.
+/// It is printed as an object with the refusal's `code` and the `line`. Printing takes no memory.
 #[derive(Clone, Copy, Debug, PartialEq, Eq, Drop)]
 pub struct SeatRefused {
     /// The line's number, counted from 1.
     pub line: u64,
-    /// Why the seat has no reply.
+    /// Why the seat doesn't answer.
     pub refusal: SeatRefusal,
 }
 

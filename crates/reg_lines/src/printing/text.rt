@@ -13,7 +13,7 @@ fn needs_escape(byte: u8) -> bool
     byte < 32 || byte == b'"' || byte == b'\\'
 }
 
-/// Where the first byte is that can't stand as it is.
+/// Returns the index of the first byte that must be escaped.
 fn escape_at(bytes: &[u8]) -> Option<usize>
     ensures { result ≡ position needs_escape bytes.now }
 {
@@ -31,7 +31,7 @@ fn hex_digit(digit: u8) -> u8
     }
 }
 
-/// Puts what stands for a byte that can't stand as it is.
+/// Puts the escape of a byte that must be escaped.
 #[tactic(auto, unfolding(crate::specs::Json::escaped))]
 fn put_escaped<S: Sink>(byte: u8, output: &mut Output<S>)
     requires { IsTrue (needs_escape byte) }
@@ -56,7 +56,7 @@ fn put_escaped<S: Sink>(byte: u8, output: &mut Output<S>)
     }
 }
 
-/// Puts each run of bytes that stand as they are at once.
+/// Puts the bytes of a JSON string with their escapes. Each run of bytes without an escape is put in one piece.
 pub(crate) fn put_all_escaped<S: Sink>(bytes: &[u8], output: &mut Output<S>)
     ensures { Puts output.old output.new (flat_map escaped bytes.now) }
 {

@@ -1,6 +1,6 @@
-//! What do the types of a record's parts see to?
+//! What are the type invariants of a record's parts?
 //!
-//! - `names`: texts, UUIDs and selectors; `batches`: what was asked; `replies`: what was answered.
+//! - `names`: texts, UUIDs and selectors; `batches`: batches and operations; `replies`: replies and rows.
 
 ghost use Rattle.std.specs.Prelude.{IfSome, map, ◌<◌, ◌^◌};
 ghost use Rattle.std.specs.List.{AllByRecursion};
@@ -15,21 +15,22 @@ pub(crate) mod replies;
 
 use entry_book::{Sequence, Shared};
 
-/// A value whose type sees to what a line asks of it: a UUID has sixteen bytes, a set stands in its one order, a text is UTF-8.
+/// A value with type invariants on which reading it back depends: a UUID has 16 bytes, a set is in its order, a text is
+/// UTF-8.
 pub(crate) trait Written {
-    // What its type sees to, beside its texts and numbers.
+    // The type invariant, apart from that of its texts and numbers.
     ghost is_written: { Self → Type 0 };
 
-    // The JSON value that it is printed as.
+    // The JSON value as which it is printed.
     ghost value: { Self → Data };
 
-    /// Only reads the value: what it ensures is a fact to cite.
+    /// Brings the invariants into a proof. It only reads the value.
     fn know(&self)
         ensures written { is_written self.now }
         ensures typed { IsTyped (value self.now) };
 }
 
-/// The same of each item.
+/// The same for each item.
 pub(crate) fn know_all<T: Written>(items: &[T])
     ensures written { AllByRecursion T.is_written items.now }
     ensures typed { ItemsAreTyped (items_of (map T.value items.now)) }

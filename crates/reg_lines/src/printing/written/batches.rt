@@ -1,4 +1,4 @@
-//! What do the types of a batch and of its operations see to?
+//! What are the type invariants of a batch and its operations?
 
 ghost use Rattle.std.specs.Prelude.{ℕ, List, Option};
 ghost use Rattle.std.specs.Str.{IsUtf8};
@@ -10,7 +10,7 @@ ghost use Rattle.reg_lines.specs.Values.{option_data, whole};
 use crate::printing::written::{Written, know_all};
 use entry_book::{Agent, Batch, NewEntry, Op, PageQuery, SelectorMatch};
 
-/// An operation on an entry, of whatever name.
+/// Brings in the invariants of the entry of a create or an update.
 fn know_entry(entry: &NewEntry)
     ensures written { IsWrittenEntry entry.now }
     ensures typed { (word : List ℕ) (expected : Option ℕ) → IsUtf8 word → IsTyped (option_data whole expected)
@@ -27,7 +27,7 @@ fn know_entry(entry: &NewEntry)
     entry.jwt_svid_ttl.know();
 }
 
-/// An agent that is set.
+/// Brings in the invariants of the agent of a `set_agent`.
 fn know_agent(agent: &Agent)
     ensures written { IsWrittenAgent agent.now }
     ensures typed { IsTyped (set_agent_data agent.now) }

@@ -1,4 +1,4 @@
-//! What do the types of texts, UUIDs and selectors see to?
+//! What are the type invariants of texts, UUIDs and selectors?
 
 ghost use Rattle.std.specs.Prelude.{⊤};
 ghost use Rattle.serde_json.specs.Data.{string};

@@ -1,4 +1,4 @@
-//! What do the types of a reply and of its rows see to?
+//! What are the type invariants of a reply and its rows?
 
 ghost use Rattle.std.specs.Prelude.{⊤};
 ghost use Rattle.reg_lines.specs.Spelled.{IsTyped};
@@ -79,7 +79,7 @@ impl Written for OpReply {
     }
 }
 
-/// What a refusal of an operation is about.
+/// Brings in the invariant of the detail of an operation's refusal.
 fn know_detail(refusal: &OpRefusal)
     ensures { IsTyped (option_data string (op_detail refusal.now)) }
 {
@@ -95,7 +95,7 @@ fn know_detail(refusal: &OpRefusal)
     }
 }
 
-/// The reply to a batch that was refused.
+/// Brings in the invariants of the reply to a batch that was refused.
 fn know_refused(call: u64, place: u64, refusal: &Refusal)
     ensures { IsTyped (refused_data call place refusal.now) }
 {
@@ -113,7 +113,7 @@ fn know_refused(call: u64, place: u64, refusal: &Refusal)
     }
 }
 
-/// The reply to a batch that a call of this number ran.
+/// The invariants of the reply to a batch, with the number of its call.
 impl Written for CallReply<'_> {
     ghost is_written = { λ _. ⊤ };
 
