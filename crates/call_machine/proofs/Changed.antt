@@ -1,4 +1,4 @@
--- A call that is found, and moved on, and what that is to a machine.
+-- A call is found, and replaced by its next state; what that means for the machine.
 use Rattle.std.proofs.Common.{◌≡◌, ℕ, ◌+◌, ◌≤◌, ◌<◌, length, length-append, arith, Bool, false, List, [], ◌∷◌, ◌++◌, Option, Some, None, refl, sym, ap, subst, ◌∙◌, inl, inr, ⊎_elim}
 use Rattle.std.specs.Prelude.{nat_eq, option_map, is_some, if◌then◌else◌}
 use Rattle.std.specs.Map.{lookup, set_value}
@@ -61,7 +61,7 @@ state_stays count es s = λ i. record { domain = (s.window i).newest.domain; jou
 -- ---- the call that is found has another slot
 
 module _ {h : Head} {count : ℕ} {es entries : List (ℕ × Slot)} {slot : Slot} (n : ℕ) (later : Slot) (holds : Holds h count es) (found : lookup (nat_eq n) es ≡ Some slot) (changed : entries ≡ set_value (nat_eq n) es later) where
-  -- which is the same as before
+  -- the slot is the same as before
   unchanged : later ≡ slot → entries ≡ es
   unchanged same = changed ∙ (ap (set_value (nat_eq n) es) same ∙ set_same n slot es found)
 
@@ -71,7 +71,7 @@ module _ {h : Head} {count : ℕ} {es entries : List (ℕ × Slot)} {slot : Slot
   pub state_unchanged : later ≡ slot → state_of h count entries ≡ state_of h count es
   state_unchanged same = ap (state_of h count) (unchanged same)
 
-  -- which has one event more
+  -- with one more event
   calls_moved : (call : Call) → call_kept n later ≡ call → calls_kept entries ≡ with_call call (calls_kept es)
   calls_moved call is = ap calls_kept changed ∙ (set_call n later es ∙ ap (λ k. with_call k (calls_kept es)) is)
 
@@ -86,7 +86,7 @@ module _ {h : Head} {count : ℕ} {es entries : List (ℕ × Slot)} {slot : Slot
     counted = subst (λ l. count + 1 ≤ all_events l) (sym changed) (counted_set count n es slot later found more holds.counted);
   }
 
-  -- and the journal goes on
+  -- the same, if the journal has grown and the call is over
   pub holds_on : {new : Head} → GoesOn h new → IsMadeFor (domain_of h) later.batch → IsOver later.state → slot_events slot + 1 ≤ slot_events later → Holds new (count + 1) entries
   holds_on {new} on made over more =
       let all : AllRest (domain_of new) new.kept es = subst (λ own. AllRest own new.kept es) (sym on.domain) (subst (λ l. AllRest (domain_of h) l es) (sym on.kept) (all_rest_more (domain_of h) h.kept on.more es holds.rest)) in

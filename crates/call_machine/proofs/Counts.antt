@@ -1,4 +1,4 @@
--- A machine's calls are few and so are the events of each, so that the count of accepted events is far below 2^64.
+-- A machine has few calls and each has few events, so the number of accepted events is far below 2^64.
 use Rattle.std.proofs.Common.{◌≡◌, ℕ, ◌+◌, ◌*◌, ◌≤◌, ◌<◌, ◌^◌, true, false, cond, List, [], ◌∷◌, ◌++◌, suc, length, take, drop, Option, Some, None, refl, sym, ap, subst, ⊎_elim, arith}
 use Rattle.std.specs.Prelude.{nat_eq, nat_lt}
 use Rattle.std.specs.Map.{lookup, set_value}
@@ -64,7 +64,7 @@ module _ (own : Bytes) (items : List Item) (s : Version) (leads : Leads (first_v
   few_all [] a = omega arith
   few_all (e ∷ es) a = let k = few_slot e.1 a.0 in let q = few_all es a.1 in omega arith
 
--- one event more can be counted
+-- one more event can be counted
 pub has_room : {h : Head} {count : ℕ} {es : List (ℕ × Slot)} → Holds h count es → count + 1 < 2 ^ 64
 has_room {h} {count} {es} holds =
     let k = few_all (domain_of h) h.kept (newest_of h) holds.whole.leads es holds.rest in
@@ -99,7 +99,7 @@ pub events_more : (n : ℕ) (slot : Slot) (es : List (ℕ × Slot)) → all_even
 events_more n slot [] = omega arith
 events_more n slot (e ∷ es) = let k = events_more n slot es in omega arith
 
--- ---- each event of a call is one more
+-- ---- each event of a call counts one
 
 events_on : (batch : Batch) (books : List Book) (base made : ℕ) → made ≤ 2 ^ 21 → 2 + made ≤ stage_events (stage_on batch books base made)
 events_on batch books base made few = elim (nat_lt made (length (footprint_of batch books))) as (λ b. 2 + made ≤ stage_events (cond b (running base made) (stage_settled (awaits_commit batch books) base (reply_to batch books)))) [
@@ -107,7 +107,7 @@ events_on batch books base made few = elim (nat_lt made (length (footprint_of ba
   | false ↦ elim (awaits_commit batch books) as (λ b. 2 + made ≤ stage_events (stage_settled b base (reply_to batch books))) [ true ↦ omega arith | false ↦ omega arith ]
 ]
 
--- at a stage with more events, and the same reply
+-- the later stage allows one more event, and the reply is the same
 more_by : (old later : Slot) (f g : Stage) → stage_of_slot old ≡ f → stage_of_slot later ≡ g → later.replied ≡ old.replied → stage_events f + 1 ≤ stage_events g → slot_events old + 1 ≤ slot_events later
 more_by old later f g e d r more =
     let a = ap stage_events e in

@@ -1,4 +1,4 @@
--- What a head's answer to the commit of a call is to the machine.
+-- What a head's decision on the commit of a call means for the machine.
 use Rattle.std.proofs.Common.{◌≡◌, ℕ, ◌+◌, [], ◌∷◌, ◌++◌, length, refl, sym, ap, subst, ◌∙◌, inl, inr}
 use Rattle.entry_book.specs.declared.limit.Limit.{Limit}
 use Rattle.entry_book.specs.declared.reply.Outcome.TheVariants.{Committed as WasCommitted, Refused}
@@ -22,7 +22,7 @@ use Rattle.call_machine.specs.Kept.{BeganInside, Finishes, IsDecided, IsWhole, R
 use Rattle.call_machine.proofs.Heads.{appended_from, began_on, stayed, went_on}
 use Rattle.call_machine.proofs.Slots.{IsAwaiting, began_at, ready_is}
 
--- what a work that is ready has to do with the journal
+-- the base of a ready work is inside the journal
 began : (h : Head) (w : Work) (r : IsAwaiting w) → RestsOn (domain_of h) h.kept w → BeganInside (domain_of h) h.kept w.batch r.base
 began h w r rests = began_at (domain_of h) h.kept w r.base rests r.base_is
 

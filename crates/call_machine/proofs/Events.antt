@@ -1,4 +1,4 @@
--- Each accepted event keeps what holds of a machine's calls.
+-- Each accepted event preserves the invariant of a machine's calls.
 use Rattle.std.proofs.Common.{◌≡◌, ℕ, ◌+◌, true, false, cond, List, [], ◌++◌, length, take, Some, None, IsSome, refl, sym, ap, subst, ◌∙◌, ⊎_elim, arith}
 use Rattle.std.specs.Prelude.{nat_lt, is_some}
 use Rattle.std.proofs.lemmas.Bool.{cases_Bool, both_ways}
@@ -20,7 +20,7 @@ use Rattle.call_machine.proofs.Line.{entered, StageFits, is_begun}
 use Rattle.call_machine.proofs.Sound.{Stamped, Sound, kept_aside, joined, stayed, went_last, left, came}
 use Rattle.call_machine.proofs.PlainBook.{never_commits}
 
--- ---- where a call stands when it reads on
+-- ---- the stage of a call after a read
 
 begun_on : (batch : Batch) (journal : List Batch) (base made : ℕ) → is_begun (stage_on batch (books_of journal) base made) ≡ true
 begun_on batch journal base made = elim (nat_lt made (length (footprint_of batch (books_of journal)))) as (λ b. is_begun (cond b (running base made) (stage_settled (awaits_commit batch (books_of journal)) base (reply_to batch (books_of journal)))) ≡ true) [
@@ -43,7 +43,7 @@ fits_on batch journal base made e = elim (nat_lt made (length (footprint_of batc
   ] refl
 ]
 
--- a call that has no reply to give has given none
+-- a call without an answer has not replied
 pub not_replied : (count : ℕ) (c : Call) → Stamped count c → answer_of c.stage ≡ None → (n : ℕ) → c.replied ≡ Some n → ⊥
 not_replied count c s e n q = let h : IsSome (answer_of c.stage) = (s.over n q).1 in let k : is_some (answer_of c.stage) ≡ false = ap is_some e in absurd (both_ways (is_some (answer_of c.stage)) k h)
 
@@ -90,7 +90,7 @@ steps s n d t h i =
       over = λ m e. absurd (not_replied s.count i.call k (ap answer_of i.in_turn) m e);
     }))
 
--- a reply that is a refusal isn't a commit
+-- a reply that is not committed by its outcome is not a commit
 refused_is : (r : Reply) (o : Outcome) → r.outcome ≡ o → is_committed o ≡ false → is_committed r.outcome ≡ false
 refused_is r o e f = ap is_committed e ∙ f
 

@@ -1,4 +1,4 @@
--- What a head's answer to a commit is to the journal of batches, where the head keeps its whole journal.
+-- What a head's decision on a commit means for the journal of batches, if the head stores its whole journal.
 use Rattle.std.proofs.Common.{◌≡◌, ℕ, List, [], ◌∷◌, ◌++◌, length, length-append, take, drop, Some, sym, ap, subst, ◌∙◌, arith}
 use Rattle.std.proofs.lemmas.List.{append-nil, take-append-drop, take-append-le, take-map, take_all}
 use Rattle.entry_book.specs.Rows.{Bytes}
@@ -38,7 +38,7 @@ began_there h batch w =
       is_on = subst (λ l. IsOn batch (base_in batch h.window) (books_of l)) (sym books) (record { reads = o.reads; wait = o.wait; reply = o.reply });
     }
 
--- ---- the journal goes on
+-- ---- the journal grows
 
 pub began_still : (own : Bytes) (items more : List Item) (batch : Batch) (base : Base) → BeganInside own items batch base → BeganInside own (items ++ more) batch base
 began_still own items more batch base b =
@@ -59,14 +59,14 @@ began_on h batch base w b =
     let n = base.newest.number in
     (began_inside (take n h.kept) (drop n h.kept) base h (subst (λ l. IsJournal l h) (sym (take-append-drop n h.kept)) w) b.leads).began
 
--- what was appended to a head that only has more room was appended to it
+-- what was appended to a head that only got more room was appended to the old head
 pub appended_from : (old between new : Head) (item : Item) → Stays old between → IsAppended between item new → IsAppended old item new
 appended_from old between new item s a = record {
   window = a.window ∙ ap (λ v. pushed (state_with item.batch v.newest) v) s.window;
   kept = a.kept ∙ ap (λ l. l ++ item ∷ []) s.kept;
 }
 
--- the journal after an item more
+-- the journal after one more item
 pub went_on : (old new : Head) (item : Item) → IsWhole old → Joins item (newest_of old) → IsAppended old item new → GoesOn old new
 went_on old new item w j a = record {
   domain = ap (λ x. x.newest.domain) a.window;

@@ -1,4 +1,4 @@
--- The calls that have begun, in the order of their turns: each stands where the plain book meets it.
+-- The calls that have begun, in the order of their turns: each has the stage that the plain book gives it at that point.
 use Rattle.std.proofs.Common.{Bool, true, false, ◌≡◌, ◌<◌, List, [], ◌∷◌, ◌++◌, length, refl, sym, ap, subst, ◌∙◌, inl, inr, ⊎_elim, arith, append_assoc}
 use Rattle.std.specs.Prelude.{⊤}
 use Rattle.std.proofs.lemmas.List.{append-nil}
@@ -9,7 +9,7 @@ use Rattle.entry_book.proofs.Sets.{All-within, All-from_within, within_left, wit
 use Rattle.call_machine.specs.Calls.{Stage, waiting, running, ready, answered, committed, conflict, Call}
 use Rattle.call_machine.specs.Laws.{AscendingTurns}
 
--- a call that has begun, and met no conflict, stands in the line
+-- a call that has begun, and met no conflict, is in the line
 abbrev pub is_begun : Stage → Bool
 is_begun waiting = false
 is_begun (running base made) = true
@@ -36,7 +36,7 @@ pub journal-append : (xs ys : List Call) → journal_in (xs ++ ys) ≡ journal_i
 journal-append [] ys = refl
 journal-append (c ∷ cs) ys = ap (λ l. entered c.stage c.batch ++ l) (journal-append cs ys) ∙ sym (append_assoc (entered c.stage c.batch) (journal_in cs) (journal_in ys))
 
--- ---- each call fits the journal before it
+-- ---- each call agrees with the journal before it
 
 abbrev pub StageFits : Stage → Batch → List Batch → Type 0
 StageFits waiting batch journal = ⊥
@@ -62,7 +62,7 @@ pub fits_rest : (journal : List Batch) (xs ys : List Call) → Fits journal (xs 
 fits_rest journal [] ys f = subst (λ j. Fits j ys) (sym (append-nil journal)) f
 fits_rest journal (c ∷ cs) ys f = subst (λ j. Fits j ys) (append_assoc journal (entered c.stage c.batch) (journal_in cs)) (fits_rest (journal ++ entered c.stage c.batch) cs ys f.1)
 
--- a call that enters the same, in the place of another
+-- a call is replaced by one with the same journal entry
 pub fits_replaced : (xs ys : List Call) (c d : Call) → Fits [] (xs ++ c ∷ ys) → entered d.stage d.batch ≡ entered c.stage c.batch → StageFits d.stage d.batch (journal_in xs) → Fits [] (xs ++ d ∷ ys)
 fits_replaced xs ys c d f e g =
     let rest : StageFits c.stage c.batch (journal_in xs) × Fits (journal_in xs ++ entered c.stage c.batch) ys = fits_rest [] xs (c ∷ ys) f in
@@ -71,7 +71,7 @@ fits_replaced xs ys c d f e g =
 pub journal_replaced : (xs ys : List Call) (c d : Call) → entered d.stage d.batch ≡ entered c.stage c.batch → journal_in (xs ++ d ∷ ys) ≡ journal_in (xs ++ c ∷ ys)
 journal_replaced xs ys c d e = journal-append xs (d ∷ ys) ∙ (ap (λ e. journal_in xs ++ (e ++ journal_in ys)) e ∙ sym (journal-append xs (c ∷ ys)))
 
--- the same call at another turn of the plain book, without it
+-- the same line without a call that has no journal entry
 pub fits_without : (xs ys : List Call) (c : Call) → Fits [] (xs ++ c ∷ ys) → entered c.stage c.batch ≡ [] → Fits [] (xs ++ ys)
 fits_without xs ys c f ec =
     let rest : StageFits c.stage c.batch (journal_in xs) × Fits (journal_in xs ++ entered c.stage c.batch) ys = fits_rest [] xs (c ∷ ys) f in
@@ -83,7 +83,7 @@ journal_without xs ys c ec = journal-append xs ys ∙ (ap (λ e. journal_in xs +
 pub fits_snoc : (line : List Call) (c : Call) → Fits [] line → StageFits c.stage c.batch (journal_in line) → Fits [] (line ++ c ∷ [])
 fits_snoc line c f g = fits_append [] line (c ∷ []) f (g, tt)
 
--- what a call of the line fits
+-- a call of the line agrees with the journal before it
 pub fits_at : (xs ys : List Call) (c : Call) → Fits [] (xs ++ c ∷ ys) → StageFits c.stage c.batch (journal_in xs)
 fits_at xs ys c f = (fits_rest [] xs (c ∷ ys) f).0
 
@@ -111,7 +111,7 @@ turns_append (c ∷ cs) ys a b h = (
   turns_append cs ys a.1 b (λ x y w v. h x y (inr w) v),
 )
 
--- a call's place in the line is its own
+-- a call is not among those before it
 pub not_in_front : (xs ys : List Call) (c : Call) → AscendingTurns (xs ++ c ∷ ys) → Within xs c → ⊥
 not_in_front xs ys c a w = let h = turns_apart xs (c ∷ ys) a c c w (inl refl) in omega arith
 

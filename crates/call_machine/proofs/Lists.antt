@@ -1,10 +1,10 @@
--- Members of lists, by place.
+-- Members of lists, by index.
 use Rattle.std.proofs.Common.{◌≡◌, ℕ, ◌<◌, ◌≤◌, ◌⊎◌, List, [], ◌∷◌, ◌++◌, length, take, Some, zero, suc, refl, ap, inl, inr, ⊎_elim, arith}
 use Rattle.std.specs.Prelude.{slice_get}
 use Rattle.entry_book.specs.Order.{Within}
 
 module _ {X : Type 0} where
-  -- a member stands somewhere
+  -- a member is at some index
   pub record Split (xs : List X) (x : X) : Type 0 where
     pub front : List X
     pub rest : List X

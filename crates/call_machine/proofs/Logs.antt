@@ -1,4 +1,4 @@
--- What a machine knows of its calls is what was handed in and given out.
+-- What a machine stores of its calls agrees with the accepted events.
 use Rattle.std.proofs.Common.{◌≡◌, ◌≢◌, ℕ, ◌+◌, ◌≤◌, ◌⊎◌, suc, List, [], ◌∷◌, ◌++◌, length, take, Option, Some, None, refl, sym, ap, subst, ◌∙◌, inl, inr, ⊎_elim, arith, append_assoc, length-append}
 use Rattle.std.specs.Prelude.{⊤, slice_get, map}
 use Rattle.std.proofs.lemmas.List.{append-nil, take-append-le}
@@ -22,7 +22,7 @@ use Rattle.call_machine.specs.Laws.{SettledAt, number_of}
 use Rattle.call_machine.proofs.Lists.{get_left, get_last, from_get_snoc, get_within}
 use Rattle.call_machine.proofs.Rows.{from_with_call, within_new, within_other, same_call}
 
--- ---- one event more
+-- ---- one more event
 
 pub at_more : (log : List Happened) (h : Happened) (n : ℕ) (e : Event) (d : Done) → At log n e d → At (log ++ h ∷ []) n e d
 at_more log h n e d a = (a.0, a.1, get_left log (h ∷ []) a.0 _ a.2)
@@ -39,7 +39,7 @@ batches_more log h [] (x ∷ xs) b = absurd b
 batches_more log h (c ∷ cs) [] b = absurd b
 batches_more log h (c ∷ cs) (x ∷ xs) b = (handed_more log h c x b.0, batches_more log h cs xs b.1)
 
--- there are as many as there are calls
+-- there are as many batches as calls
 pub batches_count : (log : List Happened) (cs : List ℕ) (bs : List Batch) → BatchesOf log cs bs → length cs ≡ length bs
 batches_count log [] [] b = refl
 batches_count log [] (x ∷ xs) b = absurd b
@@ -63,7 +63,7 @@ pub take_whole : (log : List Happened) (h : Happened) → take (length log) (log
 take_whole [] h = refl
 take_whole (g ∷ gs) h = ap (λ l. g ∷ l) (take_whole gs h)
 
--- ---- what is kept of a call was told
+-- ---- what is stored of a call was reported by an event
 
 abbrev pub StageTold : List Happened → Stage → Call → Type 0
 StageTold log waiting c = ⊤
@@ -104,7 +104,7 @@ told_more log h c t = record {
   replied = reply_more log h c.replied c t.replied;
 }
 
--- ---- what was told is kept
+-- ---- what an event reported is stored
 
 abbrev pub KeepsInvoke : List Call → ℕ → ℕ → Batch → Type 0
 KeepsInvoke calls n c batch = (x : Call) × Within calls x × (x.number ≡ c) × (x.batch ≡ batch) × (x.invoked ≡ n)
@@ -115,7 +115,7 @@ KeepsCommit calls n c place = (x : Call) × Within calls x × (x.number ≡ c) �
 abbrev pub KeepsFull : List Call → ℕ → ℕ → Type 0
 KeepsFull calls n c = (x : Call) × Within calls x × (x.number ≡ c) × (x.turn ≡ n) × (r : Reply) × (x.stage ≡ answered r)
 
--- a call that stands here with this turn has begun under this number, if no commit took the number's place
+-- at this stage, a call that began as event n has this turn, unless a commit has replaced the turn
 abbrev pub HasTurn : Stage → ℕ → ℕ → Type 0
 HasTurn waiting turn n = ⊥
 HasTurn (running base made) turn n = turn ≡ n
@@ -152,7 +152,7 @@ Keeps calls n (Step c) d = ⊤
 Keeps calls n (Commit c) d = KeepsDone calls n c d
 Keeps calls n (ReplyEvent c) d = KeepsReply calls n c d
 
--- each call has one in the later list that carries on what is kept of it
+-- the later call keeps all that was stored of the earlier one
 pub record Carries (r c : Call) : Type 0 where
   pub number : c.number ≡ r.number
   pub batch : c.batch ≡ r.batch
@@ -203,7 +203,7 @@ keeps_more calls later n (ReplyEvent c) d a k =
     let s = y.2.replied n k.3 in
     (y.0, y.1, y.2.number ∙ k.2, s.0, k.4, ap answer_of s.1 ∙ k.5, k.6)
 
--- ---- the whole
+-- ---- all together
 
 pub record Tied (log : List Happened) (s : State) : Type 0 where
   pub count : length log ≡ s.count
@@ -213,7 +213,7 @@ pub record Tied (log : List Happened) (s : State) : Type 0 where
   pub begins : BeginsCountCommits log
   pub due : ConflictsAreDue log
 
--- What a new event and its answer are to those before it: a begin is told how many batches were committed, and a conflict is due.
+-- What a new event must satisfy after those before it: a begin counts the committed batches, and a conflict is due.
 pub record IsRightNow (log : List Happened) (e : Event) (d : Done) : Type 0 where
   pub begins : (c : ℕ) → e ≡ Begin c → CountsCommits log c d
   pub due : (c place : ℕ) → e ≡ Commit c → d ≡ Decided c Conflict place → IsDueConflict log c place
@@ -238,7 +238,7 @@ kept_more log calls later count e d l f a now k h q = ⊎_elim
     (λ o. subst (λ (g : Happened). Keeps later (k + 1) g.event g.done) o.1 (subst (λ n. Keeps later (n + 1) e d) (sym (o.0 ∙ l)) now))
     (from_get_snoc log (record { event = e; done = d }) k h q)
 
--- a call moves on
+-- a call is replaced by its next state
 pub tied_moved : (log : List Happened) (s t : State) (r c : Call) (e : Event) (d : Done) (entry : List Batch) → Tied log s → Different (map number_of s.calls) → Within s.calls r → Carries r c → t.count ≡ s.count + 1 → t.calls ≡ with_call c s.calls → t.journal ≡ s.journal ++ entry → IsTold (log ++ record { event = e; done = d } ∷ []) c → Keeps t.calls (s.count + 1) e d → BatchesOf (log ++ record { event = e; done = d } ∷ []) (commits_in log ++ commit_of d) (s.journal ++ entry) → IsRightNow log e d → Tied (log ++ record { event = e; done = d } ∷ []) t
 tied_moved log s t r c e d entry h n w y tc tl tj told keeps batches now =
     let carried : AllCarried s.calls (with_call c s.calls) = λ x v. ⊎_elim

@@ -1,4 +1,4 @@
--- The order that a machine answers.
+-- The order that a machine returns.
 use Rattle.std.proofs.Common.{◌≡◌, ◌↔◌, ℕ, ◌<◌, true, false, cond, List, [], ◌∷◌, ◌++◌, Option, Some, None, refl, sym, ap, subst, ◌∙◌, inl, inr, ⊎_elim, arith}
 use Rattle.std.specs.Prelude.{map, filter, is_some}
 use Rattle.std.proofs.lemmas.List.{append-nil}
@@ -23,7 +23,7 @@ use Rattle.call_machine.proofs.Logs.{KeepsConflict, KeepsReply, KeepsCommit, Rep
 use Rattle.entry_book.proofs.Histories.{others_leave, one_more}
 use Rattle.entry_book.proofs.Sets.{All-within, All-from_within, within_filter, from_within_filter}
 
--- ---- rows in order
+-- ---- lists in order
 
 turns_filter : (xs : List Call) → AscendingTurns xs → AscendingTurns (filter is_listed xs)
 turns_filter [] a = tt
@@ -109,14 +109,14 @@ committed_is : (g : Stage) (batch : Batch) (journal : List Batch) (r : Reply) �
 committed_is g batch journal r f e = subst (λ z. StageFits z batch journal) e f
 
 module _ (log : List Happened) (s : State) (sound : Sound s) (tied : Tied log s) where
-  -- what stands in the log is kept
+  -- what the log has is stored
   reply_kept : (n c : ℕ) (d : Done) → At log n (ReplyEvent c) d → KeepsReply s.calls n c d
   reply_kept n c d a = subst (λ k. KeepsReply s.calls k c d) (sym a.1) (tied.kept a.0 _ a.2)
 
   commit_kept : (n c place : ℕ) → At log n (Commit c) (Decided c Committed place) → KeepsCommit s.calls n c place
   commit_kept n c place a = subst (λ k. KeepsCommit s.calls k c place) (sym a.1) (tied.kept a.0 _ a.2)
 
-  -- a call of the line has its reply from the plain book
+  -- the plain book gives a call of the line its reply
   is_reply_of : (c : Call) (journal : List Batch) → Within s.calls c → StageFits c.stage c.batch journal → IsReplyOf log c.number (reply_to c.batch (books_of journal))
   is_reply_of c journal w f = record {
     given = λ out g.
@@ -142,7 +142,7 @@ module _ (log : List Happened) (s : State) (sound : Sound s) (tied : Tied log s)
         | false ↦ λ e. subst (λ j. RunsFrom log (books_of j) (map number_of (filter is_listed cs))) (ap (λ l. journal ++ l) (passes_by c.stage c.replied c.batch e) ∙ append-nil journal) rest
       ] refl
 
-  -- the same, of the replies that calls hold
+  -- the same for the replies that calls hold
   hold_from : (line : List Call) (journal : List Batch) → Fits journal line → ((c : Call) → Within line c → Within s.calls c) → HoldReplies s.calls (books_of journal) (map number_of (filter is_listed line))
   hold_from [] journal f m = tt
   hold_from (c ∷ cs) journal f m =

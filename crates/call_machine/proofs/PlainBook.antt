@@ -1,4 +1,4 @@
--- What the plain book says of a commit, as the machine uses it.
+-- What the plain book decides on a commit, as the machine uses it.
 use Rattle.std.proofs.Common.{◌≡◌, ◌+◌, ◌<◌, List, length, false, true, ◌∙◌, arith}
 use Rattle.entry_book.specs.declared.limit.Limit.{Limit}
 use Rattle.entry_book.specs.declared.reply.Outcome.TheVariants.{Refused}

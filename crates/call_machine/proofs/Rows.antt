@@ -32,7 +32,7 @@ call_none n (d ∷ ds) =
       | false ↦ λ t e c w q. ⊎_elim (λ i. both_ways (nat_eq n d.number) t (eq-eqb n d.number (sym (ap number_of i ∙ q)))) (λ v. call_none n ds e c v q) w
     ] refl
 
--- two calls of one number are one
+-- two calls of one number are the same
 pub same_call : (cs : List Call) (x y : Call) → Different (map number_of cs) → Within cs x → Within cs y → x.number ≡ y.number → x ≡ y
 same_call [] x y d v w e = absurd v
 same_call (z ∷ zs) x y d v w e = ⊎_elim
@@ -55,7 +55,7 @@ call_found (x ∷ xs) c d w =
       | false ↦ λ t. ⊎_elim (λ i. absurd (both_ways (nat_eq c.number x.number) t (eq-eqb c.number x.number (ap number_of (sym i))))) (λ v. call_found xs c d.1 v) w
     ] refl
 
--- ---- a call in the place of the one of its number
+-- ---- a call replaces the one of its number
 
 pub numbers-with_call : (c : Call) (cs : List Call) → map number_of (with_call c cs) ≡ map number_of cs
 numbers-with_call c [] = refl

@@ -1,4 +1,4 @@
--- Where a call stands whose work stands somewhere, and a map of calls with one of them changed.
+-- The stage of a call from the state of its work, and a map of calls with one of them changed.
 use Rattle.std.proofs.Common.{◌≡◌, ℕ, ◌+◌, Bool, true, false, cond, ◌⊎◌, List, [], ◌∷◌, ◌++◌, length, take, Option, Some, None, refl, sym, ap, subst, ◌∙◌, ⊎_elim}
 use Rattle.std.specs.Prelude.{nat_lt, nat_eq, option_map, is_some, slice_get, map, filter, ◌||◌}
 use Rattle.std.specs.Map.{lookup, set_value}
@@ -26,9 +26,9 @@ use Rattle.call_machine.specs.Laws.{is_listed, is_listed_at, turn_of}
 use Rattle.call_machine.specs.Kept.{AllRest, AnsweredWhenSettled, BeganInside, BeganWithin, IsOn, IsOver, IsWhole, RestsOn, SlotBegins, SlotRests, SlotSteps, StateRests, call_kept, calls_kept, domain_of, is_listed_entry, is_listed_state, journal_of, new_slot, stage_from, stage_kept, stage_of_slot, stage_over, stage_replied, turn_of_entry}
 use Rattle.call_machine.proofs.Heads.{began_there, began_still, place_is}
 
--- ---- where a work stands
+-- ---- the stage of a work
 
--- on these books, where what it began on is like them
+-- on these books, if its base agrees with them
 stage_is : (batch : Batch) (base : Base) (books : List Book) (n : ℕ) → IsOn batch base books → stage_from (Some base) batch n ≡ stage_on batch books base.newest.number n
 stage_is batch base books n o = λ i. cond (nat_lt n (length (o.reads i))) (running base.newest.number n) (stage_settled (o.wait i) base.newest.number (o.reply i))
 
@@ -42,7 +42,7 @@ status_is_from (Some base) batch n = elim (nat_lt n (length (footprint_there bat
 pub status_is : (w : Work) → status_of w ≡ status_at (stage_kept (Open w))
 status_is w = status_is_from w.base w.batch w.steps
 
--- ---- where it stands, by its status
+-- ---- its stage, by its status
 
 new_from : (o : Option Base) (batch : Batch) (n : ℕ) → status_from o batch n ≡ New → o ≡ None
 new_from None batch n = λ e. refl
@@ -73,7 +73,7 @@ reading_by (Some base) batch n e = (base, refl, reading_from base batch n e)
 pub reading_is : (w : Work) → status_of w ≡ Running → IsReading w
 reading_is w e = let r = reading_by w.base w.batch w.steps e in record { base = r.0; base_is = r.1; stage = r.2 }
 
--- It has begun, its reads are made, and it awaits its commit.
+-- It has begun, its reads are made, and it has changes to commit.
 pub record IsAwaiting (w : Work) : Type 0 where
   pub base : Base
   pub base_is : w.base ≡ Some base
@@ -109,7 +109,7 @@ settled_by w (Some base) reply q e a =
     answer_is : (w : Work) (base : Base) (reply : Reply) → w.base ≡ Some base → IsAnswer w reply → reply ≡ reply_there w.batch base
     answer_is w base reply q a = rw q at a
 
--- a settled work stands where its answer does, which is that of no commit
+-- the stage of a settled work is that of its reply, which is not a commit
 pub settled_is : (w : Work) (reply : Reply) → status_of w ≡ Settled → IsAnswer w reply → (is_committed reply.outcome ≡ false) × (stage_kept (Open w) ≡ answered reply)
 settled_is w reply e a = settled_by w w.base reply refl e a
 
@@ -129,7 +129,7 @@ status_kept s w r q e = e ∙ (status_is w ∙ ap (λ s. status_at (stage_kept s
 pub open_status : (s : SlotState) (w : Work) (r : Status) → s ≡ Open w → r ≡ status_at (stage_kept s) → status_of w ≡ r
 open_status s w r q e = status_is w ∙ (ap (λ s. status_at (stage_kept s)) (sym q) ∙ sym e)
 
--- a work that is settled is dropped, and its reply is kept
+-- a settled work is dropped, and its reply is stored
 pub gone_is : (w : Work) (reply : Reply) → status_of w ≡ Settled → IsAnswer w reply → stage_over (Replied reply) ≡ stage_kept (Open w)
 gone_is w reply s a = let is = settled_is w reply s a in ap (λ b. stage_replied b reply) is.0 ∙ sym is.1
 
@@ -152,7 +152,7 @@ listed_reply : (b : Bool) (r : Reply) (replied : Option ℕ) → is_listed_at (s
 listed_reply true r replied = refl
 listed_reply false r replied = refl
 
--- a call is listed that is committed, or has given its reply out
+-- a call is listed if it is committed, or has returned its reply
 listed_is : (s : SlotState) (replied : Option ℕ) → AnsweredWhenSettled s → is_listed_at (stage_kept s) replied ≡ is_listed_state s replied
 listed_is (Open w) replied f = unanswered (stage_kept (Open w)) replied (unsettled_by w.base w.batch w.steps f)
 listed_is (Over (Replied r)) replied f = listed_reply (is_committed r.outcome) r replied
@@ -173,7 +173,7 @@ listed_turns own items (e ∷ es) a =
 pub call_moved : (n : ℕ) (old later : Slot) (turn : ℕ) → later.batch ≡ old.batch → later.invoked ≡ old.invoked → later.turn ≡ turn → later.replied ≡ old.replied → call_kept n later ≡ record (call_kept n old) { stage = stage_of_slot later; turn = turn }
 call_moved n old later turn a b c d = λ i. record { number = n; batch = a i; stage = stage_of_slot later; invoked = b i; turn = c i; replied = d i }
 
--- a new call rests on any journal of its trust domain
+-- a new call satisfies the invariant on any journal of its trust domain
 pub new_rests : (own : Bytes) (items : List Item) (slot : Slot) (batch : Batch) (invoked : ℕ) → IsMadeFor own batch → slot ≡ new_slot batch invoked → SlotRests own items slot
 new_rests own items slot batch invoked d e = subst (SlotRests own items) (sym e) (record { made = d; state = (record { made = d; began = refl }, refl); answered = isnt })
   where

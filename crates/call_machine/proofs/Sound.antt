@@ -1,4 +1,4 @@
--- What always holds of a machine's calls.
+-- The invariant of a machine's calls.
 use Rattle.std.proofs.Common.{◌≡◌, ◌≢◌, ◌↔◌, ℕ, ◌+◌, ◌<◌, ◌≤◌, true, false, ◌⊎◌, List, [], ◌∷◌, ◌++◌, length, take, Some, IsSome, sym, ap, subst, ◌∙◌, inl, inr, ⊎_elim, arith}
 use Rattle.std.specs.Prelude.{map}
 use Rattle.std.proofs.lemmas.Bool.{both_ways}
@@ -14,7 +14,7 @@ use Rattle.call_machine.proofs.Lists.{split_at}
 use Rattle.call_machine.proofs.Rows.{same_call, within_new, within_other, from_with_call, numbers-with_call, one_number_more}
 use Rattle.call_machine.proofs.Line.{entered, journal_in, journal-append, StageFits, Fits, fits_replaced, journal_replaced, fits_without, journal_without, fits_snoc, fits_at, turns_replaced, turns_without, turns_snoc, not_in_front, not_in_rest, is_begun}
 
--- ---- the numbers that a call keeps, after so many accepted events
+-- ---- the numbers that a call holds, after this number of accepted events
 
 pub record Stamped (count : ℕ) (c : Call) : Type 0 where
   pub invoked : c.invoked ≤ count
@@ -28,7 +28,7 @@ stamped_more count c s = record {
   over = λ n e. let h = s.over n e in (let k = h.0 in omega arith, h.1, h.2);
 }
 
--- ---- the whole
+-- ---- all together
 
 pub record Sound (s : State) : Type 0 where
   -- the calls that have begun and met no conflict, in the order of their turns
@@ -132,7 +132,7 @@ joined s r c h w n b d e t f k = record {
   stamped = stamped_with s.count s.calls c h.numbers h.stamped k;
 }
 
--- the line round a call that has begun
+-- the line before and after a call that has begun
 record Round (s : State) (r : Call) : Type 0 where
   front : List Call
   rest : List Call
@@ -153,7 +153,7 @@ round s r h w b =
       journal = h.journal ∙ ap journal_in p.is;
     }
 
--- a call stays where it is in the line
+-- a call keeps its index in the line
 pub stayed : (s : State) (r c : Call) → Sound s → Within s.calls r → c.number ≡ r.number → is_begun r.stage ≡ true → is_begun c.stage ≡ true → entered c.stage c.batch ≡ entered r.stage r.batch → c.turn ≡ r.turn → ((journal : List Batch) → take (length journal) s.journal ≡ journal → StageFits r.stage r.batch journal → StageFits c.stage c.batch journal) → Stamped (s.count + 1) c → Sound (moved c s)
 stayed s r c h w n b d e t f k =
     let o = round s r h w b in
@@ -169,7 +169,7 @@ stayed s r c h w n b d e t f k =
       stamped = stamped_with s.count s.calls c h.numbers h.stamped k;
     }
 
--- a call goes to the end of the line, and may enter the journal
+-- a call moves to the end of the line, and may enter the journal
 pub went_last : (s : State) (r c : Call) → Sound s → Within s.calls r → c.number ≡ r.number → is_begun r.stage ≡ true → is_begun c.stage ≡ true → entered r.stage r.batch ≡ [] → c.turn ≡ s.count + 1 → StageFits c.stage c.batch s.journal → Stamped (s.count + 1) c → Sound (record (moved c s) { journal = s.journal ++ entered c.stage c.batch })
 went_last s r c h w n b d e t f k =
     let o = round s r h w b in

@@ -1,4 +1,4 @@
--- Each accepted event keeps that what a machine knows of its calls is what was handed in and given out.
+-- Each accepted event preserves the agreement between a machine's calls and the accepted events.
 use Rattle.std.proofs.Common.{◌≡◌, ℕ, ◌+◌, true, false, cond, List, [], ◌∷◌, ◌++◌, length, take, Option, Some, None, refl, sym, ap, subst, ◌∙◌, inl, inr, ⊎_elim, length-append}
 use Rattle.std.specs.Prelude.{nat_lt}
 use Rattle.std.proofs.lemmas.List.{append-nil}
@@ -53,7 +53,7 @@ turn_on batch books base made turn = elim (nat_lt made (length (footprint_of bat
   | false ↦ elim (awaits_commit batch books) as (λ b. HasTurn (stage_settled b base (reply_to batch books)) turn turn) [ true ↦ refl | false ↦ inr refl ]
 ]
 
--- a call that had no reply to give carries on where it stands next
+-- a call without an answer keeps all that was stored of it at its next stage
 carries_on : (count : ℕ) (r : Call) (stage : Stage) (turn : ℕ) → Stamped count r → answer_of r.stage ≡ None → ((n : ℕ) → HasTurn r.stage r.turn n → HasTurn stage turn n) → Carries r (record r { stage = stage; turn = turn })
 carries_on count r stage turn k e begun = record {
   number = refl;
@@ -137,7 +137,7 @@ steps log s n d t g h i =
     })
     tt (none_entered log f (commits_in log) s.journal h.journal) (record { begins = λ c q. cc; due = λ c place q. cc }))
 
--- the parts that each answer to a commit has in common
+-- the common parts of the three decisions on a commit
 decides : (log : List Happened) (s : State) (n : ℕ) (t : State) (r : Call) (base : ℕ) (stage : Stage) (decision : Decision) (place : ℕ) (entry : List Batch) → Sound s → Tied log s → Within s.calls r → r.number ≡ n → r.stage ≡ ready base → t.count ≡ s.count + 1 → t.calls ≡ with_call (record r { stage = stage; turn = s.count + 1 }) s.calls → t.journal ≡ s.journal ++ entry → ((m : ℕ) → HasTurn stage (s.count + 1) m) → (At (log ++ record { event = Commit n; done = Decided n decision place } ∷ []) (s.count + 1) (Commit n) (Decided n decision place) → StageTold (log ++ record { event = Commit n; done = Decided n decision place } ∷ []) stage (record r { stage = stage; turn = s.count + 1 })) → Keeps t.calls (s.count + 1) (Commit n) (Decided n decision place) → BatchesOf (log ++ record { event = Commit n; done = Decided n decision place } ∷ []) (commits_in log ++ commit_of (Decided n decision place)) (s.journal ++ entry) → IsRightNow log (Commit n) (Decided n decision place) → Tied (log ++ record { event = Commit n; done = Decided n decision place } ∷ []) t
 decides log s n t r base stage decision place entry g h w e q tc tl tj turn told keeps batches now =
     let k = g.stamped r w in

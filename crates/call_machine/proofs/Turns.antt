@@ -1,4 +1,4 @@
--- The listed calls of a sound machine, sorted by their turns, stand in the order of the line.
+-- The listed calls of a sound machine, sorted by their turns, are in the order of the line.
 use Rattle.std.proofs.Common.{◌≡◌, ◌↔◌, ℕ, zero, suc, ◌<◌, ◌≤◌, Bool, true, false, cond, List, [], ◌∷◌, length, refl, sym, ap, subst, ◌∙◌, inl, inr, ⊎_elim, arith}
 use Rattle.std.specs.Prelude.{map, filter, ⊤, nat_eq, slice_index_or}
 use Rattle.std.specs.List.{AllByRecursion, IsDistinct}
@@ -33,7 +33,7 @@ same_rising (x ∷ xs) (y ∷ ys) a b f g =
     (λ z w. ⊎_elim (λ e. let p = below z w in let q : z ≡ y = sym e ∙ head in let r = ap turn_in q in absurd (omega arith)) (λ v. v) (g z (inr w))) in
     cc
 
--- ---- from what a sort says
+-- ---- from what a sort ensures
 
 all_by_index : (P : ℕ × ℕ → Type 0) (xs : List (ℕ × ℕ)) → ((j : ℕ) (d : ℕ × ℕ) → j < length xs → P (slice_index_or xs j d)) → AllByRecursion P xs
 all_by_index P [] f = tt
@@ -89,7 +89,7 @@ none_distinct : IsDistinct same_turn []
 unfolding IsDistinct
 none_distinct = tt
 
--- calls of different numbers whose turns tell them apart have different turns
+-- calls of different numbers have different turns, if calls of equal turns are equal
 distinct_turns : (cs : List Call) → Different (map number_of cs) → ((x y : Call) → Within cs x → Within cs y → x.turn ≡ y.turn → x ≡ y) → IsDistinct same_turn (map turn_of cs)
 distinct_turns [] d f = none_distinct
 distinct_turns (c ∷ cs) d f = IsDistinct-cons same_turn (turn_of c) (map turn_of cs)
@@ -134,7 +134,7 @@ same_by_turn (c ∷ cs) x y a w v e = ⊎_elim
     v)
     w
 
--- ---- the whole
+-- ---- all together
 
 pub turns_are : (calls line : List Call) (turns : List (ℕ × ℕ)) → Different (map number_of calls) → AscendingTurns line → ((c : Call) → Within line c ↔ (Within calls c × (is_listed c ≡ true))) → IsPermutation (map turn_of (filter is_listed calls)) turns → IsNonDecreasingBy turn_in turns → turns ≡ map turn_of line
 turns_are calls line turns d a m p n =

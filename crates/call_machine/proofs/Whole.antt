@@ -1,4 +1,4 @@
--- The headline, for every list of events.
+-- The main theorem, for every list of events.
 use Rattle.std.proofs.Common.{List, [], ◌∷◌, ◌++◌, Ok, Err, refl, sym, ap, ◌∙◌, ⊎_elim, subst, append_assoc, Option, Some, None, ℕ, ◌≡◌, ◌↔◌}
 use Rattle.std.proofs.lemmas.List.{append-nil}
 use Rattle.entry_book.specs.Order.{Within}
@@ -45,7 +45,7 @@ replies_held own events answers s order r o =
     let h = runs_stand events answers [] (first_state own) s (record { sound = first_sound own; tied = first_tied own }) r in
     held (accepted events answers) s h.sound h.tied order o
 
--- ---- the numbers that a call tells, and those that the events have
+-- ---- the numbers that a call reports, and those of the events
 
 reply_told : (log : List Happened) (call : Call) (n : ℕ) (o : Option ℕ) → o ≡ Some n → ReplyTold log o call → (done : Done) × At log n (ReplyEvent call.number) done
 reply_told log call n None e t = absurd (cc)
@@ -60,7 +60,7 @@ decided_at log c turn n (answered r) call e t k s = let q : turn ≡ n = cc in s
 decided_at log c turn n (committed r) call e t k s = let q : turn ≡ n = cc in subst (λ m. At log m (Commit c) (Decided c Committed r.place)) (t ∙ q) (subst (λ d. At log call.turn (Commit d) (Decided d Committed r.place)) k s)
 
 module _ (log : List Happened) (s : State) (h : Stands log s) (call : Call) (w : Within s.calls call) where
-  -- what an event left of the call is left of this one
+  -- what an event left in a call of the number is in this one
   kept_at : (n : ℕ) (e : Event) (d : Done) → At log n e d → Keeps s.calls n e d
   kept_at n e d a = subst (λ m. Keeps s.calls m e d) (sym a.1) (h.tied.kept a.0 _ a.2)
 

@@ -1,4 +1,4 @@
--- What a machine knows of its calls.
+-- The state of a machine, and of its calls.
 use Rattle.std.specs.Prelude.{ℕ, ◌+◌, Bool, true, false, List, [], ◌∷◌, length, take, nat_eq, nat_lt, Option, Some, None, if◌then◌else◌}
 use Rattle.entry_book.specs.declared.reply.Reply.{Reply}
 use Rattle.entry_book.specs.Rows.{Bytes}
@@ -11,14 +11,14 @@ use Rattle.batch_work.specs.declared.status.Status.TheVariants.{New, Running, Re
 use Rattle.call_answers.specs.declared.answer.CallAnswer.{CallAnswer}
 use Rattle.call_answers.specs.declared.answer.CallAnswer.TheVariants.{Replied, Conflict}
 
--- Where a call stands. Its base is the place that its begin found.
+-- The state of a call; `base` is the place at which it began.
 pub data Stage : Type 0 where
   waiting : Stage
-  -- so many of its reads are made
+  -- it has made this number of its reads
   running : (base made : ℕ) → Stage
-  -- its changes await their commit
+  -- its changes are ready to commit
   ready : (base : ℕ) → Stage
-  -- it is settled, or its commit was full
+  -- it is settled with this reply, or its commit was refused by a limit
   answered : Reply → Stage
   committed : Reply → Stage
   conflict : (place : ℕ) → Stage
@@ -29,18 +29,18 @@ pub record Call : Type 0 where
   pub stage : Stage
   -- the accepted number of its invoke
   pub invoked : ℕ
-  -- that of its begin, and once it had one of its commit; 0 before
+  -- that of its begin, or of its commit once that was decided; 0 before
   pub turn : ℕ
-  -- that of its reply
+  -- that of its reply, if it has replied
   pub replied : Option ℕ
 
 pub record State : Type 0 where
   pub domain : Bytes
   -- the committed batches, in order
   pub journal : List Batch
-  -- how many events were accepted
+  -- the number of accepted events
   pub count : ℕ
-  -- in the order of their invokes
+  -- the calls, in the order of their invokes
   pub calls : List Call
 
 abbrev pub first_state : Bytes → State
@@ -50,7 +50,7 @@ abbrev pub call_at : ℕ → List Call → Option Call
 call_at n [] = None
 call_at n (c ∷ cs) = if nat_eq n c.number then Some c else call_at n cs
 
--- the calls, with this one in the place of the one of its number
+-- the calls, with the one of the same number replaced by this one
 abbrev pub with_call : Call → List Call → List Call
 with_call c [] = []
 with_call c (d ∷ ds) = if nat_eq c.number d.number then c ∷ ds else d ∷ with_call c ds
@@ -61,7 +61,7 @@ moved c s = record s { count = s.count + 1; calls = with_call c s.calls }
 
 -- ---- stages
 
--- its answer, once it has one
+-- the call's answer, if it has one
 abbrev pub answer_of : Stage → Option CallAnswer
 answer_of waiting = None
 answer_of (running base made) = None
@@ -78,12 +78,12 @@ status_at (answered r) = Settled
 status_at (committed r) = Settled
 status_at (conflict n) = Settled
 
--- where a batch stands after its last read: does it await its commit, and what is its reply, if it doesn't?
+-- the stage of a batch after its last read: ready if it has changes to commit, and otherwise answered with its reply
 abbrev pub stage_settled : Bool → ℕ → Reply → Stage
 stage_settled true base reply = ready base
 stage_settled false base reply = answered reply
 
--- where it stands on these books when so many of its reads are made
+-- the stage of a batch on these books after this number of reads
 abbrev pub stage_on : Batch → List Book → ℕ → ℕ → Stage
 stage_on batch books base made = if nat_lt made (length (footprint_of batch books)) then running base made else stage_settled (awaits_commit batch books) base (reply_to batch books)
 

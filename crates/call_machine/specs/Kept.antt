@@ -1,4 +1,4 @@
--- What a machine's fields stand for, and what an event does to one call. For this crate's own contracts.
+-- The state that a machine's fields represent, and the effect of an event on one call. For this crate's own contracts.
 use Rattle.std.specs.Prelude.{◌≡◌, ℕ, ◌+◌, ◌≤◌, ◌^◌, Bool, true, false, ◌&&◌, ◌||◌, ⊤, ◌⊎◌, List, ◌∷◌, ◌++◌, [], map, length, take, slice_get, nat_lt, Option, Some, None, Result, Ok, Err, is_none, is_some, if◌then◌else◌}
 use Rattle.std.specs.List.{AllByRecursion}
 use Rattle.entry_book.specs.declared.limit.Limit.{Limit}
@@ -34,7 +34,7 @@ use Rattle.call_machine.specs.Machine.{is_waiting, is_ready, is_running, is_over
 
 -- ---- a call
 
--- where a work stands
+-- the stage of a work with this base after n reads
 abbrev pub stage_from : Option Base → Batch → ℕ → Stage
 stage_from None batch n = waiting
 stage_from (Some base) batch n = if nat_lt n (length (footprint_there batch base)) then running base.newest.number n else stage_settled (awaits_there batch base) base.newest.number (reply_there batch base)
@@ -43,7 +43,7 @@ abbrev pub stage_replied : Bool → Reply → Stage
 stage_replied true r = committed r
 stage_replied false r = answered r
 
--- where a call stands that has this answer
+-- the stage of a call with this answer
 abbrev pub stage_over : CallAnswer → Stage
 stage_over (Replied r) = stage_replied (is_committed r.outcome) r
 stage_over (Conflict n) = conflict n
@@ -63,7 +63,7 @@ abbrev pub IsSettled : SlotState → Type 0
 IsSettled (Open w) = status_of w ≡ Settled
 IsSettled (Over a) = ⊥
 
--- a call whose work is settled has its answer
+-- an open call has a work that isn't settled
 abbrev pub AnsweredWhenSettled : SlotState → Type 0
 AnsweredWhenSettled (Open w) = status_of w ≡ Settled → ⊥
 AnsweredWhenSettled (Over a) = ⊤
@@ -77,7 +77,7 @@ call_kept n slot = record { number = n; batch = slot.batch; stage = stage_of_slo
 abbrev pub calls_kept : List (ℕ × Slot) → List Call
 calls_kept es = map (λ e. call_kept e.0 e.1) es
 
--- it is committed, or has replied otherwise than by a conflict
+-- it is committed, or has replied with something other than a conflict
 abbrev pub is_listed_answer : CallAnswer → Option ℕ → Bool
 is_listed_answer (Replied r) replied = is_committed r.outcome || is_some replied
 is_listed_answer (Conflict n) replied = false
@@ -95,15 +95,15 @@ is_listed_entry e = is_listed_slot e.1
 abbrev pub turn_of_entry : ℕ × Slot → ℕ × ℕ
 turn_of_entry e = (e.1.turn, e.0)
 
--- ---- what a work has to do with the journal
+-- ---- works and the journal
 
--- On what it began on, the batch reads, awaits its commit and answers as on these books.
+-- On this base, the batch has the same reads and reply as on these books, and has changes to commit on both or on neither.
 pub record IsOn (batch : Batch) (base : Base) (books : List Book) : Type 0 where
   pub reads : footprint_there batch base ≡ footprint_of batch books
   pub wait : awaits_there batch base ≡ awaits_commit batch books
   pub reply : reply_there batch base ≡ reply_to batch books
 
--- It began on the version that the first items of the journal led to.
+-- The base is the version to which the first items of the journal lead.
 pub record BeganInside (own : Bytes) (items : List Item) (batch : Batch) (base : Base) : Type 0 where
   pub low : base.newest.number ≤ length items
   pub leads : Leads (first_state own) (take base.newest.number items) base.newest
@@ -113,12 +113,12 @@ abbrev pub BeganWithin : Bytes → List Item → Batch → ℕ → Option Base �
 BeganWithin own items batch steps None = steps ≡ 0
 BeganWithin own items batch steps (Some base) = BeganInside own items batch base
 
--- The work's batch was made for the trust domain; it has read nothing, or it has begun inside the journal.
+-- The work's batch was made for the trust domain. The work has not begun and has read nothing, or its base is inside the journal.
 pub record RestsOn (own : Bytes) (items : List Item) (w : Work) : Type 0 where
   pub made : IsMadeFor own w.batch
   pub began : BeganWithin own items w.batch w.steps w.base
 
--- a work that is open has the call's batch
+-- the work of an open call is as above, and has the call's batch
 abbrev pub StateRests : Bytes → List Item → Batch → SlotState → Type 0
 StateRests own items batch (Open w) = RestsOn own items w × (w.batch ≡ batch)
 StateRests own items batch (Over a) = ⊤
@@ -131,7 +131,7 @@ pub record SlotRests (own : Bytes) (items : List Item) (slot : Slot) : Type 0 wh
 abbrev pub AllRest : Bytes → List Item → List (ℕ × Slot) → Type 0
 AllRest own items es = AllByRecursion (λ e. SlotRests own items e.1) es
 
--- the head keeps its whole journal
+-- the head stores its whole journal
 abbrev pub IsWhole : Head → Type 0
 IsWhole h = IsJournal h.kept h
 
@@ -144,7 +144,8 @@ journal_of h = batches_of h.kept
 abbrev pub state_of : Head → ℕ → List (ℕ × Slot) → State
 state_of h count es = record { domain = domain_of h; journal = journal_of h; count = count; calls = calls_kept es }
 
--- how many events were accepted of a call that stands here, at most: its invoke, its begin, a step for each of its reads, and its commit
+-- the maximum number of accepted events of a call at this stage, without its reply: its invoke, its begin, a step for each read, its
+-- commit
 abbrev pub stage_events : Stage → ℕ
 stage_events waiting = 1
 stage_events (running base made) = 2 + made
@@ -164,14 +165,14 @@ abbrev pub all_events : List (ℕ × Slot) → ℕ
 all_events [] = 0
 all_events (e ∷ es) = slot_events e.1 + all_events es
 
--- What always holds of a machine's fields. That the calls are few and that no event is another call's keeps the count far below 2^64.
+-- The invariant of a machine's fields. As the calls are few and so are the events of each, the count stays far below 2^64.
 pub record Holds (h : Head) (count : ℕ) (es : List (ℕ × Slot)) : Type 0 where
   pub whole : IsWhole h
   pub rest : AllRest (domain_of h) h.kept es
   pub few : length es ≤ 4096
   pub counted : count ≤ all_events es
 
--- want of memory comes only where no other refusal is due
+-- the refusal that is due, or out of memory if none is due
 abbrev pub IsRefusalOr : Option EventRefusal → EventRefusal → Type 0
 IsRefusalOr due r = (due ≡ Some r) ⊎ ((due ≡ None) × (r ≡ NoMemory))
 
@@ -217,7 +218,7 @@ pub record SlotSteps (own : Bytes) (items : List Item) (old : Slot) (mark : Mark
 
 -- ---- a commit
 
--- what a decision is to the machine's journal, and to the call's stage
+-- the effect of each decision on the machine's journal, and on the call's stage
 pub record DecidesCommitted (journal : List Batch) (batch : Batch) (decision : Decision) (place : ℕ) (stage : Stage) (after : List Batch) : Type 0 where
   pub commits : commits batch (books_of journal) ≡ true
   pub stage_is : stage ≡ committed (reply_to batch (books_of journal))
@@ -243,14 +244,14 @@ pub record DecidesConflict (journal : List Batch) (batch : Batch) (base : ℕ) (
 abbrev pub Decides : List Batch → Batch → ℕ → Decision → ℕ → Stage → List Batch → Type 0
 Decides journal batch base decision place stage after = DecidesCommitted journal batch decision place stage after ⊎ (DecidesFull journal batch decision place stage after ⊎ DecidesConflict journal batch base decision place stage after)
 
--- The head has the journal that it had, or one that goes on.
+-- The new head has the same trust domain, and its whole journal: the old one's, perhaps with more items.
 pub record GoesOn (old new : Head) : Type 0 where
   pub domain : domain_of new ≡ domain_of old
   pub more : List Item
   pub kept : new.kept ≡ old.kept ++ more
   pub whole : IsWhole new
 
--- A commit that was prepared is finished: the call has its answer, and the head its item.
+-- A prepared commit is finished: the call has its answer, and the head its item.
 pub record Finishes (old : Head) (item : Item) (answer : CallAnswer) (place : ℕ) (new : Head) : Type 0 where
   pub answer_is : answer ≡ Replied (record { place = place_of old + 1; outcome = Committed item.replies })
   pub place_is : place ≡ place_of old + 1

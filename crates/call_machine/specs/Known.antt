@@ -1,10 +1,10 @@
--- What a machine tells of a call.
+-- What a machine reports about a call.
 use Rattle.std.specs.Prelude.{◌≡◌, ⊤, ℕ, Option, Some, None}
 use Rattle.std.specs.Option.{option_copied}
 use Rattle.call_answers.specs.declared.call.KnownCall.{KnownCall}
 use Rattle.call_machine.specs.Calls.{Stage, waiting, running, ready, answered, committed, conflict, Call, answer_of}
 
--- the number of the event that decided it: of the begin where it settled, of the commit where it is committed or full
+-- the number of the event that decided it: of its begin if it needed no commit, of its commit if it is committed or refused by a limit
 abbrev pub decided_of : Stage → ℕ → Option ℕ
 decided_of waiting turn = None
 decided_of (running base made) turn = None

@@ -1,4 +1,4 @@
--- The order that a machine answers, and the laws of it and of runs. Each law is a clause of a function of the module `laws`.
+-- The order that a machine returns, and the theorems on it and on runs. Each theorem is a clause of a function of the module `laws`.
 use Rattle.std.specs.Prelude.{◌≡◌, ◌↔◌, ◌⊎◌, ℕ, ◌+◌, ◌<◌, ◌≤◌, Bool, true, false, ⊤, List, [], ◌∷◌, ◌++◌, filter, map, Option, Some, None, Err, is_some}
 use Rattle.std.specs.List.{AllByRecursion}
 use Rattle.std.specs.List.Sorted.{IsPermutation, IsNonDecreasingBy}
@@ -26,7 +26,7 @@ use Rattle.call_machine.specs.Calls.{Stage, waiting, running, ready, answered, c
 use Rattle.call_machine.specs.Known.{decided_of}
 use Rattle.call_machine.specs.Machine.{Accepts, Applies, Runs, refusal_of}
 
--- committed, or replied otherwise than by a conflict
+-- committed, or replied with something other than a conflict
 abbrev pub is_listed_at : Stage → Option ℕ → Bool
 is_listed_at waiting r = false
 is_listed_at (running base made) r = false
@@ -38,7 +38,7 @@ is_listed_at (conflict n) r = false
 abbrev pub is_listed : Call → Bool
 is_listed c = is_listed_at c.stage c.replied
 
--- each before all later ones
+-- the turn of each call is less than those of all later ones
 abbrev pub AscendingTurns : List Call → Type 0
 AscendingTurns [] = ⊤
 AscendingTurns (c ∷ cs) = AllByRecursion (λ d. c.turn < d.turn) cs × AscendingTurns cs
@@ -46,7 +46,7 @@ AscendingTurns (c ∷ cs) = AllByRecursion (λ d. c.turn < d.turn) cs × Ascendi
 abbrev pub number_of : Call → ℕ
 number_of c = c.number
 
--- its place among the deciding events, with its number
+-- the accepted number of its deciding event, with its own number
 abbrev pub turn_of : Call → ℕ × ℕ
 turn_of c = (c.turn, c.number)
 
@@ -56,7 +56,7 @@ turn_in p = p.0
 abbrev pub number_in : ℕ × ℕ → ℕ
 number_in p = p.1
 
--- The listed calls, in the order of their deciding events.
+-- The numbers of the listed calls, in the order of their deciding events.
 pub record IsOrder (s : State) (order : List ℕ) : Type 0 where
   pub turns : List (ℕ × ℕ)
   pub listed : IsPermutation (map turn_of (filter is_listed s.calls)) turns
@@ -66,19 +66,21 @@ pub record IsOrder (s : State) (order : List ℕ) : Type 0 where
 abbrev pub HeadlineHolds : Type 0
 HeadlineHolds = (own : Bytes) (events : List Event) (answers : List Answer) (s : State) (order : List ℕ) → Runs (first_state own) events answers s → IsOrder s order → Headline (accepted events answers) order
 
--- ---- the accepted numbers that calls keep
+-- ---- the accepted numbers that calls hold
 
--- This number is that of the call's begin, behind which it was settled with a reply that tells no limit, or of its commit, which passed the limit that its reply tells.
+-- Event n is the call's begin, and the reply is not a refusal by a limit. Or event n is the call's commit, decided as full by the limit
+-- that the reply names, at the reply's place.
 abbrev pub SettledAt : List Happened → ℕ → ℕ → Reply → Type 0
 SettledAt log n c r = ((base : ℕ) × (status : Status) × ((limit : Limit) → r.outcome ≡ Refused (TooMuch limit) → ⊥) × At log n (Begin c) (Begun c base status)) ⊎ ((limit : Limit) × (r.outcome ≡ Refused (TooMuch limit)) × At log n (Commit c) (Decided c (is.Full limit) r.place))
 
--- that of the event that decided the call
+-- event n is the one that decided the call
 abbrev pub DecidedAt : List Happened → ℕ → ℕ → Stage → Type 0
 DecidedAt log n c (answered r) = SettledAt log n c r
 DecidedAt log n c (committed r) = At log n (Commit c) (Decided c is.Committed r.place)
 DecidedAt log n c stage = ⊥
 
--- The call has the number under which its batch was handed in, that of the event that decided it, and that under which it gave its answer out: each where the accepted events have this event of the call under this number, and nowhere else. What it gave out is the answer that it holds.
+-- The call's numbers are exactly those of its events among the accepted ones: `invoked` for an invoke with its batch, `decided_of` for
+-- the event that decided it, and `replied` for its reply. A reply event has the answer that the call holds.
 pub record IsStamped (log : List Happened) (call : Call) : Type 0 where
   pub invoked : (n : ℕ) (batch : Batch) → ((n ≡ call.invoked) × (batch ≡ call.batch)) ↔ ((done : Done) × At log n (Invoke call.number batch) done)
   pub decided : (n : ℕ) → (decided_of call.stage call.turn ≡ Some n) ↔ DecidedAt log n call.number call.stage
@@ -88,13 +90,13 @@ pub record IsStamped (log : List Happened) (call : Call) : Type 0 where
 abbrev pub CallsAreStamped : Type 0
 CallsAreStamped = (own : Bytes) (events : List Event) (answers : List Answer) (s : State) (c : ℕ) (call : Call) → Runs (first_state own) events answers s → call_at c s.calls ≡ Some call → IsStamped (accepted events answers) call
 
--- ---- how a run goes on
+-- ---- how a run continues
 
 -- one more event: its answer is the last
 abbrev pub RunsGoOn : Type 0
 RunsGoOn = (events : List Event) (answers : List Answer) (s t u : State) (event : Event) (answer : Answer) → Runs s events answers t → Applies t event answer u → Runs s (events ++ event ∷ []) (answers ++ answer ∷ []) u
 
--- What one event leaves: the trust domain, and a count that is one more at most.
+-- After one event the trust domain is the same, and the count is at most one more.
 pub record AreLeft (s t : State) : Type 0 where
   pub domain : t.domain ≡ s.domain
   pub count : t.count ≤ s.count + 1
@@ -104,17 +106,17 @@ EventLeaves = (s : State) (event : Event) (answer : Answer) (t : State) → Appl
 
 -- ---- which events are refused
 
--- an event is accepted only where no refusal is due
+-- an event is accepted only if no refusal is due
 abbrev pub AcceptedUnrefused : Type 0
 AcceptedUnrefused = (s : State) (event : Event) (done : Done) (t : State) → Accepts s event done t → refusal_of s event ≡ None
 
--- a refusal other than want of memory is due exactly where the event is handed back with it
+-- a refusal other than out of memory is due exactly if the event is handed back with it
 abbrev pub RefusedWhereDue : Type 0
 RefusedWhereDue = (s : State) (event : Event) (answer : Answer) (t : State) (r : EventRefusal) → Applies s event answer t → (r ≡ NoMemory → ⊥) → (refusal_of s event ≡ Some r) ↔ (answer ≡ Err (record { refusal = r; event = event }))
 
 -- ---- the replies that calls hold
 
--- running the plain book through these calls' batches gives each of them the reply that the machine holds of it, given out or not
+-- the plain book, run through these calls' batches, gives each the reply that the machine holds for it, returned to the caller or not
 abbrev pub HoldReplies : List Call → List Book → List ℕ → Type 0
 HoldReplies calls books [] = ⊤
 HoldReplies calls books (c ∷ cs) = (call : Call) × (call_at c calls ≡ Some call) × (answer_of call.stage ≡ Some (Replied (reply_to call.batch books))) × HoldReplies calls (books_after call.batch books) cs

@@ -1,4 +1,4 @@
--- One event of a machine, and a list of them.
+-- The effect of one event on a machine, and of a list of events.
 use Rattle.std.specs.Prelude.{◌≡◌, ℕ, ◌+◌, ◌<◌, Bool, true, false, ◌&&◌, ◌⊎◌, List, [], ◌∷◌, ◌++◌, length, take, slice_get, nat_lt, Option, Some, None, is_some, is_none, Ok, Err, if◌then◌else◌}
 use Rattle.std.specs.List.{AllByRecursion}
 use Rattle.entry_book.specs.declared.limit.Limit.{Limit}
@@ -56,7 +56,7 @@ pub record Steps (s : State) (n : ℕ) (done : Done) (t : State) : Type 0 where
   pub answer : done ≡ Stepped n mark (status_at stage)
   pub after : t ≡ moved (record call { stage = stage }) s
 
--- a commit that is no conflict comes to what the plain book says of the batch on the newest books
+-- without a conflict, the decision is that of the plain book on the newest books: the batch is committed, or a limit refuses it
 pub record CommitsNow (s : State) (call : Call) (done : Done) (t : State) : Type 0 where
   pub commits : commits call.batch (books_of s.journal) ≡ true
   pub answer : done ≡ Decided call.number is.Committed (length s.journal + 1)
@@ -68,7 +68,7 @@ pub record IsFull (s : State) (call : Call) (done : Done) (t : State) : Type 0 w
   pub answer : done ≡ Decided call.number (is.Full limit) (length s.journal)
   pub after : t ≡ moved (record call { stage = answered (reply_to call.batch (books_of s.journal)); turn = s.count + 1 }) s
 
--- a conflict is answered only where it is due, and changes nothing but the call
+-- a conflict is decided only if it is due, and changes only the call, apart from the count
 pub record Conflicts (s : State) (call : Call) (base : ℕ) (done : Done) (t : State) : Type 0 where
   pub due : IsDue s.journal call.batch base
   pub answer : done ≡ Decided call.number is.Conflict (length s.journal)
@@ -90,7 +90,7 @@ pub record Replies (s : State) (n : ℕ) (done : Done) (t : State) : Type 0 wher
   pub answer : done ≡ Answered n given
   pub after : t ≡ moved (record call { replied = Some (s.count + 1) }) s
 
--- in state s the event may be answered so, and the state then is t
+-- in state s the event may be accepted with this answer, and the next state is t
 abbrev pub Accepts : State → Event → Done → State → Type 0
 Accepts s (Invoke n batch) done t = Invokes s n batch done t
 Accepts s (Begin n) done t = Begins s n done t
@@ -127,12 +127,12 @@ is_ready (answered r) = false
 is_ready (committed r) = false
 is_ready (conflict n) = false
 
--- unknown call, then not in turn
+-- the call is unknown, or it is not in turn
 abbrev pub refusal_at : Option Call → (Call → Bool) → Option EventRefusal
 refusal_at None in_turn = Some UnknownCall
 refusal_at (Some c) in_turn = if in_turn c then None else Some NotNow
 
--- the refusal that is due, where one is
+-- the refusal that is due, if there is one
 abbrev pub refusal_of : State → Event → Option EventRefusal
 refusal_of s (Invoke n batch) = if is_some (call_at n s.calls) then Some CallTaken else (if nat_lt (length s.calls) 4096 then None else Some TooManyCalls)
 refusal_of s (Begin n) = refusal_at (call_at n s.calls) (λ c. is_waiting c.stage)
@@ -140,7 +140,7 @@ refusal_of s (Step n) = refusal_at (call_at n s.calls) (λ c. is_running c.stage
 refusal_of s (Commit n) = refusal_at (call_at n s.calls) (λ c. is_ready c.stage)
 refusal_of s (on.Reply n) = refusal_at (call_at n s.calls) (λ c. is_none c.replied && is_over c.stage)
 
--- the event is handed back; want of memory comes only where no other refusal is due
+-- the event is handed back; out of memory only if no other refusal is due
 pub record Refuses (s : State) (event : Event) (r : RefusedEvent) : Type 0 where
   pub back : r.event ≡ event
   pub due : (refusal_of s event ≡ Some r.refusal) ⊎ ((refusal_of s event ≡ None) × (r.refusal ≡ NoMemory))

@@ -1,4 +1,5 @@
--- What is promised of a schedule, in the words of whoever handed it in: of the events, of what each was answered, and of the order that is answered in the end. Nothing here knows how a machine works: a reader who believes the plain book, and what a batch reads and writes, can believe this.
+-- The guarantees about a schedule, in terms of what a client sees: the events, the answer to each of them, and the order that is returned
+-- at the end. Nothing here depends on how a machine works: a reader needs only the plain book, and what a batch reads and writes.
 use Rattle.std.specs.Prelude.{◌≡◌, ◌↔◌, ℕ, ◌+◌, ◌<◌, true, ⊤, ◌⊎◌, List, [], ◌∷◌, ◌++◌, length, take, slice_get, Some, Result, Ok, Err}
 use Rattle.std.specs.List.{AllByRecursion}
 use Rattle.entry_book.specs.declared.reply.Reply.{Reply}
@@ -20,7 +21,7 @@ use Rattle.call_events.specs.declared.event.RefusedEvent.{RefusedEvent}
 
 -- ---- a schedule
 
--- what an event is answered
+-- the answer to an event
 abbrev pub Answer : Type 0
 Answer = Result Done RefusedEvent
 
@@ -40,28 +41,28 @@ accepted (e ∷ es) (Err r ∷ answers) = accepted es answers
 abbrev pub At : List Happened → ℕ → Event → Done → Type 0
 At log n event done = (k : ℕ) × (n ≡ k + 1) × (slice_get log k ≡ Some (record { event = event; done = done }))
 
--- ---- what became of a call
+-- ---- the outcome of a call
 
 abbrev pub HandedIn : List Happened → ℕ → Batch → Type 0
 HandedIn log c batch = (n : ℕ) × (done : Done) × At log n (Invoke c batch) done
 
--- its begin found this place
+-- it began at this place
 abbrev pub BeganAt : List Happened → ℕ → ℕ → Type 0
 BeganAt log c base = (n : ℕ) × (status : Status) × At log n (Begin c) (Begun c base status)
 
--- its commit was answered committed, at this place
+-- its commit was decided as committed, at this place
 abbrev pub CommittedAt : List Happened → ℕ → ℕ → Type 0
 CommittedAt log c place = (n : ℕ) × At log n (Commit c) (Decided c is.Committed place)
 
--- it gave out this reply
+-- it replied with this reply
 abbrev pub GaveOut : List Happened → ℕ → Reply → Type 0
 GaveOut log c reply = (n : ℕ) × At log n (on.Reply c) (Answered c (Replied reply))
 
--- a committed call, replied or not, or a call that has replied otherwise than by a conflict
+-- a committed call, replied or not, or a call that has replied with something other than a conflict
 abbrev pub IsListed : List Happened → ℕ → Type 0
 IsListed log c = ((place : ℕ) × CommittedAt log c place) ⊎ ((reply : Reply) × GaveOut log c reply)
 
--- The reply of the first call stands at a smaller accepted number than the invoke of the second.
+-- The reply of the first call has a smaller accepted number than the invoke of the second.
 pub record EndedBefore (log : List Happened) (first second : ℕ) : Type 0 where
   pub reply_number : ℕ
   pub invoke_number : ℕ
@@ -78,19 +79,20 @@ abbrev pub Different : List ℕ → Type 0
 Different [] = ⊤
 Different (c ∷ cs) = AllByRecursion (λ d. c ≡ d → ⊥) cs × Different cs
 
--- Each listed call stands in the order once, and no other does.
+-- The order has each listed call once, and no other call.
 pub record IsSerial (log : List Happened) (order : List ℕ) : Type 0 where
   pub listed : (c : ℕ) → Within order c ↔ IsListed log c
   pub once : Different order
 
 -- ---- legal
 
--- A reply that the call gave out is this one; where its commit was answered committed, this reply is that of a committed batch, at that place.
+-- Each reply of the call is this one. If its commit was decided as committed, this reply is that of a committed batch, at the same place.
 pub record IsReplyOf (log : List Happened) (c : ℕ) (reply : Reply) : Type 0 where
   pub given : (out : Reply) → GaveOut log c out → out ≡ reply
   pub committed : (place : ℕ) → CommittedAt log c place → (place ≡ reply.place) × (is_committed reply.outcome ≡ true)
 
--- running the plain book through these calls' batches gives each of them the reply that it gave out, place and all; of a committed call that hasn't replied the answers show the place alone, and `HoldReplies` in `Laws` says the rest
+-- the plain book, run through these calls' batches, gives each of them the reply that it returned, with its place; of a committed call
+-- that hasn't replied, the events show only the place, and `HoldReplies` in `Laws` says the rest
 abbrev pub RunsFrom : List Happened → List Book → List ℕ → Type 0
 RunsFrom log books [] = ⊤
 RunsFrom log books (c ∷ cs) = (batch : Batch) × HandedIn log c batch × IsReplyOf log c (reply_to batch books) × RunsFrom log (books_after batch books) cs
@@ -104,7 +106,7 @@ abbrev pub StandsBefore : List ℕ → ℕ → ℕ → Type 0
 StandsBefore [] a b = ⊥
 StandsBefore (c ∷ cs) a b = ((c ≡ a) × Within cs b) ⊎ StandsBefore cs a b
 
--- a call that ended before another began stands in front of it
+-- of two listed calls, one that ended before the other was invoked comes first in the order
 abbrev pub IsStrict : List Happened → List ℕ → Type 0
 IsStrict log order = (a b : ℕ) → IsListed log a → IsListed log b → EndedBefore log a b → StandsBefore order a b
 
@@ -119,33 +121,35 @@ commit_of (Decided c is.Conflict place) = []
 commit_of (Decided c (is.Full limit) place) = []
 commit_of (Answered c answer) = []
 
--- the calls whose commit was answered committed, in the order of their commits
+-- the calls whose commit was decided as committed, in the order of their commits
 abbrev pub commits_in : List Happened → List ℕ
 commits_in [] = []
 commits_in (h ∷ hs) = commit_of h.done ++ commits_in hs
 
--- the place that this answer tells the begin of the call is the number of the commits among these accepted events
+-- this answer is that to the begin of the call, with the number of commits among these accepted events as its place
 abbrev pub CountsCommits : List Happened → ℕ → Done → Type 0
 CountsCommits log c done = (status : Status) × (done ≡ Begun c (length (commits_in log)) status)
 
--- each begin is told how many batches were committed before it
+-- the answer to each begin has the number of batches committed before it
 abbrev pub BeginsCountCommits : List Happened → Type 0
 BeginsCountCommits log = (k c : ℕ) (done : Done) → slice_get log k ≡ Some (record { event = Begin c; done = done }) → CountsCommits (take k log) c done
 
 -- ---- conflicts
 
--- the batches of these calls
+-- these are the batches of these calls, in the same order
 abbrev pub BatchesOf : List Happened → List ℕ → List Batch → Type 0
 BatchesOf log [] [] = ⊤
 BatchesOf log [] (batch ∷ batches) = ⊥
 BatchesOf log (c ∷ cs) [] = ⊥
 BatchesOf log (c ∷ cs) (batch ∷ batches) = HandedIn log c batch × BatchesOf log cs batches
 
--- These committed batches have one that was committed after book `base`, with a write that hits a mark of the footprint that `batch` has on book `base`.
+-- Of these committed batches, one that was committed after book `base` has a write that hits a mark of the footprint of `batch` on
+-- `base`.
 abbrev pub IsDue : List Batch → Batch → ℕ → Type 0
 IsDue journal batch base = IsHitSince journal base (footprint_of batch (books_of (take base journal)))
 
--- After these accepted events the call's commit may be answered a conflict at this place. The journal has the batches of the calls committed so far.
+-- After these accepted events, a conflict at this place is due for the call's commit. The journal has the batches of the calls committed
+-- so far.
 pub record IsDueConflict (log : List Happened) (c place : ℕ) : Type 0 where
   pub journal : List Batch
   pub journal_is : BatchesOf log (commits_in log) journal
@@ -159,21 +163,23 @@ pub record IsDueConflict (log : List Happened) (c place : ℕ) : Type 0 where
 abbrev pub ConflictsAreDue : List Happened → Type 0
 ConflictsAreDue log = (k c place : ℕ) → slice_get log k ≡ Some (record { event = Commit c; done = Decided c is.Conflict place }) → IsDueConflict (take k log) c place
 
--- a call whose commit was a conflict is listed nowhere
+-- a call whose commit was a conflict is not listed
 abbrev pub ConflictsAreOver : List Happened → Type 0
 ConflictsAreOver log = (n c place : ℕ) → At log n (Commit c) (Decided c is.Conflict place) → IsListed log c → ⊥
 
--- a conflict is given out by a call whose commit was answered so, and by no other
+-- a call replies with a conflict only if its commit was decided as that conflict
 abbrev pub ConflictsWereMet : List Happened → Type 0
 ConflictsWereMet log = (n c place : ℕ) → At log n (on.Reply c) (Answered c (Conflict place)) → (m : ℕ) × At log m (Commit c) (Decided c is.Conflict place)
 
--- ---- the headline
+-- ---- the main theorem
 
 -- a call has one batch
 abbrev pub OneBatch : List Happened → Type 0
 OneBatch log = (c : ℕ) (batch other : Batch) → HandedIn log c batch → HandedIn log c other → batch ≡ other
 
--- Each call has one batch. The order is serial, legal and strict. Each begin is told how many batches were committed before it, and each conflict is due since the begin of its call; this call is over: it is listed nowhere, so that nobody runs its batch.
+-- Each call has one batch. The order is serial, legal and strict. The answer to each begin has the number of batches committed before it.
+-- Each conflict is due since the begin of its call, and that call is not listed. A call replies with a conflict only if its commit was
+-- one.
 pub record Headline (log : List Happened) (order : List ℕ) : Type 0 where
   pub one_batch : OneBatch log
   pub serial : IsSerial log order

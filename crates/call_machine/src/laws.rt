@@ -1,20 +1,20 @@
-//! Which laws hold of schedules?
+//! Which theorems hold of schedules?
 //!
-//! Each function does nothing. What it ensures is a law of the definitions, stated in `specs/Laws.antt`; a caller that calls
-//! it may rest on the law.
+//! Each function does nothing at run time. Its contract is a theorem on the definitions, stated in `specs/Laws.antt`; a
+//! caller may rely on the theorem after the call.
 
 ghost use Rattle.call_machine.specs.Laws.{AcceptedUnrefused, CallsAreStamped, EventLeaves, HeadlineHolds, RefusedWhereDue, RepliesHeld, RunsGoOn};
 
-/// The headline: whatever events led a machine to where it stands, its order is serial, legal and strict, and every
-/// conflict was due; each call of it holds the reply that the plain book gives it there; and a call has the accepted numbers
-/// of its invoke, of the event that decided it and of its reply, exactly as far as these events came.
+/// The main theorem, strict serializability. After every run of a machine, its order is serial, legal and strict, and every
+/// conflict was due. Each call of the order holds the reply that the plain book gives it at that point. A call has the
+/// accepted numbers of its invoke, its deciding event and its reply, exactly as far as these events have happened.
 pub fn headline()
     ensures headline { HeadlineHolds }
     ensures held { RepliesHeld }
     ensures stamped { CallsAreStamped }
 {}
 
-/// How a run goes on, event by event, and that an event is refused exactly where a refusal is due, but for want of memory.
+/// How a run continues, event by event; and that an event is refused exactly if a refusal is due, apart from out of memory.
 pub fn runs()
     ensures goes_on { RunsGoOn }
     ensures leaves { EventLeaves }

@@ -15,13 +15,13 @@ use spiffe_name::TrustDomain;
 use std::alloc::{AllocError, Global};
 use std::marker::Model;
 
-/// The concurrent calls of many callers over one book. Events move them on, one at a time, in any order. An event out of turn is
-/// refused, returned, and changes nothing. In contracts the machine is the record of its trust domain, the committed batches, the
-/// count of accepted events, and its calls in the order of their invokes.
+/// The concurrent calls of many callers over one book, advanced by events, one at a time: any list of them, in any order.
+/// An event out of turn is refused, handed back, and changes nothing. The model in contracts is a record: the trust domain,
+/// the committed batches, the number of accepted events, and the calls in the order of their invokes.
 ///
-/// A machine has at most 4,096 calls, and stores the batch and the reply of each for its whole life, but no version of a call that
-/// is over. As a batch makes at most 2^21 reads, a machine accepts fewer than 2^34 events in its life. An event costs one hash
-/// look-up of the call, and what its work or its commit costs.
+/// A machine has at most 4,096 calls. It stores each call for its whole life, with its batch and reply, but no version for
+/// a call that is over. As a batch makes at most 2^21 reads, a machine accepts fewer than 2^34 events in its life. An event
+/// costs what its work or commit costs, and a hash lookup of the call.
 #[derive(Drop)]
 pub struct Machine {
     alloc: Global,
@@ -55,8 +55,8 @@ impl Machine {
     ghost use Rattle.call_machine.specs.Machine.{Applies, AreFor, Begins, Commits, Invokes, Replies, Runs, Steps, refusal_of};
     ghost use Rattle.call_machine.specs.Laws.{HoldReplies, IsOrder};
 
-    /// Returns the machine of a trust domain's server, with no calls and the empty book at place 0. The only error is a failed
-    /// allocation.
+    /// Makes the machine of a trust domain's server, with no calls and the empty book at place 0. The error is out of
+    /// memory.
     pub fn new(alloc: Global, domain: TrustDomain) -> Result<Machine, AllocError>
         ensures { IfOk result (λ machine. machine ≡ first_state domain) }
     {
@@ -68,8 +68,8 @@ impl Machine {
         })
     }
 
-    /// Applies one event. Returns its answer, or why it is refused; then nothing has changed. The batch of an invoke was made for the
-    /// machine's trust domain.
+    /// Applies one event. Returns its answer, or the event with the reason of its refusal; then nothing has changed. The
+    /// batch of an invoke must be of the machine's trust domain.
     pub fn apply(&mut self, event: Event) -> Result<Done, RefusedEvent>
         requires domain { IsFor self.old.domain event }
         ensures { Applies self.old event result self.new }
@@ -89,8 +89,8 @@ impl Machine {
         }
     }
 
-    /// Applies each event in turn, and returns the answer to each. The only error is a failed allocation of the list of answers, and
-    /// then nothing has changed.
+    /// Applies each event in turn, as `apply` does, and returns the answers. The error is out of memory for the list of
+    /// answers, and then nothing has changed.
     pub fn run(&mut self, events: Vec<Event>) -> Result<Vec<Result<Done, RefusedEvent>>, AllocError>
         requires domain { AreFor self.old.domain events.items }
         ensures ran { IfOk result (λ answers. Runs self.old events.items answers.items self.new) }
@@ -104,8 +104,9 @@ impl Machine {
         Ok(answers)
     }
 
-    /// Returns the committed calls, and those that have replied and not by a conflict, in the order of their deciding events: the
-    /// commit of committed and full ones, the begin of all others. The only error is a failed allocation.
+    /// Returns the committed calls, and those that have replied with something other than a conflict, in the order of their
+    /// deciding events. The deciding event is the commit for committed batches and refusals by a limit, and the begin for
+    /// queries, repeats and other refusals. The error is out of memory.
     pub fn order(&self) -> Result<Vec<u64>, AllocError>
         ensures order { IfOk result (λ order. IsOrder self.now order.items) }
         ensures headline { IfOk result (λ order. (own : Bytes) (events : List AnEvent) (answers : List Answer)
@@ -118,7 +119,7 @@ impl Machine {
         numbers_of(self.alloc, &turns)
     }
 
-    /// Returns what is known of a call, or none for an unknown one.
+    /// Returns what is known of a call; `None` for an unknown one.
     pub fn call(&self, number: u64) -> Option<KnownCall<'_>>
         ensures { Tells (call_at number self.now.calls) result }
     {
@@ -128,14 +129,14 @@ impl Machine {
         }
     }
 
-    /// Invokes a call with its batch. If the call is refused, the batch is returned.
+    /// Adds a call with its batch. If it is refused, the batch is handed back.
     fn invoke(&mut self, number: u64, batch: Batch) -> Result<Done, (EventRefusal, Batch)>
         requires domain { batch.domain ≡ self.old.domain }
         ensures ok { IfOk result (λ done. Invokes self.old number batch done self.new) }
         ensures err { IfErr result (λ r. (r.1 ≡ batch) × IsRefusalOr (refusal_of self.old (event.Invoke number batch)) r.0) }
         ensures stays { OnErr result (self.new ≡ self.old) }
     {
-        // brings into the proof that the batch was made for its trust domain
+        // The contract then knows that the batch was made for its trust domain.
         let _ = batch.ops();
         if self.calls.contains_key(&number) {
             return Err((EventRefusal::CallTaken, batch));
@@ -188,7 +189,7 @@ impl Machine {
         Ok(Done::Stepped(number, mark, status))
     }
 
-    /// Commits a call's changes.
+    /// Commits a call's changes, or decides why not.
     fn commit(&mut self, number: u64) -> Result<Done, EventRefusal>
         ensures ok { IfOk result (λ done. Commits self.old number done self.new) }
         ensures err { IfErr result (IsRefusalOr (refusal_of self.old (event.Commit number))) }
@@ -206,7 +207,7 @@ impl Machine {
         Ok(Done::Decided(number, decision, place))
     }
 
-    /// Returns a call's answer.
+    /// Returns a call's answer to the caller, once.
     fn reply(&mut self, number: u64) -> Result<Done, EventRefusal>
         ensures ok { IfOk result (λ done. Replies self.old number done self.new) }
         ensures err { IfErr result (IsRefusalOr (refusal_of self.old (event.Reply number))) }
@@ -225,7 +226,7 @@ impl Machine {
     }
 }
 
-/// Returns true if a machine can take no more calls.
+/// Returns true if a machine has as many calls as it may have.
 fn is_full(calls: &IndexMap<u64, Slot>) -> bool
     ensures { nat_lt (length calls.now.entries) 4096 ≡ not result }
 {
@@ -242,7 +243,7 @@ fn with_room(calls: &mut IndexMap<u64, Slot>, batch: &Batch) -> Result<Batch, Al
     batch.clone()
 }
 
-/// Returns the turns of the listed calls, with their numbers.
+/// Returns the turns of the listed calls, with their numbers. The error is out of memory.
 fn turns_of(alloc: Global, calls: &IndexMap<u64, Slot>) -> Result<Vec<(u64, u64)>, AllocError>
     ensures { IfOk result (λ turns. turns.items ≡ map turn_of_entry (filter is_listed_entry calls.now.entries)) }
 {
@@ -255,7 +256,7 @@ fn turns_of(alloc: Global, calls: &IndexMap<u64, Slot>) -> Result<Vec<(u64, u64)
     Ok(turns)
 }
 
-/// Returns their numbers, in this order.
+/// Returns their numbers, in this order. The error is out of memory.
 fn numbers_of(alloc: Global, turns: &[(u64, u64)]) -> Result<Vec<u64>, AllocError>
     ensures { IfOk result (λ numbers. numbers.items ≡ map number_in turns.now) }
 {
@@ -266,7 +267,7 @@ fn numbers_of(alloc: Global, turns: &[(u64, u64)]) -> Result<Vec<u64>, AllocErro
     Ok(numbers)
 }
 
-/// Returns the event with its refusal.
+/// Adds the event to a refusal.
 fn handed_back(answer: Result<Done, EventRefusal>, event: Event) -> Result<Done, RefusedEvent>
     ensures { result ≡ with_event answer event }
 {

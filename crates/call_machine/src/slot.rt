@@ -16,16 +16,16 @@ use std::alloc::{AllocError, Global};
 use std::mem::replace;
 use version_book::Mark;
 
-/// Where a call stands.
+/// The state of a call.
 #[derive(Drop)]
 pub(crate) enum SlotState {
-    /// Its work, which owns a copy of its batch. A call has its answer as soon as its work is settled.
+    /// Its work has a copy of its batch. A call gets its answer as soon as its work is settled.
     Open(Work),
-    /// Its work is settled, or its commit is decided. No version is kept alive for it.
+    /// Its work was settled, or its commit was decided. It keeps no version alive.
     Over(CallAnswer),
 }
 
-/// A call: its batch, where it stands, and the accepted numbers of its invoke, of its begin or commit, and of its reply.
+/// A call: its batch, its state, and the accepted numbers of its invoke, of its begin or commit, and of its reply.
 #[derive(Drop)]
 pub(crate) struct Slot {
     batch: Batch,
@@ -45,7 +45,7 @@ impl Slot {
     ghost use Rattle.call_machine.specs.Known.{TellsCall, decided_of};
     ghost use Rattle.call_machine.specs.Kept.{AnsweredWhenSettled, IsWhole, SlotBegins, SlotDecides, SlotRefuses, SlotRests, SlotSteps, call_kept, domain_of, is_listed_slot, is_ready_slot, is_running_slot, is_waiting_slot, may_reply, new_slot, stage_of_slot};
 
-    /// Returns a call that was invoked under this accepted number, with a copy of its batch for its work. Allocates nothing.
+    /// Makes the call that is invoked under this accepted number, with a copy of its batch for its work. Takes no memory.
     pub(crate) fn new(alloc: Global, batch: Batch, copy: Batch, invoked: u64) -> Slot
         requires copy { copy ≡ batch }
         ensures { result ≡ new_slot batch invoked }
@@ -59,7 +59,7 @@ impl Slot {
         }
     }
 
-    /// Returns the accepted number of its begin, or of its commit once it had one.
+    /// Returns the accepted number of its begin, or of its commit once that was decided.
     pub(crate) fn turn(&self) -> u64
         ensures { result ≡ self.now.turn }
     {
@@ -76,7 +76,7 @@ impl Slot {
         }
     }
 
-    /// Returns true if it is committed, or if it has replied and the reply is no conflict.
+    /// Returns true if it is committed, or has replied with something other than a conflict.
     pub(crate) fn is_listed(&self) -> bool
         ensures { result ≡ is_listed_slot self.now }
     {
@@ -115,7 +115,7 @@ impl Slot {
         }
     }
 
-    /// Returns its answer, once it has one.
+    /// Returns its answer, if it has one.
     fn answer(&self) -> Option<&CallAnswer>
         requires answered { AnsweredWhenSettled self.now.state }
         ensures { option_copied result ≡ answer_of (stage_of_slot self.now) }
@@ -170,7 +170,7 @@ impl Slot {
         Ok((mark, self.status()))
     }
 
-    /// Commits its changes on the head, under the call's number. The accepted number is that of its commit.
+    /// Commits its changes on the head, under the call's number; `turn` is the accepted number of its commit.
     pub(crate) fn commit(
         &mut self,
         head: &mut Head,
@@ -230,7 +230,7 @@ fn is_settled(state: &SlotState) -> bool
     }
 }
 
-/// Returns the state of a call whose work is settled. Drops the work, except for its reply.
+/// Returns the state of a call after its work was settled. Drops the work, except for its reply.
 fn over(work: Work) -> SlotState
     requires settled { status_of work ≡ Status.Settled }
     ensures stage { stage_kept result ≡ stage_kept (slot.Open work) }
@@ -242,7 +242,7 @@ fn over(work: Work) -> SlotState
     SlotState::Over(CallAnswer::Replied(reply))
 }
 
-/// Ends a call whose work is settled.
+/// Replaces a settled work by its reply, which drops its versions.
 fn let_go(state: &mut SlotState)
     ensures stage { stage_kept state.new ≡ stage_kept state.old }
     ensures answered { AnsweredWhenSettled state.new }
@@ -251,7 +251,7 @@ fn let_go(state: &mut SlotState)
     if !is_settled(state) {
         return;
     }
-    // a placeholder, until the reply is there
+    // a placeholder until the reply is there
     let place = SlotState::Over(CallAnswer::Conflict(0));
     let SlotState::Open(work) = replace(state, place) else {
         unreachable!()
@@ -259,7 +259,7 @@ fn let_go(state: &mut SlotState)
     drop(replace(state, over(work)));
 }
 
-/// Returns true if the call committed the batch of this reply.
+/// Returns true if the batch of this reply was committed by its call.
 fn is_commit(reply: &Reply) -> bool
     ensures { result ≡ is_committed reply.now.outcome }
 {
@@ -269,8 +269,8 @@ fn is_commit(reply: &Reply) -> bool
     }
 }
 
-/// Finishes a prepared commit. Returns the call's answer and the number of the new book. None is a failed allocation, and then no
-/// book has changed.
+/// Finishes a prepared commit. Returns the call's answer and the new book's number. `None` is a failed allocation, and no
+/// book has changed then.
 fn finish(head: &mut Head, prepared: Prepared) -> Option<(CallAnswer, u64)>
     requires fits { Fits head.old prepared }
     ensures none { result ≡ None → head.new ≡ head.old }
@@ -285,8 +285,9 @@ fn finish(head: &mut Head, prepared: Prepared) -> Option<(CallAnswer, u64)>
     Some((answer, head.finish(prepared)))
 }
 
-/// Decides the commit of a work that is ready, under the call's number. Returns the call's answer, the decision, and the number of
-/// the newest book afterwards. None is a failed allocation, and then no book has changed.
+/// Decides the commit of a ready work, under the call's number. Returns the call's answer, the decision, and the number of
+/// the new book, or of the newest one if nothing was committed. `None` is a failed allocation, and no book has changed
+/// then.
 fn decide(head: &mut Head, number: u64, work: &Work) -> Option<(CallAnswer, Decision, u64)>
     requires whole { IsWhole head.old }
     requires rests { RestsOn (domain_of head.old) head.old.kept work.now }
