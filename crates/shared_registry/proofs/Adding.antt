@@ -1,4 +1,4 @@
--- The exchange that adds an item keeps the rule.
+-- The exchange that adds an item preserves the invariant.
 use Rattle.std.proofs.Common.{◌≡◌, ℕ, ◌+◌, ◌<◌, ◌==◌, Bool, true, false, List, [], ◌∷◌, ◌++◌, length, refl, ap, sym, subst, arith, inl, length-append, None}
 use Rattle.std.proofs.lemmas.List.{append-nil}
 use Rattle.std.proofs.lemmas.Bool.Decides.{nat_tests}
@@ -42,7 +42,7 @@ adds_goes log v e old len pre false is =
       rw is (ap length all),
     )
 
--- whatever the history is, the exchange adds the item to all that was seen, or finds that the history is longer
+-- in each history the exchange adds the item to all that was seen, or finds that the history has another length
 pub adds_moves : (v : List Item) (e : Item) (old : ℕ) → length v ≡ old
     → Moves IsKept shown moved 0 (v, (no_nib, None)) (λ n. either (n == old) (old + 1) n) (Adds (step 0 old (old + 1) e) (v, (no_nib, None)))
 adds_moves v e old len cs log kept pre away =

@@ -1,4 +1,4 @@
--- What a query is answered on what is published.
+-- The answer to a query on the published state.
 use Rattle.std.proofs.Common.{◌≡◌, ℕ, Bool, true, false, List, length, Option, None, Some, Ok, Err, refl, sym, ap, subst, ◌∙◌, cond}
 use Rattle.std.specs.Prelude.{is_some, nat_lt}
 use Rattle.entry_book.specs.declared.reply.Refusal.TheVariants.{NotYet}
@@ -18,7 +18,7 @@ use Rattle.commit_head.proofs.OnBooks.{led_to}
 
 -- ---- the reply to a query
 
--- what is answered on the window that is published is what the plain book answers on the journal's books
+-- the answer on the published window is that of the plain book on the journal's books
 pub answer_is : (batch : Batch) (page : Shown) (reply : Reply) → IsJournal page.journal (whole_head page.window page.journal) → reply ≡ reply_there batch (base_in batch page.window) → reply ≡ reply_to batch (books_of (batches_of page.journal))
 answer_is batch page reply k e = e ∙ (window_stands batch page.window (books_of (batches_of page.journal)) k.shown).reply
 

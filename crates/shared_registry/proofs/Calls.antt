@@ -1,4 +1,4 @@
--- The calls of a seat in a journal and in a beginning of it.
+-- The calls of a seat in a journal and in a prefix of it.
 use Rattle.std.proofs.Common.{◌≡◌, ℕ, ◌≤◌, ◌+◌, ◌==◌, Bool, true, false, cond, List, [], ◌∷◌, ◌++◌, length, refl, sym, ap, subst, ◌∙◌, arith, length-append}
 use Rattle.std.proofs.lemmas.List.{append-nil}
 use Rattle.std.proofs.lemmas.Bool.Decides.{nat_tests}
@@ -18,7 +18,7 @@ none_left : (xs : List ℕ) → length xs ≡ 0 → xs ≡ []
 none_left [] e = refl
 none_left (x ∷ xs) e = absurd (omega arith)
 
--- as many calls in the whole as in the beginning: no others
+-- a journal with as many calls as its prefix has no others
 pub calls_same : (s : ℕ) (xs ys : List Item) → IsPrefix xs ys → length (calls_of s xs) ≡ length (calls_of s ys) → calls_of s ys ≡ calls_of s xs
 calls_same s xs ys p e =
     let m = calls_more s xs p.0 in
@@ -33,7 +33,7 @@ below_more c d (x ∷ xs) le b = (omega arith, below_more c d xs le b.1)
 calls_here : (s : ℕ) (e : Item) → e.seat ≡ s → calls_of s (e ∷ []) ≡ e.call ∷ []
 calls_here s e is = let t : (e.seat == s) ≡ true = grind (arith, nat_tests) in ap (λ b. cond b (e.call ∷ []) []) t
 
--- one call more
+-- one more call
 pub calls_snoc : (s : ℕ) (log : List Item) (e : Item) → e.seat ≡ s → calls_of s (log ++ e ∷ []) ≡ calls_of s log ++ e.call ∷ []
 calls_snoc s log e is = calls_more s log (e ∷ []) ∙ ap (λ w. calls_of s log ++ w) (calls_here s e is)
 

@@ -1,4 +1,4 @@
--- What a commit under the lock is to the journal and to its seat.
+-- What a commit under the lock means for the journal and for its seat.
 use Rattle.std.proofs.Common.{◌≡◌, ◌⊎◌, ℕ, ◌<◌, ◌≤◌, ◌^◌, List, [], ◌∷◌, ◌++◌, length, length-append, refl, sym, ap, subst, ◌∙◌, ⊎_elim, arith}
 use mathlib.Core.List.{IsPrefix}
 use Rattle.entry_book.specs.Rows.{Bytes}
@@ -39,7 +39,7 @@ tied_stays domain log old new t s = record {
   few = let same = ap length s.kept in let few = t.few in omega arith;
 }
 
--- ---- how long a journal is
+-- ---- the length of a journal
 
 pub place_is : (domain : Bytes) (log : List Item) (h : Head) → IsTied domain log h → place_at h ≡ length log
 place_is domain log h t = let n = leads_count log (first_state h.window.newest.domain) (newest_of h) t.journal_is.leads in omega arith
@@ -61,7 +61,7 @@ tied_more domain log item old new t j a few = record {
   few = let one = ap length a.kept in let more = length-append old.kept (item ∷ []) in omega arith;
 }
 
--- what is published has the head's newest version
+-- the published window has the head's newest version
 pub same_newest : (domain : Bytes) (log : List Item) (h : Head) (window : Window) → IsTied domain log h → IsJournal log (whole_head window log) → window.newest.domain ≡ domain → newest_of h ≡ window.newest
 same_newest domain log h window t j e =
     leads_to_one log (first_state domain) (newest_of h) window.newest
@@ -83,7 +83,7 @@ shows_more domain log p window next counts j g e l c = record {
 stays_itself : (h : Head) → Stays h h
 stays_itself h = record { window = refl; kept = refl; room = omega arith }
 
--- a work that isn't committed, by a seat that has then seen the whole journal
+-- a work that isn't committed, of a seat that has then seen the whole journal
 pub refused_there : (domain : Bytes) (log : List Item) (s t : Seated) (w : Work) (h : Head) (commit : Commit) → IsRead domain s.seen w.batch w → status_of w ≡ Ready → IsPrefix s.seen log → IsTied domain log h → HasLooked log log s t → IsRefused h w commit → IsCommitThere log log s t w commit
 refused_there domain log s t w h (Committed n) r ready p tied looked f = absurd f
 refused_there domain log s t w h (Conflict n) r ready p tied looked f =

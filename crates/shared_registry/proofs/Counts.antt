@@ -1,4 +1,4 @@
--- How many calls of each seat a journal has.
+-- The numbers of the seats' calls in a journal.
 use Rattle.std.proofs.Common.{◌≡◌, ◌≢◌, ℕ, zero, suc, ◌+◌, ◌<◌, ◌==◌, false, cond, List, [], ◌∷◌, ◌++◌, length, get_or, refl, ap, sym, subst, ◌∙◌, arith, length-append, length-set}
 use Rattle.std.specs.Prelude.{slice_index, slice_set}
 use Rattle.std.proofs.lemmas.List.{get_or-set_same, get_or-set_other}
@@ -38,6 +38,6 @@ none_counted counts log z wide e = record {
   each = λ s less. ap (λ l. slice_index l s) z ∙ zero_at 32 s ∙ ap (λ l. length (calls_of s l)) (sym e);
 }
 
--- one item more of this seat
+-- one more item of this seat
 pub counted_here : (counts : List ℕ) (log : List Item) (e : Item) (s : ℕ) → IsCounted counts log → e.seat ≡ s → s < 32 → IsCounted (slice_set counts s (slice_index counts s + 1)) (log ++ e ∷ [])
 counted_here counts log e s c is less = subst (λ k. IsCounted (slice_set counts k (slice_index counts k + 1)) (log ++ e ∷ [])) is (counted_more counts log e c (subst (λ k. k < 32) (sym is) less))

@@ -1,4 +1,4 @@
--- What is published at the beginning.
+-- The first published value.
 use Rattle.std.proofs.Common.{◌≡◌, ℕ, List, [], length, refl, sym, subst}
 use Rattle.batch_work.specs.Windows.{Window}
 use Rattle.commit_head.specs.Heads.{Head, IsJournal}

@@ -1,4 +1,4 @@
--- What a work that began inside a journal is to the head whose journal it is, and what a conflict is in the words of the plain book.
+-- What a work that began inside a journal is to the head of that journal, and what a conflict means in terms of the plain book.
 use Rattle.std.proofs.Common.{◌≡◌, ℕ, List, ◌++◌, length, take, Some, sym, ap, subst, ◌∙◌, arith}
 use Rattle.std.proofs.lemmas.List.{take-append-le, take_all}
 use mathlib.Core.List.{IsPrefix}
@@ -29,7 +29,7 @@ base_is domain seen batch w r = r.at_end.begun.base_is
 leads_there : (domain own : Bytes) (seen : List Item) (batch : Batch) (w : Work) (r : IsRead domain seen batch w) → own ≡ domain → Leads (first_state own) seen (base_in batch r.page.window).newest
 leads_there domain own seen batch w r e = subst (λ d. Leads (first_state d) seen r.page.window.newest) (r.domain_is ∙ sym e) r.stands.leads
 
--- it began inside the journal of a head that begins with what it has seen
+-- it began inside the journal of a head whose journal extends what it has seen
 inside : (domain : Bytes) (seen log : List Item) (batch : Batch) (w : Work) (h : Head) (r : IsRead domain seen batch w) (p : IsPrefix seen log) → IsTied domain log h → IsInside (base_in batch r.page.window) p.0 h
 inside domain seen log batch w h r p t =
     began_inside seen p.0 (base_in batch r.page.window) h (subst (λ l. IsJournal l h) (sym p.1) t.journal_is) (leads_there domain h.window.newest.domain seen batch w r t.domain_is)
@@ -37,7 +37,7 @@ inside domain seen log batch w h r p t =
 pub began : (domain : Bytes) (seen log : List Item) (batch : Batch) (w : Work) (h : Head) → IsRead domain seen batch w → IsPrefix seen log → IsTied domain log h → BeganOn w.base h
 began domain seen log batch w h r p t = subst (λ o. BeganOn o h) (sym (base_is domain seen batch w r)) (inside domain seen log batch w h r p t).began
 
--- it is ready on the journal of a head that begins with what it has seen
+-- it is ready on the journal of a head whose journal extends what it has seen
 pub ready_on : (domain : Bytes) (seen log : List Item) (w : Work) (h : Head) (r : IsRead domain seen w.batch w) → status_of w ≡ Ready → IsPrefix seen log → IsTied domain log h → IsReadyOn h.window.newest.domain log w (base_in w.batch r.page.window)
 ready_on domain seen log w h r s p t =
     let own = h.window.newest.domain in
@@ -52,7 +52,7 @@ ready_on domain seen log w h r s p t =
       leads = subst (λ l. Leads (first_state own) l newest) (sym front) leads;
     }
 
--- a conflict on the whole journal, in the words of the books that the seat had seen
+-- a conflict on the whole journal, in terms of the books that the seat had seen
 pub overtaken_there : (domain : Bytes) (seen log : List Item) (w : Work) (n : ℕ) (r : IsRead domain seen w.batch w) → IsPrefix seen log → n ≡ length log → IsHitSince (batches_of log) r.page.window.newest.number (footprint_there w.batch (base_in w.batch r.page.window)) → IsOvertaken (batches_of log) w.batch (length seen) n
 overtaken_there domain seen log w n r p e hit =
     let books = books_of (batches_of seen) in

@@ -1,10 +1,10 @@
--- What a result is known to be.
+-- Properties of results.
 use Rattle.std.proofs.Common.{◌≡◌, Result, Ok, Err, IfOk, subst}
 
 pub ok_of : {X E : Type 0} (P : X → Type 0) (r : Result X E) (x : X) → r ≡ Ok x → IfOk r P → P x
 ok_of P r x e h = subst (λ r. IfOk r P) e h
 
--- what holds in any case holds where there is a result
+-- what holds in any case holds for each result
 pub ok_any : {X E : Type 0} (Q : Type 0) (r : Result X E) → Q → IfOk r (λ _. Q)
 ok_any Q (Ok x) q = q
 ok_any Q (Err e) q = tt

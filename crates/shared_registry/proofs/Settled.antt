@@ -1,4 +1,4 @@
--- What a batch of changes is answered that awaits no commit, in the words of the journal.
+-- The outcome of a batch of changes with nothing to commit, in terms of the journal.
 use Rattle.std.proofs.Common.{◌≡◌, ℕ, ◌+◌, Bool, true, false, cond, List, [], ◌∷◌, ◌++◌, length, Option, Some, None, Ok, Err, refl, sym, ap, subst, ◌∙◌, arith}
 use Rattle.std.specs.Prelude.{nat_lt, slice_get, IsSome}
 use Rattle.entry_book.specs.declared.kept.KeptBatch.{KeptBatch}
@@ -34,7 +34,7 @@ use Rattle.shared_registry.specs.Seated.{Seated}
 use Rattle.shared_registry.specs.Works.{IsRead}
 use Rattle.commit_head.proofs.OnBooks.{count_of_batches, led_to}
 
--- ---- a work that awaits no commit is settled
+-- ---- a work with nothing to commit is settled
 
 settled_or : (running awaits : Bool) → (cond running Running (end_status awaits) ≡ Running → ⊥) → (cond running Running (end_status awaits) ≡ Ready → ⊥) → (awaits ≡ false) × (cond running Running (end_status awaits) ≡ Settled)
 settled_or true awaits over unready = absurd (over refl)
@@ -66,7 +66,7 @@ uncommitted domain seen batch w r unready =
     let waits : awaits_commit batch books ≡ false = sym (window_stands batch r.page.window books r.stands.shown).wait ∙ (at_end domain seen batch w r unready).0 in
     (others_dont_commit batch books waits).0
 
--- ---- a batch of changes is never answered as a query is
+-- ---- a batch of changes never gets the reply of a query
 
 within_not : (place : ℕ) (replies : List OpReply) (c : Book) (o : Option Limit) (rs : List OpReply) → (reply_with place (adds_within o replies c)).outcome ≡ Answered rs → ⊥
 within_not place replies c (Some limit) rs e = cc
@@ -111,7 +111,7 @@ refused_is domain t batch w reply r unready q a n =
 
 -- ---- a repeat is of an item that was seen
 
--- what is kept under the batch's token
+-- the batch stored under the token has the same operations, this place and these replies
 record IsKept (batch : Batch) (b : Book) (n : ℕ) (replies : List OpReply) : Type 0 where
   kept : KeptBatch
   there : kept_under batch.token b ≡ Some kept
@@ -146,7 +146,7 @@ kept_time : (early : Bool) (batch : Batch) (place : ℕ) (b : Book) (n : ℕ) (r
 kept_time true batch place b n rs e = absurd (not_repeated NotYet rs (ap (λ (x : Reply). x.outcome) e))
 kept_time false batch place b n rs e = kept_over (kept_under batch.token b) batch place b n rs refl e
 
--- a row that is kept under a token has it
+-- a row that is stored under a token has it
 kept_row : (token : Option Bytes) (b : Book) (k : KeptBatch) → kept_under token b ≡ Some k → Within b.tokens k × (token ≡ Some k.token)
 kept_row None b k e = cc
 kept_row (Some t) b k e = let row = at_row token_key t b.tokens k e in (row.0, ap Some (sym row.1))
@@ -186,7 +186,7 @@ committed_at : (n : ℕ) (first : List Item) (item : Item) (later : List Item) �
 committed_at n [] item later = let e : n + 0 + 1 ≡ n + 1 = omega arith in ap (λ m. Some (record { place = m; outcome = Committed item.replies })) (sym e)
 committed_at n (i ∷ first) item later = let e : n + 1 + length first + 1 ≡ n + length (i ∷ first) + 1 = omega arith in committed_at (n + 1) first item later ∙ ap (λ m. Some (record { place = m; outcome = Committed item.replies })) e
 
--- an item of a lawful journal was replied its replies
+-- the plain book's reply to an item of a lawful journal has the item's replies
 replied : (domain : Bytes) (items first later : List Item) (item : Item) → IsLawfulJournal domain items → items ≡ first ++ item ∷ later → reply_to item.batch (books_of (batches_of first)) ≡ record { place = length first + 1; outcome = Committed item.replies }
 replied domain items first later item l e =
     let all : replies_from first_books (batches_of (first ++ item ∷ later)) ≡ committed_after 0 (first ++ item ∷ later) = subst (λ x. replies_from first_books (batches_of x) ≡ committed_after 0 x) e l.replies in

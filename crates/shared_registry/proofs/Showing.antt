@@ -1,4 +1,4 @@
--- What a published value shows.
+-- Properties of a published value.
 use Rattle.std.proofs.Common.{◌≡◌, ℕ, ◌+◌, ◌*◌, ◌<◌, ◌≤◌, ◌^◌, true, false, List, [], ◌∷◌, length, Option, Some, None, refl, sym, ap, subst, ◌∙◌, arith}
 use Rattle.std.specs.Prelude.{slice_get, slice_index, nat_lt, cond, IfSome}
 use Rattle.entry_book.specs.Rows.{Bytes}
@@ -21,11 +21,11 @@ use Rattle.commit_head.proofs.Journals.{journal_is_lawful, leads_count, leads_fo
 use Rattle.shared_registry.specs.Shown.{Shows, whole_head}
 use Rattle.shared_registry.proofs.Calls.{calls_length}
 
--- its journal is a lawful one
+-- its journal is lawful
 pub lawful_shown : (domain : Bytes) (items : List Item) (w : Window) (counts : List ℕ) → w.newest.domain ≡ domain → Shows items w counts → IsLawfulJournal domain items
 lawful_shown domain items w counts e s = subst (λ d. IsLawfulJournal d items) e (journal_is_lawful w.newest.domain items w.newest s.journal.leads s.once)
 
--- ---- its books are a history's, so that no batch makes many reads on them
+-- ---- its books are those of a history, so no batch makes many reads on them
 
 pub history_led : (own : Bytes) (items : List Item) (s : State) → Leads (first_state own) items s → IsHistory own (books_of (batches_of items))
 history_led own items s l =
@@ -68,7 +68,7 @@ reads_few batch items w e made k =
     let few = reads_are_few_anywhere own batch (place_of books) (book_for (past_place batch.ops) books) (subst (λ d. IsMadeFor d batch) e made) (bounded_for own books h (past_place batch.ops)) in
     subst (λ l. length l ≤ 2 ^ 21) (sym (window_stands batch w books k.shown).reads) few
 
--- ---- how long a journal is
+-- ---- the length of a journal
 
 pub journal_length : (items : List Item) (w : Window) → IsJournal items (whole_head w items) → length items ≡ w.newest.number
 journal_length items w k = let n = leads_count items (first_state w.newest.domain) w.newest k.leads in omega arith
@@ -76,6 +76,6 @@ journal_length items w k = let n = leads_count items (first_state w.newest.domai
 pub journal_low : (items : List Item) (w : Window) → IsJournal items (whole_head w items) → length items ≤ 2 ^ 48
 journal_low items w k = let n = journal_length items w k in let l = low items (whole_head w items) k in omega arith
 
--- a count is no larger
+-- no count is larger
 pub count_low : (items : List Item) (w : Window) (counts : List ℕ) (s : ℕ) → Shows items w counts → s < 32 → slice_index counts s ≤ 2 ^ 48
 count_low items w counts s h less = let c = h.counted.each s less in let n = calls_length s items in let l = journal_low items w h.journal in omega arith

@@ -1,4 +1,4 @@
--- Steps that keep the rule of the published value.
+-- Steps that preserve the invariant of the published value.
 use Rattle.std.proofs.Common.{◌≡◌, ℕ, ◌≢◌, List, [], refl, subst, ⊎_elim}
 use mathlib.Core.Option.{some}
 use mathlib.Core.List.{IsPrefix}
@@ -15,7 +15,7 @@ use Rattle.shared_registry.proofs.Prefixes.{prefix_self, prefix_trans}
 pub admits : (history : Book) (domain : Bytes) → Admits (Keeps history domain) []
 admits history domain x views h = (h.0, λ k v at. ⊎_elim (h.1 k v) (λ (e : [] ≡ v). subst (λ (u : List Item). IsPrefix u x.journal) e (x.journal, refl)) (at_snoc views [] v k at))
 
--- a step which only adds to the journal, after which this pass has seen it all
+-- a step that only adds to the journal, after which this pass has seen all of it
 pub sees : (history : Book) (domain : Bytes) (seat : ℕ) (v : List Item) (x y : Shown) → (IsOf history domain x → IsOf history domain y) → IsPrefix x.journal y.journal → TurnsAt (Keeps history domain) seat v x y (λ v x y w. Saw history domain v y w)
 sees history domain seat v x y same more views h at =
     let w : List Item = y.journal in (

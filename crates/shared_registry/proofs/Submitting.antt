@@ -1,4 +1,4 @@
--- What a try comes to that had its commit looked at under the lock.
+-- The outcome of a try whose commit was decided under the lock.
 use Rattle.std.proofs.Common.{◌≡◌, ℕ, List, [], ◌∷◌, ◌++◌, length, sym, ap, subst, ◌∙◌, arith}
 use mathlib.Core.List.{IsPrefix}
 use Rattle.entry_book.specs.declared.limit.Limit.{Limit}
@@ -19,7 +19,7 @@ use Rattle.shared_registry.specs.Seated.{Along, Goes, MaySee, Seated}
 use Rattle.shared_registry.specs.Seats.{calls_of}
 use Rattle.shared_registry.proofs.Prefixes.{prefix_length, prefix_self, prefix_trans}
 
--- ---- what the commit came to
+-- ---- the decision on the commit
 
 pub added : (log next : List Item) (s t : Seated) (w : Work) (replies : List OpReply) (n : ℕ) → HasAdded log next s t w n → Goes s t → HasReplies w replies → IsAdded s t w.batch (record { place = n; outcome = became.Committed replies })
 added log next s t w replies n a goes h =
@@ -37,7 +37,7 @@ added log next s t w replies n a goes h =
       found = a.found ∙ sym a.seen;
     }
 
--- what the seat has found, it may see
+-- a seat may see what it has found by its commit
 pub may_see_added : (domain : Bytes) (s t : Seated) (batch : Batch) (reply : Reply) → Along domain s t → IsPrefix s.told t.seen → IsAdded s t batch reply → MaySee domain t
 may_see_added domain s t batch reply along heard a =
     let told : IsPrefix t.told t.seen = subst (λ (l : List Item). IsPrefix l t.seen) (sym along.told) heard in record {
@@ -58,7 +58,7 @@ overtaken log next s t batch n l e o goes heard = record {
   own = l.own;
 }
 
--- a limit refuses it
+-- a limit refuses the commit
 pub full_refused : (log next : List Item) (s t : Seated) (batch : Batch) (limit : Limit) (n : ℕ) → HasLooked log next s t → n ≡ length log → reply_to batch (books_of (batches_of log)) ≡ record { place = n; outcome = became.Refused (Full limit) } → IsSubmitted s t batch 0 (Refused (record { place = n; outcome = became.Refused (Full limit) }))
 full_refused log next s t batch limit n l e r = (
   record {

@@ -1,4 +1,4 @@
--- What the tries of a batch of changes come to.
+-- The outcome of the tries of a batch of changes.
 use Rattle.std.proofs.Common.{◌≡◌, ℕ, zero, suc, ◌+◌, ◌≤◌, List, [], ◌∷◌, ◌++◌, length, length-append, take, refl, sym, ap, subst, ◌∙◌, arith}
 use Rattle.std.proofs.lemmas.List.{append_assoc, length-take, take-append-le}
 use mathlib.Core.List.{IsPrefix}
@@ -16,9 +16,9 @@ use Rattle.shared_registry.specs.Seated.{Goes, Seated}
 use Rattle.commit_head.proofs.OnBooks.{batches_join}
 use Rattle.shared_registry.proofs.Prefixes.{prefix_length, prefix_trans}
 
--- ---- a journal goes on
+-- ---- a journal grows
 
--- a beginning of it is one of the longer journal's
+-- a prefix of it is a prefix of the longer journal
 front_on : (place end : ℕ) (journal more : List Batch) → place ≤ end → (rest : List Batch) × (take end (journal ++ more) ≡ take place journal ++ rest)
 front_on zero end journal more le = (take end (journal ++ more), refl)
 front_on (suc place) zero journal more le = absurd (omega arith)
@@ -55,7 +55,7 @@ are_on : (journal more : List Batch) (batch : Batch) (least place end : ℕ) (ba
 are_on journal more batch least place end [] le o = tt
 are_on journal more batch least place end (base ∷ bases) le o = (o.0, overtaken_on journal more batch base place end le o.1, are_on journal more batch least base base bases (omega arith) o.2)
 
--- ---- a seat goes on
+-- ---- what a seat has seen grows
 
 pub goes_on : (s t u : Seated) → Goes s t → Goes t u → Goes s u
 goes_on s t u a b = record {
@@ -69,7 +69,7 @@ goes_on s t u a b = record {
 pub goes_turned : (s t u : Seated) (found : List Item) → Goes s t → u ≡ record t { found = found } → Goes s u
 goes_turned s t u found g is = subst (Goes s) (sym is) (record { number = g.number; calls = g.calls; told = g.told; seen = g.seen })
 
--- ---- one try more
+-- ---- one more try
 
 pub none_yet : (s : Seated) (batch : Batch) (place : ℕ) → WasOvertaken s s batch 0 place
 none_yet s batch place = record { bases = []; count = refl; since_seen = tt; since_told = tt }

@@ -1,4 +1,4 @@
--- What lies under the lock.
+-- The state under the lock.
 use Rattle.std.specs.Prelude.{◌≡◌, ◌≤◌, List, length}
 use Rattle.logbook.specs.Pages.{Book as WordBook}
 use Rattle.entry_book.specs.Rows.{Bytes}
@@ -6,13 +6,13 @@ use Rattle.commit_head.specs.declared.item.Item.{Item}
 use Rattle.commit_head.specs.Heads.{Head, IsJournal}
 use Rattle.shared_registry.specs.Shown.{Shown, IsOf}
 
--- The head's journal is this list, of which it keeps 4,096 items at most, and it is of the trust domain.
+-- The head's journal is this list, of which it stores at most 4,096 items. Its book is of the trust domain.
 pub record IsTied (domain : Bytes) (journal : List Item) (h : Head) : Type 0 where
   pub journal_is : IsJournal journal h
   pub domain_is : h.window.newest.domain ≡ domain
   pub few : length h.kept ≤ 4096
 
--- The journal is published, of this history and trust domain.
+-- This journal is published, with this history and trust domain.
 pub record IsPublished (history : WordBook) (domain : Bytes) (journal : List Item) (shown : Shown) : Type 0 where
   pub of_it : IsOf history domain shown
   pub journal_is : shown.journal ≡ journal

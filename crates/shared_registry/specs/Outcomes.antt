@@ -1,4 +1,4 @@
--- What a batch of changes is answered, in the words of its seat's lists and of the plain book.
+-- The outcome of a batch of changes, in terms of its seat's lists and of the plain book.
 use Rattle.std.specs.Prelude.{◌≡◌, ⊤, ℕ, ◌+◌, ◌≤◌, List, [], ◌∷◌, ◌++◌, length, take, IsSome, Result, Ok, Err}
 use mathlib.Core.List.{IsPrefix}
 use Rattle.entry_book.specs.declared.reply.Outcome.TheVariants as became
@@ -20,27 +20,30 @@ use Rattle.shared_registry.specs.declared.outcome.Outcome.TheVariants.{Committed
 use Rattle.shared_registry.specs.declared.seat.NoEntry.{NoEntry as WasNotLetIn}
 use Rattle.shared_registry.specs.Seated.{Along, MaySee, Seated}
 
--- ---- tries that were overtaken
+-- ---- tries with a conflict
 
--- Of these committed batches, one among the first `place` was committed after book `base`, with a write that hits a mark of the footprint that `batch` has on book `base`.
+-- Among the first `place` of these committed batches, one was committed after book `base`. It has a write that hits a mark of the
+-- footprint of `batch` on book `base`.
 abbrev pub IsOvertaken : List Batch → Batch → ℕ → ℕ → Type 0
 IsOvertaken journal batch base place = IsHitSince (take place journal) base (footprint_of batch (books_of (take base journal)))
 
--- The tries began at these places, the last one first, none before the least one; each was overtaken no later than the next one began, and the last one no later than this place.
+-- The tries began at these places, the last one first, and none before `least`. Each met a conflict with a batch committed no later than
+-- the begin of the next try. For the last try, the batch was committed no later than `place`.
 abbrev pub AreOvertaken : List Batch → Batch → ℕ → ℕ → List ℕ → Type 0
 AreOvertaken journal batch least place [] = ⊤
 AreOvertaken journal batch least place (base ∷ bases) = (least ≤ base) × IsOvertaken journal batch base place × AreOvertaken journal batch least base bases
 
--- So many tries were overtaken, none of which began before what the seat had seen and was told of.
+-- This number of tries met a conflict, and none began before what the seat had seen and learnt of.
 pub record WasOvertaken (s t : Seated) (batch : Batch) (tries place : ℕ) : Type 0 where
   pub bases : List ℕ
   pub count : length bases ≡ tries
   pub since_seen : AreOvertaken (batches_of t.seen) batch (length s.seen) place bases
   pub since_told : AreOvertaken (batches_of t.seen) batch (length s.told) place bases
 
--- ---- the answers to a batch of changes
+-- ---- the outcomes of a batch of changes
 
--- The item of the call is the last one seen, and the reply is that it was committed, with its replies, at its number. The seat has one call more of its own. The page that the seat has, on which it answers queries until it finds another one, shows all that was seen.
+-- The item of the call is the last one seen. The reply is that it was committed, with the item's replies, at the item's number. The seat
+-- has one more call of its own. Its page, on which it answers queries until it finds another one, shows all that it has seen.
 pub record IsAdded (s t : Seated) (batch : Batch) (reply : Reply) : Type 0 where
   pub log : List Item
   pub item : Item
@@ -52,7 +55,8 @@ pub record IsAdded (s t : Seated) (batch : Batch) (reply : Reply) : Type 0 where
   pub own : t.own ≡ s.own ++ t.calls ∷ []
   pub found : t.found ≡ t.seen
 
--- The reply is that of the plain book on the books of what was seen. It repeats the replies of an item that was seen, at the number of this one, which has the batch's token and its operations.
+-- The reply is that of the plain book on the books of what was seen. It repeats the replies of an item that was seen, at that item's
+-- number; the item has the batch's token, which there is, and its operations.
 pub record WasCommitted (t : Seated) (batch : Batch) (reply : Reply) : Type 0 where
   pub reply_is : reply ≡ reply_to batch (books_of (batches_of t.seen))
   pub before : List Item
@@ -70,7 +74,7 @@ pub record IsRefusedThere (t : Seated) (batch : Batch) (reply : Reply) : Type 0 
   pub why : Refusal
   pub refused : reply ≡ record { place = length t.seen; outcome = became.Refused why }
 
--- what a batch of changes is answered, with so many tries
+-- this is the outcome of a batch of changes, with this number of tries
 abbrev pub IsSubmitted : Seated → Seated → Batch → ℕ → Outcome → Type 0
 IsSubmitted s t batch tries (Committed reply) = IsAdded s t batch reply
 IsSubmitted s t batch tries (Repeated reply) = WasCommitted t batch reply × (t.own ≡ s.own)
@@ -79,7 +83,7 @@ IsSubmitted s t batch tries (Conflict n) = WasOvertaken s t batch tries n × (n 
 IsSubmitted s t batch tries NoMemory = t.own ≡ s.own
 IsSubmitted s t batch tries NoEntry = t.own ≡ s.own
 
--- where it is answered otherwise than for want of memory or of an entry, the seat has then seen all that it was told of
+-- unless the outcome is `NoMemory` or `NoEntry`, the seat has then seen all that it had learnt of
 abbrev pub HasHeard : Seated → Seated → Outcome → Type 0
 HasHeard s t (Committed reply) = IsPrefix s.told t.seen
 HasHeard s t (Repeated reply) = IsPrefix s.told t.seen
@@ -88,18 +92,19 @@ HasHeard s t (Conflict n) = IsPrefix s.told t.seen
 HasHeard s t NoMemory = ⊤
 HasHeard s t NoEntry = ⊤
 
--- ---- a law: what a seat has found by its commit, it may see without a look
+-- ---- the theorem: a seat may see what it has found by its commit, without a look
 
 abbrev pub CommitsMayBeSeen : Type 0
 CommitsMayBeSeen = (domain : Bytes) (s t : Seated) (batch : Batch) (reply : Reply) → Along domain s t → HasHeard s t (Committed reply) → IsAdded s t batch reply → MaySee domain t
 
 -- ---- one try; for this crate's own contracts
 
--- it isn't the answer that each try was overtaken
+-- the outcome is not a conflict
 abbrev pub IsOver : Outcome → Type 0
 IsOver o = (n : ℕ) → o ≡ Conflict n → ⊥
 
--- The try began at or behind what the seat had seen and was told of, and was overtaken.
+-- The try began at or after what the seat had seen and learnt of, and met a conflict. The seat has then seen all that it had learnt of,
+-- and has no more calls of its own.
 pub record IsOvertakenOnce (s t : Seated) (batch : Batch) (n : ℕ) : Type 0 where
   pub base : ℕ
   pub since_seen : length s.seen ≤ base
@@ -109,20 +114,20 @@ pub record IsOvertakenOnce (s t : Seated) (batch : Batch) (n : ℕ) : Type 0 whe
   pub heard : IsPrefix s.told t.seen
   pub own : t.own ≡ s.own
 
--- the batch has its answer, or it was overtaken and is to be tried again
+-- the batch has its outcome, or the try met a conflict and hands the batch back
 abbrev pub IsTry : Seated → Seated → Batch → Result Outcome (ℕ × Batch) → Type 0
 IsTry s t batch (Ok o) = IsOver o × HasHeard s t o × IsSubmitted s t batch 0 o
 IsTry s t batch (Err back) = (back.1 ≡ batch) × IsOvertakenOnce s t batch back.0
 
--- ---- what a commit comes to under the lock; for this crate's own contracts
+-- ---- the decision on a commit under the lock; for this crate's own contracts
 
--- Nothing is added, and all items so far were seen.
+-- Nothing is added; the seat has seen all items so far, and has no more calls of its own.
 pub record HasLooked (log next : List Item) (s t : Seated) : Type 0 where
   pub same : next ≡ log
   pub seen : t.seen ≡ log
   pub own : t.own ≡ s.own
 
--- The item is added.
+-- The call's item is added to the journal, and the seat has seen and found all of it.
 pub record HasAdded (log next : List Item) (s t : Seated) (w : Work) (n : ℕ) : Type 0 where
   pub item : Item
   pub whole : next ≡ log ++ item ∷ []

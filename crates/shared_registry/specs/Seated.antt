@@ -1,4 +1,4 @@
--- What contracts see of a seat.
+-- The model of a seat in contracts.
 use Rattle.std.specs.Prelude.{◌≡◌, ℕ, ◌+◌, List}
 use mathlib.Core.List.{IsPrefix}
 use Rattle.entry_book.specs.Rows.{Bytes}
@@ -6,7 +6,8 @@ use Rattle.commit_head.specs.declared.item.Item.{Item}
 use Rattle.commit_head.specs.Journals.{IsLawfulJournal}
 use Rattle.shared_registry.specs.Seats.{AllBelow, calls_of}
 
--- The seat's number, how many calls it has made, the journal that it has seen, the longest that it was told of, the numbers of its own committed calls, and the journal of the page that it has: what it found published when it last looked or was made, or what its own commit has made since then.
+-- A seat: its number and the number of its calls; the journal that it has seen, and the longest one that it has learnt of; the numbers of
+-- its own committed calls; and the journal of its page.
 pub record Seated : Type 0 where
   pub number : ℕ
   pub calls : ℕ
@@ -15,7 +16,8 @@ pub record Seated : Type 0 where
   pub own : List ℕ
   pub found : List Item
 
--- What stays or grows at a call that takes a call number: the number is above those of the seat's own calls so far; what is seen is a lawful journal that begins with what was seen, and its items under this seat are the seat's own calls.
+-- A call that takes a call number: the number is above those of the seat's own calls so far. What is seen is then a lawful journal that
+-- begins with what was seen before. Its items of this seat are the seat's own calls. `told` stays the same.
 pub record Along (domain : Bytes) (s t : Seated) : Type 0 where
   pub number : t.number ≡ s.number
   pub calls : t.calls ≡ s.calls + 1
@@ -25,24 +27,25 @@ pub record Along (domain : Bytes) (s t : Seated) : Type 0 where
   pub told : t.told ≡ s.told
   pub own : calls_of t.number t.seen ≡ t.own
 
--- and afterwards the seat has seen all that it was told of
+-- and the seat has then seen all that it had learnt of
 pub record Entered (domain : Bytes) (s t : Seated) : Type 0 where
   pub along : Along domain s t
   pub heard : IsPrefix s.told t.seen
 
--- nothing was seen
+-- and the seat has seen nothing more
 pub record Stays (domain : Bytes) (s t : Seated) : Type 0 where
   pub along : Along domain s t
   pub same : t.seen ≡ s.seen
 
--- What the seat found can be seen: it is a lawful journal, which begins with all that the seat has seen and was told of, and its items under this seat are the seat's own calls.
+-- The seat may see what it found: a lawful journal that begins with all that the seat has seen and learnt of. The items of this seat in
+-- it are the seat's own calls.
 pub record MaySee (domain : Bytes) (s : Seated) : Type 0 where
   pub lawful : IsLawfulJournal domain s.found
   pub seen : IsPrefix s.seen s.found
   pub told : IsPrefix s.told s.found
   pub own : calls_of s.number s.found ≡ s.own
 
--- What holds of a seat whatever it finds under the lock.
+-- Inside a call: the seat's number, its number of calls and `told` stay the same, and what it has seen grows.
 pub record Goes (s t : Seated) : Type 0 where
   pub number : t.number ≡ s.number
   pub calls : t.calls ≡ s.calls

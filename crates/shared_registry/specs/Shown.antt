@@ -1,4 +1,4 @@
--- What contracts see of the published value, and the rule over it.
+-- The model of the published value in contracts, and its invariants.
 use Rattle.std.specs.Prelude.{◌≡◌, ℕ, List}
 use mathlib.Core.Option.{some}
 use mathlib.Core.List.{IsPrefix}
@@ -11,17 +11,18 @@ use Rattle.commit_head.specs.Heads.{Head, IsJournal}
 use Rattle.commit_head.specs.Journals.{EachCallOnce}
 use Rattle.shared_registry.specs.Seats.{IsCounted}
 
--- A journal of a history, and the window that stands for its last books.
+-- A history, a journal of it, and a window.
 pub record Shown : Type 0 where
   pub history : WordBook
   pub journal : List Item
   pub window : Window
 
--- a head that has this window and keeps all its items
+-- a head that has this window and stores all these items
 abbrev pub whole_head : Window → List Item → Head
 whole_head window items = record { window = window; kept = items; room = 0 }
 
--- The window is that of a head whose whole journal these items are, no two of which have the same seat and call; the counts are those of the seats' calls.
+-- The window is that of a head whose whole journal is these items. No two items have the same seat and call. The counts are the numbers
+-- of the seats' calls.
 pub record Shows (items : List Item) (window : Window) (counts : List ℕ) : Type 0 where
   pub journal : IsJournal items (whole_head window items)
   pub once : EachCallOnce items
@@ -32,10 +33,11 @@ pub record IsOf (history : WordBook) (domain : Bytes) (shown : Shown) : Type 0 w
   pub history_is : shown.history ≡ history
   pub domain_is : shown.window.newest.domain ≡ domain
 
--- What is published is of this history and trust domain, and begins with what each pass of a reader or of the writer has seen. No invariant of a seat uses what its pass has seen: the lists of a seat are tokens of the history.
+-- The published value is of this history and trust domain. Its journal begins with what each pass of a reader or of the writer has seen.
+-- No invariant of a seat uses what its pass has seen: the lists of a seat are tokens of the history.
 abbrev pub Keeps : WordBook → Bytes → Shown → List (List Item) → Type 0
 Keeps history domain x views = IsOf history domain x × ((k : ℕ) (v : List Item) → get_elem? views k ≡ some v → IsPrefix v x.journal)
 
--- a step after which the pass has seen what is published
+-- after the step, the pass has seen the published journal, which begins with what it had seen and is of this history and trust domain
 abbrev pub Saw : WordBook → Bytes → List Item → Shown → List Item → Type 0
 Saw history domain v y w = IsOf history domain y × IsPrefix v y.journal × (w ≡ y.journal)

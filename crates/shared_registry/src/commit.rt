@@ -1,4 +1,4 @@
-//! What is done under the lock to a work that is ready?
+//! How is a ready work committed under the lock?
 
 ghost use Rattle.std.specs.Prelude.{◌≡◌, ◌⊎◌, ◌<◌, ◌+◌, ◌++◌, ◌∷◌, [], drop, length, IfOk};
 ghost use mathlib.Core.List.{IsPrefix};
@@ -23,10 +23,10 @@ use entry_book::Shared;
 use std::alloc::{AllocError, Global};
 use std::sync::Wait;
 
-// A commit that finds so many items kept makes a checkpoint first.
+// With this number of stored items, a commit makes a checkpoint first.
 const MOST_KEPT: u64 = 4096;
 
-/// Makes a checkpoint where many items are kept, so that there is room for one more.
+/// Makes a checkpoint if 4,096 items are stored, so that there is room for one more.
 fn tidy(head: &mut Head)
     ensures window { head.new.window ≡ head.old.window }
     ensures kept { (head.new ≡ head.old) ⊎ (head.new.kept ≡ last_items head.old.kept) }
@@ -37,7 +37,7 @@ fn tidy(head: &mut Head)
     }
 }
 
-/// Appends, as often as it takes until there is memory.
+/// Appends the value to the writer's log. Retries until there is memory.
 fn append<J: Naming, R: Wait>(
     rt: &R,
     mut writer: WindowWriter<J>,
@@ -55,7 +55,7 @@ fn append<J: Naming, R: Wait>(
     unreachable!()
 }
 
-/// Publishes this value, as often as it takes until there is memory.
+/// Publishes the value. Retries until there is memory.
 fn publish<J: Naming, R: Wait>(rt: &R, writer: WindowWriter<J>, next: Published) -> WindowWriter<J>
     requires clear { drop writer.behind writer.log.items ≡ [] }
     requires of_it { IsOf J.history J.domain next }
@@ -74,7 +74,7 @@ fn publish<J: Naming, R: Wait>(rt: &R, writer: WindowWriter<J>, next: Published)
     unreachable!()
 }
 
-/// Returns the board after a commit that is prepared: its version is in the window, and its seat has one call more. There are two
+/// Returns the board after a prepared commit: its version is in the window, and its seat has one more call. There are two
 /// references to it, one for the readers and one for the seat. The only error is a failed allocation.
 fn boards_with(
     alloc: Global,
@@ -96,7 +96,7 @@ fn boards_with(
     Ok((board, same))
 }
 
-/// Returns what is published after a commit, for the readers and for the seat.
+/// Returns the published values after a commit, one for the readers and one for the seat.
 fn pages<J: Naming>(
     front: &Front<J>,
     boards: (Shared<Board>, Shared<Board>),
@@ -112,9 +112,9 @@ fn pages<J: Naming>(
     (Published::of(front, board), Published::of(front, same))
 }
 
-/// Sees all items so far, and commits the work as the seat's call, or tells why not. The commit stands from the moment on in which
-/// its item is added to the history; from there on nothing is refused. After a commit the seat has the page that was published for
-/// it, and the page that it had before is returned, to be dropped without the lock.
+/// Lets the seat see all items so far, and commits the work as the seat's call, or returns why not. The commit takes effect
+/// when its item is added to the history; after that nothing is refused. After a commit the seat has the page that was
+/// published for it. The page that it had before is returned, to be dropped without the lock.
 pub(crate) fn decide<J: Naming, R: Wait>(
     rt: &R,
     alloc: Global,

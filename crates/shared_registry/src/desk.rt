@@ -1,4 +1,4 @@
-//! What lies under the lock?
+//! Which state does the registry's writer lock guard?
 
 ghost use Rattle.std.specs.Prelude.{◌≡◌, [], IfOk, MatchResult};
 ghost use mathlib.Core.List.{IsPrefix};
@@ -23,14 +23,15 @@ use std::marker::Model;
 use std::mem::replace;
 use std::sync::Wait;
 
-/// The writer of what is published.
+/// The writer of the published value.
 pub(crate) type WindowWriter<J> = Writer<Published, Published, View, Rule<J>>;
 
-/// There are 32 seats already, no reader was given, or no more owners of what is published can be counted.
+/// No seat is given: there are 32 already, no reader is available, or a reference count can't grow.
 #[derive(Clone, Copy, Debug, PartialEq, Eq, Drop)]
 pub struct NoSeat;
 
-/// The head, the writer, the boards that were published last, and the whole journal. Contracts see it as the journal.
+/// State guarded by the registry's writer lock: the head, the writer, the boards published last, the number of seats, and
+/// the whole journal. The model in contracts is the journal.
 pub(crate) struct Core<J: Naming> {
     alloc: Global,
     head: Head,
@@ -56,7 +57,7 @@ impl<J: Naming> Model for Core<J> {
 impl<J: Naming> Core<J> {
     ghost use Rattle.std.specs.Prelude.{◌≡◌, ◌≤◌, [], IfOk};
 
-    /// An empty book of the trust domain. The error is want of memory.
+    /// Makes the state of an empty book of the trust domain. The error is out of memory.
     pub(crate) fn new(
         alloc: Global,
         domain: TrustDomain,
@@ -82,7 +83,7 @@ impl<J: Naming> Core<J> {
         })
     }
 
-    /// The next seat, which has seen nothing.
+    /// Returns the next seat, which has seen nothing.
     pub(crate) fn seat(&mut self) -> Result<Seat<J>, NoSeat>
         ensures same { self.new ≡ self.old }
         ensures seat { IfOk result (λ s. (s.seen ≡ []) × (s.told ≡ []) × (s.own ≡ []) × (s.calls ≡ 0)) }
@@ -105,7 +106,7 @@ impl<J: Naming> Core<J> {
         Ok(seat)
     }
 
-    /// The seat has then seen every item so far, and the receipt says so.
+    /// Lets the seat see every item so far, and returns the receipt of that.
     pub(crate) fn news(&mut self, seat: &mut Seat<J>) -> Result<Receipt<J>, NoEntry>
         ensures same { self.new ≡ self.old }
         ensures goes { Goes seat.old seat.new }
@@ -123,8 +124,8 @@ impl<J: Naming> Core<J> {
         Ok(seat.receipt())
     }
 
-    /// Sees all items so far, and commits a work that is ready as the seat's call, or tells why not. What a commit has replaced is
-    /// returned, to be dropped without the lock.
+    /// Lets the seat see all items so far, and commits a ready work as the seat's call, or returns why not. What a commit
+    /// has replaced is returned, to be dropped without the lock.
     pub(crate) fn commit<R: Wait>(
         &mut self,
         rt: &R,

@@ -1,23 +1,24 @@
-//! Where can a test hold a batch of changes on its way?
+//! Where can a test stop a thread that runs a batch of changes?
 
-/// Where a batch of changes is on its way.
+/// A point in a try of a batch of changes.
 #[derive(Clone, Copy, Debug, PartialEq, Eq, Drop)]
 pub enum Point {
-    /// It has begun, and has read nothing yet. No lock is held.
+    /// The try has begun, and has read nothing yet. No lock is held.
     AfterBegin,
-    /// It holds the lock, and is to be checked.
+    /// It holds the lock, and its commit is not decided yet.
     BeforeCommit,
-    /// It has given the lock back.
+    /// It has released the lock.
     AfterCommit,
 }
 
-/// What each try of a batch of changes passes on its way. A pass may take its time, but returns, and does nothing to the registry.
+/// A test hook that each try of a batch of changes passes. A pass may take time, but it returns, and does nothing to the
+/// registry.
 pub trait Gate {
-    /// Passed at this point by the seat of this number, in the call of this number.
+    /// Called at this point by the seat of this number, in the call of this number.
     fn pass(&self, point: Point, seat: u32, call: u64);
 }
 
-/// The gate that lets everything pass at once.
+/// The gate that does nothing.
 #[derive(Clone, Copy, Debug, Drop)]
 pub struct OpenGate;
 

@@ -1,4 +1,4 @@
-//! Which history do all threads share, and which beginning of it was seen?
+//! Which history do all threads share, and which prefix of it has been seen?
 
 ghost use Rattle.std.specs.Prelude.{◌≡◌, ◌+◌, ◌==◌, ◌<◌, ◌≤◌, ◌^◌, ◌++◌, ◌∷◌, ◌⊎◌, [], length, MatchBool, IsTrue};
 ghost use mathlib.Core.List.{IsPrefix};
@@ -9,7 +9,7 @@ use commit_head::Item;
 use logbook::{Gain, Offer, Plain, Play, Rule, Seen, Start, Word};
 use std::marker::{Brand, Model, PhantomData};
 
-/// The rule of the history: its word is its length.
+/// The invariant of the history's atomic word: it is the length of the history.
 pub struct Law;
 
 impl Rule<Item, u64> for Law {
@@ -30,7 +30,7 @@ impl Rule<Item, u64> for Law {
     ghost moves = { λ ask before after answer. Unit {0} };
 }
 
-/// Callers trade nothing.
+/// A step gains its caller nothing.
 pub struct Nothing;
 
 impl Gain<Item, u64> for Nothing {
@@ -48,7 +48,7 @@ impl Play<Item, u64> for Add {
     ghost then = { Adds };
 }
 
-/// What a step asks for: the item.
+/// The request of a step is the item.
 impl Plain<Item, Item, u64> for Add {
     ghost use Rattle.std.specs.Prelude.{None};
 
@@ -57,8 +57,8 @@ impl Plain<Item, Item, u64> for Add {
     ghost state = { λ item. None };
 }
 
-/// Which registry it is: its history, and the trust domain of its book. Each call of a program picks them; seats, receipts and
-/// registries that have one naming belong together.
+/// Identifies a registry in the proofs, by its history and the trust domain of its book. Each call of a program picks them.
+/// Seats, receipts and registries of one naming belong together.
 pub trait Naming {
     ghost use Rattle.logbook.specs.Pages.{Book};
     ghost use Rattle.entry_book.specs.Rows.{Bytes};
@@ -76,7 +76,7 @@ impl Naming for Brand {
     ghost domain = { [] };
 }
 
-/// An empty history, which has no name yet.
+/// An empty history that has no naming yet.
 pub struct Opened {
     word: Word<Item, u64, Law>,
     seen: Seen<Item, u64, Law>,
@@ -85,7 +85,7 @@ pub struct Opened {
 }
 
 impl Opened {
-    /// A history of its own. Takes no memory.
+    /// Makes a new history. Takes no memory.
     pub fn new() -> Opened {
         let (seen, mut first, _second) = Seen::open(Start::alone(), 0, 0);
         Opened {
@@ -94,7 +94,7 @@ impl Opened {
         }
     }
 
-    /// The history's word under a name, and the front that has seen nothing.
+    /// Returns the history's word under a naming, and the empty front.
     pub(crate) fn named<J: Naming>(self) -> (History<J>, Front<J>)
         requires { self.seen.book ≡ J.history }
         ensures { result.1 ≡ [] }
@@ -114,7 +114,7 @@ impl Opened {
     }
 }
 
-/// The word that all threads share: the length of the history.
+/// The atomic word that all threads share: the length of the history.
 #[derive(Drop)]
 pub struct History<J: Naming> {
     word: Word<Item, u64, Law>,
@@ -122,8 +122,8 @@ pub struct History<J: Naming> {
     ghost word_is: { word ≡ word_of J.history },
 }
 
-/// A beginning of the history that was seen: a lawful journal. Contracts see it as its items. It has its length alone, and no
-/// copy of an item.
+/// A prefix of the history that was seen: a lawful journal. The model in contracts is the list of its items. At run time it
+/// has only its length, and no copy of an item.
 #[derive(Drop)]
 pub struct Front<J: Naming> {
     items: u64,
@@ -144,7 +144,7 @@ impl<J: Naming> Model for Front<J> {
 }
 
 impl<J: Naming> Front<J> {
-    /// How many items it has.
+    /// Returns the number of its items.
     pub(crate) fn len(&self) -> u64
         ensures length { result ≡ length self.now }
         ensures lawful { IsLawfulJournal J.domain self.now }
@@ -152,7 +152,7 @@ impl<J: Naming> Front<J> {
         self.items
     }
 
-    /// A copy.
+    /// Returns a copy.
     pub(crate) fn again(&self) -> Front<J>
         ensures { result ≡ self.now }
     {
@@ -163,7 +163,7 @@ impl<J: Naming> Front<J> {
         }
     }
 
-    /// The longer of two fronts, which the other begins.
+    /// Returns the longer of two fronts, of which the other is a prefix.
     pub(crate) fn longer(&self, other: &Front<J>) -> Front<J>
         ensures one { (result ≡ self.now) ⊎ (result ≡ other.now) }
         ensures this { IsPrefix self.now result }
@@ -178,14 +178,14 @@ impl<J: Naming> Front<J> {
         }
     }
 
-    /// The token of what was seen.
+    /// Returns the token of what was seen.
     pub(crate) fn token(&self) -> Seen<Item, u64, Law>
         ensures { (result.book ≡ J.history) × (result.log ≡ self.now) }
     {
         self.seen.again()
     }
 
-    /// The front of a token, which has so many items.
+    /// Makes the front of a token with this number of items.
     pub(crate) fn of(items: u64, seen: Seen<Item, u64, Law>) -> Front<J>
         requires { (seen.book ≡ J.history) × (items ≡ length seen.log) × IsLawfulJournal J.domain seen.log }
         ensures { result ≡ seen.log }
@@ -197,7 +197,7 @@ impl<J: Naming> Front<J> {
         }
     }
 
-    /// Is it no longer than the other, which it then begins?
+    /// Returns true only if it is a prefix of the other one: it is no longer, and both are prefixes of one history.
     pub(crate) fn begins(&self, other: &Front<J>) -> bool
         ensures { IsTrue result → IsPrefix self.now other.now }
     {
@@ -206,8 +206,8 @@ impl<J: Naming> Front<J> {
         self.items <= other.items
     }
 
-    /// Adds an item to all that was seen, and says whether it did. It did not where the history is longer; then nothing has
-    /// changed.
+    /// Adds an item after all that was seen, and returns true. If the history is longer than that, returns false, and
+    /// nothing has changed.
     pub(crate) fn add(&mut self, history: &History<J>, item: &Item) -> bool
         requires room { length self.old < 2 ^ 62 }
         requires lawful { IsLawfulJournal J.domain (self.old ++ item.now ∷ []) }

@@ -1,31 +1,40 @@
-//! What may many threads rely on that share one registration book?
+//! What may threads that share one registration book rely on?
 //!
-//! Each caller has a seat. A query takes no lock and waits for nobody: the seat looks once at what is published, and answers the
-//! batch on that. A batch of changes is run on that in small steps; the lock is held for its commit alone, and where a batch that
-//! was committed since wrote what it had read, it begins again while tries are left. What a seat has seen only grows, is always a
-//! lawful journal, and begins with all that it was told of by the receipts of others; so the answers of callers that meet stand
-//! in one list of committed batches.
+//! Each caller has a seat, a client handle. A query takes no lock and waits for no other thread: the seat looks once at the
+//! published state, and answers the batch on it. A batch of changes runs on that state in small steps, and the lock is held
+//! only for its commit. If a batch that was committed since then wrote what it has read, it begins again while tries are
+//! left. What a seat has seen only grows, is always a lawful journal, and begins with all that it learnt from the receipts
+//! of others. So the answers to callers that meet agree with one list of committed batches.
 //!
-//! - [`Registry`]: what the threads share. [`Seat`]: one caller, with what it has seen; [`NoSeat`]: there are 32 already.
-//! - [`Outcome`]: what became of a batch of changes. [`Gate`]: where a test may hold it on its way, at each [`Point`];
-//!   [`OpenGate`] holds nothing.
-//! - [`Answer`]: the reply to a query. [`NoAnswer`] and [`NoEntry`]: why a query, or a question for news, has no answer.
-//! - [`Receipt`]: what a seat had seen, to be learnt by another one.
+//! - [`Registry`]: the state that the threads share. [`Seat`]: one caller, with what it has seen; [`NoSeat`]: there are 32
+//!   already.
+//! - [`Outcome`]: the outcome of a batch of changes. [`Gate`]: a test hook at each [`Point`] of a try; [`OpenGate`] does
+//!   nothing.
+//! - [`Answer`]: the reply to a query. [`NoAnswer`] and [`NoEntry`]: why a query, or a request for news, has no answer.
+//! - [`Receipt`]: what a seat had seen, for another seat to learn.
 //! - [`commits_law`]: after a commit a seat may answer queries without a look.
-//! - [`Naming`] and [`Opened`]: which registry it is, and its empty history; seats, receipts and registries of one naming belong
-//!   together, which the types say.
+//! - [`Naming`] and [`Opened`]: which registry it is, and its empty history. The types ensure that seats, receipts and
+//!   registries of one naming belong together.
 //!
-//! The definitions stand in `specs/`: what a batch of changes is answered in `Outcomes`, what is published in `Shown`, what a seat
-//! is in `Seated` and `Seats`, what lies under the lock in `Desk`, a work on its way in `Works`, the rule of the history's word in
-//! `Rules`.
+//! The words of this crate:
 //!
-//! - `history`: the one history, and the beginnings of it that were seen; `published` and `rule`: what readers look at, and which
-//!   rule each step over it keeps; `run`: how a batch of changes is run on what is published; `desk` and `commit`: what lies under the lock,
-//!   and what is done there; `recent`: boards that are kept from readers' hands; `outcome` and `gate`;
-//!   `laws`: a fact that follows from the contracts.
+//! - journal: the list of all committed items; front: a prefix of it, by its length.
+//! - board: the window of the last books, and the number of commits of each seat; page: a published board with its front.
+//! - found: the journal of the page that a seat has; seen: the prefix that its answers were computed from; told: the
+//!   longest prefix that it learnt of.
+//! - own: the numbers of the calls that a seat has committed.
 //!
-//! A statement such as `let _place = seat.place();` has no effect when it runs. It brings what the call ensures, mostly an invariant of
-//! its value, into the proof, which fails without it.
+//! The definitions are in `specs/`. `Outcomes` defines the outcome of a batch of changes, `Shown` the published state, and
+//! `Seated` and `Seats` a seat. `Desk` defines the state under the lock, `Works` a work in execution, and `Rules` the
+//! invariant of the history's word.
+//!
+//! - `history`: the one history, and the prefixes of it that were seen; `published` and `rule`: the state that readers look
+//!   at, and the invariant that each step over it preserves; `run`: how a batch of changes runs on the published state;
+//!   `desk` and `commit`: the state under the lock, and the commit on it; `recent`: boards that are retained; `seat` and
+//!   `registry`: the calls of the two types; `outcome` and `gate`; `laws`: a theorem that follows from the contracts.
+//!
+//! A statement such as `let _place = seat.place();` has no effect at run time. It brings the contract of the call, mostly
+//! an invariant of its value, into the proof, which fails without it.
 #![tactic(auto)]
 
 mod commit;

@@ -1,21 +1,22 @@
-//! What became of a batch of changes?
+//! What is the outcome of a batch of changes?
 
 use entry_book::Reply;
 
-/// What became of a batch of changes. After all but the first, no item that the seat has seen, or sees later, has the seat's number and
-/// the number of this call. No clause says that the same batch isn't committed by another call.
+/// The outcome of a batch of changes. Unless it is `Committed`, no item that the seat has seen, or sees later, has the
+/// seat's number and the number of this call. No clause says that no other call commits the same batch.
 #[derive(Drop)]
 pub enum Outcome {
-    /// The changes are made; the reply says at which place, and has the answers to the operations.
+    /// The batch was committed; the reply has its place and the replies to its operations.
     Committed(Reply),
-    /// The batch was committed before, with its token; the reply has that place, and the answers that it was given then.
+    /// The batch was committed before, with its token; the reply has that place, and the replies of that time.
     Repeated(Reply),
-    /// It is refused; the reply says why, and at which place.
+    /// The batch was refused; the reply has the refusal and its place.
     Refused(Reply),
-    /// Each try was overtaken by a batch that wrote what it had read; the place at the end of the last try.
+    /// In each try, a batch that was committed after its begin wrote what it had read. The place at the end of the last
+    /// try.
     Conflict(u64),
-    /// Memory was wanting.
+    /// Memory ran out.
     NoMemory,
-    /// The seat wasn't let in, or what is published doesn't fit what the seat has seen.
+    /// The seat couldn't enter the registry, or the published state doesn't extend what the seat has seen.
     NoEntry,
 }

@@ -1,4 +1,4 @@
-//! What is published to all readers?
+//! Which state is published to all readers?
 
 ghost use Rattle.std.specs.Prelude.{◌≡◌, ◌+◌, ◌≤◌, ◌<◌, ◌^◌, ◌++◌, ◌∷◌, [], length, IfOk, IfSome};
 ghost use Rattle.batch_work.specs.Windows.{Window};
@@ -15,16 +15,16 @@ use logbook::Seen;
 use std::alloc::{AllocError, Global};
 use std::marker::Model;
 
-/// The window on which works begin, and how many calls each seat has committed.
+/// The window on which works begin, and the number of commits of each seat.
 #[derive(Drop)]
 pub(crate) struct Board {
     pub(crate) window: Window,
     pub(crate) counts: [u64; 32],
 }
 
-/// What the writer publishes and each reader sees: a window, the journal for whose last books it stands, and how many of its
-/// items each seat has. Contracts see it as its history, its journal and its window. A copy counts one more owner, and is all
-/// that a reader makes while it is inside.
+/// The state that the writer publishes and each reader sees: the journal, a window of its last books, and the number of its
+/// items of each seat. The model in contracts is its history, its journal and its window. A copy increments one reference
+/// count, and is all that a reader makes while it is inside.
 #[derive(Drop)]
 pub struct Published {
     items: u64,
@@ -47,7 +47,7 @@ impl Published {
     ghost use Rattle.std.specs.Prelude.{◌≡◌, ◌≤◌, ◌^◌, length, IfOk, IfSome};
     ghost use Rattle.shared_registry.specs.Shown.{IsOf, Shows, whole_head};
 
-    /// The front's journal, which the board shows.
+    /// Makes the published value of the front's journal, with the board that shows it.
     pub(crate) fn of<J: Naming>(front: &Front<J>, board: Shared<Board>) -> Published
         requires shows { Shows front.now board.window board.counts }
         ensures history { result.history ≡ J.history }
@@ -61,7 +61,7 @@ impl Published {
         }
     }
 
-    /// The journal, as a front.
+    /// Returns the journal, as a front.
     pub(crate) fn front<J: Naming>(&self) -> Front<J>
         requires { IsOf J.history J.domain self.now }
         ensures { result ≡ self.now.journal }
@@ -69,7 +69,7 @@ impl Published {
         Front::of(self.items, self.seen.again())
     }
 
-    /// The window on which a work begins.
+    /// Returns the window on which a work begins.
     pub(crate) fn window(&self) -> &Window
         ensures window { result.now ≡ self.now.window }
         ensures low { self.now.window.newest.number ≤ 2 ^ 48 }
@@ -78,7 +78,7 @@ impl Published {
         &self.board.get().window
     }
 
-    /// How many items of the journal are of this seat.
+    /// Returns the number of items of this seat in the journal.
     pub(crate) fn count(&self, seat: usize) -> u64
         requires { seat < 32 }
         ensures { result ≡ length (calls_of seat self.now.journal) }
@@ -86,12 +86,12 @@ impl Published {
         self.board.get().counts[seat]
     }
 
-    /// The board, with one more owner. The error is that no more owners can be counted.
+    /// Returns the board, with its reference count incremented. The error is that the count can't grow.
     pub(crate) fn board(&self) -> Result<Shared<Board>, AllocError> {
         self.board.clone()
     }
 
-    /// The counts after one item more of this seat.
+    /// Returns the counts after one more item of this seat.
     pub(crate) fn counts_with(&self, seat: usize, item: &Item) -> [u64; 32]
         requires seat { (seat < 32) × (item.now.seat ≡ seat) }
         ensures { IsCounted result (self.now.journal ++ item.now ∷ []) }
@@ -102,7 +102,7 @@ impl Published {
         counts
     }
 
-    /// A copy. The error is that no more owners can be counted.
+    /// Returns a copy. The error is that a reference count can't grow.
     pub(crate) fn again(&self) -> Result<Published, AllocError>
         ensures { IfOk result (λ p. p ≡ self.now) }
     {
@@ -113,7 +113,8 @@ impl Published {
         })
     }
 
-    /// A copy, where it has another number of items than the older one.
+    /// Returns a copy, if it has another number of items than the older one. The error is that a reference count can't
+    /// grow.
     pub(crate) fn newer(&self, older: &Published) -> Result<Option<Published>, AllocError>
         ensures { IfOk result (λ o. IfSome o (λ p. p ≡ self.now)) }
     {
@@ -124,7 +125,7 @@ impl Published {
     }
 }
 
-/// What is published at the beginning: the head's window, and no item. The error is want of memory.
+/// Returns the first published value: the head's window, and no item. The error is out of memory.
 pub(crate) fn opening<J: Naming>(
     alloc: Global,
     front: &Front<J>,
@@ -141,7 +142,7 @@ pub(crate) fn opening<J: Naming>(
     Ok(Published::of(front, Shared::of(alloc, board)?))
 }
 
-/// An operation of the writer is the whole next value.
+/// An operation of the writer replaces the whole value.
 impl Absorb<Published> for Published {
     ghost use Rattle.shared_registry.specs.Shown.{Shown};
 

@@ -1,4 +1,4 @@
-//! What do callers' threads share?
+//! What do the threads of many callers share?
 
 ghost use Rattle.std.specs.Prelude.{◌≡◌, ◌<◌, ◌≤◌, ◌^◌, [], length, IfOk, MatchResult, true, false};
 ghost use mathlib.Core.List.{IsPrefix};
@@ -24,7 +24,7 @@ use spiffe_name::TrustDomain;
 use std::alloc::{AllocError, Global};
 use std::sync::{Mutex, MutexGuard, Wait};
 
-/// Was the batch of this reply committed before?
+/// Returns true if the batch of this reply was committed before.
 fn is_repeat(reply: &Reply) -> bool
     ensures { result ≡ is_repeated reply.now.outcome }
 {
@@ -34,7 +34,7 @@ fn is_repeat(reply: &Reply) -> bool
     }
 }
 
-/// What a batch of changes is answered that awaits no commit: it is refused, or was committed before.
+/// Returns the outcome of a batch of changes with nothing to commit: it is refused, or was committed before.
 fn settled<J: Naming>(seat: &Seat<J>, work: Work) -> Outcome
     requires read { IsRead J.domain seat.now.seen work.batch work }
     requires changes { is_query work.batch.ops ≡ false }
@@ -54,11 +54,11 @@ fn settled<J: Naming>(seat: &Seat<J>, work: Work) -> Outcome
     }
 }
 
-/// One registration book for many threads, shared by `&self`. A caller has a seat, and all that the seats are answered stands in
-/// one list of committed batches.
+/// One registration book for many threads, shared by `&self`. Each caller has a seat, and all answers agree with one list
+/// of committed batches.
 ///
-/// A reader takes no lock: it looks once at what is published, and runs its batch on that. A writer takes the lock for its commit
-/// alone. Who calls a function with `rt` may wait, and nothing is promised of its end.
+/// A reader takes no lock: it looks once at the published state, and runs its batch on it. A writer takes the lock only for
+/// its commit. A function with `rt` may wait, and no clause says that it returns.
 pub struct Registry<J: Naming> {
     history: History<J>,
     core: Mutex<Core<J>>,
@@ -67,7 +67,8 @@ pub struct Registry<J: Naming> {
 impl<J: Naming> Registry<J> {
     ghost use Rattle.std.specs.Prelude.{◌≡◌, ◌<◌, ◌≤◌, ◌^◌, [], length, IfOk, MatchResult, true, false};
 
-    /// The registry of a history that was just opened, with the empty book of a trust domain. The error is want of memory.
+    /// Makes the registry of a history that was just opened, with the empty book of a trust domain. The error is out of
+    /// memory.
     pub fn new(
         alloc: Global,
         opened: Opened,
@@ -84,9 +85,8 @@ impl<J: Naming> Registry<J> {
         })
     }
 
-    /// A seat for one more caller, which has seen and made nothing. There are 32 of them, and none may be had where no reader
-    /// is given, or no more owners of what is published can be counted. It waits for the lock, and nothing is promised of when
-    /// that is had.
+    /// Returns a seat for one more caller, which has seen nothing and made no call. The error is that there are 32 already,
+    /// no reader is available, or a reference count can't grow. It waits for the lock, and no clause says when it gets it.
     pub fn seat<R: Wait>(&self, rt: &R) -> Result<Seat<J>, NoSeat>
         ensures { IfOk result (λ s. (s.seen ≡ []) × (s.told ≡ []) × (s.own ≡ []) × (s.calls ≡ 0)) }
     {
@@ -96,7 +96,7 @@ impl<J: Naming> Registry<J> {
         seat
     }
 
-    /// Returns the answer to a query, on the books of what the seat has then seen. It waits for nobody.
+    /// Returns the answer to a query, on the books of what the seat has then seen. It waits for no other thread.
     pub fn query(&self, seat: &mut Seat<J>, batch: &Batch) -> Result<Answer, NoAnswer>
         requires has_calls { seat.old.calls < 2 ^ 48 }
         requires query { is_query batch.now.ops ≡ true }
@@ -109,9 +109,9 @@ impl<J: Naming> Registry<J> {
         seat.query(batch)
     }
 
-    /// Commits a batch of changes, or says what became of it otherwise. After a conflict it begins again, on what is then
-    /// published, while tries are left. Each try passes the gate. The lock is held for the commit alone; nothing is promised of
-    /// when it is had.
+    /// Commits a batch of changes, or returns its other outcome. After a conflict the batch begins again, on the state
+    /// published then, while tries are left. Each try passes the gate. The lock is held only for the commit; no clause says
+    /// when it gets the lock.
     pub fn submit<R: Wait, G: Gate>(
         &self,
         rt: &R,
@@ -147,7 +147,7 @@ impl<J: Naming> Registry<J> {
         Outcome::Conflict(place)
     }
 
-    /// One try of a batch of changes. The error is that it was overtaken, by this place, and hands the batch back.
+    /// Makes one try of a batch of changes. The error is a conflict, found at this place, and hands the batch back.
     fn attempt<R: Wait, G: Gate>(
         &self,
         rt: &R,
@@ -176,7 +176,7 @@ impl<J: Naming> Registry<J> {
         self.commit(rt, seat, gate, work, replies)
     }
 
-    /// The commit of one try, under the lock. The error is that it was overtaken.
+    /// Commits the work of one try, under the lock. The error is a conflict.
     fn commit<R: Wait, G: Gate>(
         &self,
         rt: &R,
@@ -216,8 +216,8 @@ impl<J: Naming> Registry<J> {
         }
     }
 
-    /// The seat has then seen every item so far, those that it was told of among them, and the receipt says so. It waits for the
-    /// lock, and nothing is promised of when that is had.
+    /// Lets the seat see every item so far, including those that it has learnt of, and returns the receipt of that. It
+    /// waits for the lock, and no clause says when it gets it.
     pub fn news<R: Wait>(&self, rt: &R, seat: &mut Seat<J>) -> Result<Receipt<J>, NoEntry>
         ensures goes { Goes seat.old seat.new }
         ensures lawful { IsLawfulJournal J.domain seat.new.seen }
@@ -232,7 +232,8 @@ impl<J: Naming> Registry<J> {
         receipt
     }
 
-    /// How many items of the journal are kept, 4,096 at most. It waits for the lock, and nothing is promised of when that is had.
+    /// Returns the number of stored items of the journal, at most 4,096. It waits for the lock, and no clause says when it
+    /// gets it.
     pub fn kept<R: Wait>(&self, rt: &R) -> u64
         ensures { result ≤ 4096 }
     {
@@ -242,8 +243,8 @@ impl<J: Naming> Registry<J> {
         kept
     }
 
-    /// Ends the registry, whose writer can't be let go otherwise. It waits for the readers that are inside, and nothing is
-    /// promised of its end.
+    /// Ends the registry, whose writer can't be dropped otherwise. It waits for the readers that are inside, and no clause
+    /// says that it returns.
     pub fn close<R: Wait>(self, rt: &R) {
         let Registry { history: _, core } = self;
         core.into_inner().close(rt);

@@ -1,4 +1,4 @@
-//! Which rule does every step over the published value keep?
+//! Which invariant does every step over the published value preserve?
 
 use crate::history::Naming;
 use crate::published::Published;
@@ -7,11 +7,11 @@ use crossbeam_utils::rule::{Outcome, Protocol};
 use std::collections::LinkedList;
 use std::marker::PhantomData;
 
-/// What a pass of a reader or of the writer has seen. No value of it is made, and no invariant of a seat speaks of it: what a seat has
-/// seen is a `Front`, a token of the history.
+/// What a pass of a reader or of the writer has seen. No value of this type is made, and no invariant of a seat mentions
+/// it: what a seat has seen is a `Front`, a token of the history.
 pub type View = LinkedList<Item>;
 
-/// What is published is of this history and trust domain, and begins with what each pass has seen.
+/// The published value is of this history and trust domain, and its journal begins with what each pass has seen.
 pub struct Rule<J: Naming>(PhantomData<J>);
 
 impl<J: Naming> Protocol<Published, View> for Rule<J> {
@@ -23,8 +23,8 @@ impl<J: Naming> Protocol<Published, View> for Rule<J> {
     ghost first = { [] };
 }
 
-/// A step after which the pass has seen what is published. A seat uses only one fact of it: what is published is of this history and
-/// trust domain.
+/// A step after which the pass has seen the published journal. A seat uses only that the published value is of this history
+/// and trust domain.
 pub struct Sees<J: Naming>(PhantomData<J>);
 
 impl<J: Naming> Outcome<Published, View> for Sees<J> {

@@ -1,4 +1,4 @@
-//! What does a batch of changes come to on what is published?
+//! What is the result of a batch of changes on the published state?
 
 ghost use Rattle.std.specs.Prelude.{◌≡◌, IfOk, Ok, OnOk, Some};
 ghost use Rattle.batch_work.specs.Working.{base_in, status_of};
@@ -9,10 +9,10 @@ use batch_work::{Status, Work};
 use entry_book::Batch;
 use std::alloc::{AllocError, Global};
 
-// No batch makes so many reads.
+// More reads than any batch makes.
 const READS: u64 = (1 << 21) + 1;
 
-/// The value, where there was memory for what was done to it; else it is let go.
+/// Returns the value if there was memory for what was done to it; otherwise drops it.
 fn kept_if<T: Drop>(done: Result<(), AllocError>, value: T) -> Result<T, AllocError>
     ensures { IfOk result (λ kept. (kept ≡ value) × (done ≡ Ok tt)) }
 {
@@ -20,7 +20,7 @@ fn kept_if<T: Drop>(done: Result<(), AllocError>, value: T) -> Result<T, AllocEr
     Ok(value)
 }
 
-/// A work of the batch, which begins on what is published. The error is want of memory.
+/// Returns a work of the batch that has begun on the published state. The error is out of memory.
 pub(crate) fn begun(alloc: Global, page: &Published, batch: Batch) -> Result<Work, AllocError>
     requires domain { batch.domain ≡ page.now.window.newest.domain }
     ensures { IfOk result (λ work. BeganAt batch page.now work) }
@@ -30,7 +30,7 @@ pub(crate) fn begun(alloc: Global, page: &Published, batch: Batch) -> Result<Wor
     kept_if(done, work)
 }
 
-/// Makes all reads of a work that has begun on what is published. The error is want of memory.
+/// Makes all reads of a work that has begun on the published state. The error is out of memory.
 pub(crate) fn run_to_end(page: &Published, work: &mut Work) -> Result<(), AllocError>
     requires domain { work.old.batch.domain ≡ page.now.window.newest.domain }
     requires began { BeganAt work.old.batch page.now work.old }
@@ -47,7 +47,7 @@ pub(crate) fn run_to_end(page: &Published, work: &mut Work) -> Result<(), AllocE
     unreachable!()
 }
 
-/// A work that has begun on what is published, after all its reads. The error is want of memory.
+/// Returns a work that has begun on the published state, after all its reads. The error is out of memory.
 pub(crate) fn ran(page: &Published, mut work: Work) -> Result<Work, AllocError>
     requires domain { work.batch.domain ≡ page.now.window.newest.domain }
     requires began { BeganAt work.batch page.now work }
@@ -57,7 +57,7 @@ pub(crate) fn ran(page: &Published, mut work: Work) -> Result<Work, AllocError>
     kept_if(done, work)
 }
 
-/// Lets a work go that is over.
+/// Drops a work that is over.
 pub(crate) fn let_go(work: Work) {
     drop(work);
 }

@@ -1,4 +1,4 @@
-//! What has one caller seen, and which replies does it get?
+//! What has one caller seen, and which answers does it get?
 
 ghost use Rattle.std.specs.Prelude.{◌≡◌, ◌<◌, ◌+◌, ◌++◌, ◌∷◌, ◌^◌, [], length, IfOk, IfSome, IsSome, IsTrue, MatchResult, true};
 ghost use mathlib.Core.List.{IsPrefix};
@@ -22,26 +22,26 @@ use std::alloc::{AllocError, Global};
 use std::marker::Model;
 use std::mem::replace;
 
-/// A reader of what is published.
+/// A reader of the published value.
 pub(crate) type SeatReader<J> = Reader<Published, View, Rule<J>>;
 
-/// The reply to a query, with rows of its own.
+/// The reply to a query, which owns its rows.
 pub type Answer = Reply;
 
 /// Why a query has no answer.
 #[derive(Clone, Copy, Debug, PartialEq, Eq, Drop)]
 pub enum NoAnswer {
-    /// Out of memory.
+    /// Memory ran out.
     NoMemory,
-    /// The registry didn't admit the seat, or what is published doesn't continue what the seat has seen.
+    /// The seat couldn't enter the registry, or the published state doesn't extend what the seat has seen.
     NoEntry,
 }
 
-/// The registry didn't admit the seat, or what is published doesn't continue what the seat has seen.
+/// The seat couldn't enter the registry, or the published state doesn't extend what the seat has seen.
 #[derive(Clone, Copy, Debug, PartialEq, Eq, Drop)]
 pub struct NoEntry;
 
-/// What a seat had seen when it asked for news. In contracts it is the list of items.
+/// What a seat had seen when it asked for news. The model in contracts is the list of items.
 #[derive(Drop)]
 pub struct Receipt<J: Naming> {
     seen: Front<J>,
@@ -56,11 +56,11 @@ impl<J: Naming> Model for Receipt<J> {
     ghost view = { λ r. r.seen };
 }
 
-/// One caller of a registry: its number, how many calls it has made, and what it has seen. In contracts it has the lists, for a
-/// program their lengths.
+/// One caller of a registry: its number, the number of its calls, and what it has seen. The model in contracts has lists of
+/// items, which are tokens of the history (see [`Front`]); at run time the seat has their lengths.
 ///
-/// A seat keeps what it last found published, or what its own commit has published since then. It replaces it only if what is
-/// published has another number of items.
+/// A seat keeps the page that it last found published, or that its own commit published since then. It replaces the page
+/// only by one with another number of items.
 #[derive(Drop)]
 pub struct Seat<J: Naming> {
     alloc: Global,
@@ -90,7 +90,7 @@ impl<J: Naming> Seat<J> {
     ghost use Rattle.std.specs.Prelude.{◌≡◌, ◌<◌, ◌^◌, ◌+◌, ◌++◌, ◌∷◌, [], length, nat_lt, IfOk, MatchResult, true};
     ghost use Rattle.shared_registry.specs.Works.{IsRead};
 
-    /// How many items it has seen.
+    /// Returns the number of items that it has seen.
     pub fn place(&self) -> u64
         ensures place { result ≡ length self.now.seen }
         ensures lawful { IsLawfulJournal J.domain self.now.seen }
@@ -101,28 +101,28 @@ impl<J: Naming> Seat<J> {
         self.seen.len()
     }
 
-    /// Its number, below 32.
+    /// Returns its number, below 32.
     pub fn number(&self) -> u32
         ensures { (result ≡ self.now.number) × (result < 32) }
     {
         self.number as u32
     }
 
-    /// How many calls it has made: the number of the last one.
+    /// Returns the number of its calls so far, which is the number of the last one.
     pub fn calls(&self) -> u64
         ensures { result ≡ self.now.calls }
     {
         self.calls
     }
 
-    /// Returns true if the seat can make one more call. A seat makes at most 2^48 calls.
+    /// Returns true if it may make another call. A seat makes at most 2^48 calls.
     pub fn has_calls(&self) -> bool
         ensures { result ≡ nat_lt self.now.calls (2 ^ 48) }
     {
         self.calls < 1 << 48
     }
 
-    /// Returns a seat that has seen nothing.
+    /// Makes a seat that has seen nothing.
     pub(crate) fn new(
         alloc: Global,
         reader: SeatReader<J>,
@@ -147,7 +147,7 @@ impl<J: Naming> Seat<J> {
         }
     }
 
-    /// What it has seen.
+    /// Returns the receipt of what it has seen.
     pub(crate) fn receipt(&self) -> Receipt<J>
         ensures { result ≡ self.now.seen }
     {
@@ -156,7 +156,8 @@ impl<J: Naming> Seat<J> {
         }
     }
 
-    /// Returns true if the published journal continues what the seat has seen and learnt, and has no other call of the seat.
+    /// Returns true only if the published journal begins with what the seat has seen and learnt of. Its items of the seat
+    /// are then the seat's own calls, no more.
     pub(crate) fn fits(&self, published: &Published) -> bool
         requires { IsOf J.history J.domain published.now }
         ensures seen { IsTrue result → IsPrefix self.now.seen published.now.journal }
@@ -166,7 +167,7 @@ impl<J: Naming> Seat<J> {
         continues(published, &self.seen, &self.told, self.number, self.count)
     }
 
-    /// Advances what the seat has seen to this front, which has no further call of the seat.
+    /// Advances the seat to a longer journal that contains no further commits of this seat.
     pub(crate) fn see(&mut self, front: Front<J>)
         requires seen { IsPrefix self.old.seen front }
         requires own { calls_of self.old.number front ≡ self.old.own }
@@ -177,7 +178,7 @@ impl<J: Naming> Seat<J> {
         self.seen = front;
     }
 
-    /// Advances what the seat has seen to this front, whose last item is the seat's own commit.
+    /// Advances the seat to a journal with one more item, which is the seat's own.
     pub(crate) fn see_own(&mut self, front: Front<J>, item: &Item)
         requires seen { front ≡ self.old.seen ++ item.now ∷ [] }
         requires seat { item.now.seat ≡ self.old.number }
@@ -209,8 +210,8 @@ impl<J: Naming> Seat<J> {
         self.calls += 1;
     }
 
-    /// Begins a batch on what is published, which the seat has then seen, and makes all its reads. The work passes the gate after
-    /// its begin. Never blocks.
+    /// Begins a work of the batch on the published state, which the seat has then seen, and makes all its reads. It passes
+    /// the gate after its begin. It waits for no other thread.
     pub(crate) fn read<G: Gate>(&mut self, gate: &G, batch: Batch) -> Result<Work, NoAnswer>
         requires domain { batch.domain ≡ J.domain }
         ensures goes { Goes self.old self.new }
@@ -247,8 +248,8 @@ impl<J: Naming> Seat<J> {
         }
     }
 
-    /// Reads what is published, for a query; this is one call. Afterwards `answer` evaluates queries on what was found, and
-    /// `see_found` makes it what the seat has seen. Never blocks.
+    /// Looks at the published state, for a query, which counts as one call. The seat may then answer on what it has found,
+    /// and see it. It waits for no other thread.
     pub fn look(&mut self) -> Result<(), NoAnswer>
         requires has_calls { self.old.calls < 2 ^ 48 }
         ensures found { IfOk result (λ _. MaySee J.domain self.new) }
@@ -274,8 +275,9 @@ impl<J: Naming> Seat<J> {
         }
     }
 
-    /// Returns the reply to a query on the books of what the seat has found, by `look` or by its own commit. The reply borrows its
-    /// rows from the seat. Never blocks. The only error is a failed allocation.
+    /// Returns the answer to a query, on the books of what the seat has found; the answer borrows its rows from the seat.
+    /// The seat must have found it by a look or by its own commit. It waits for no other thread. The only error is a failed
+    /// allocation.
     pub fn answer(&self, batch: &Batch) -> Result<LentReply<'_>, AllocError>
         requires found { MaySee J.domain self.now }
         requires query { is_query batch.now.ops ≡ true }
@@ -286,7 +288,7 @@ impl<J: Naming> Seat<J> {
         lent_answer(self.alloc, &self.page, batch)
     }
 
-    /// Makes what the seat has found what it has seen. Allocates nothing.
+    /// Lets the seat see what it has found. Takes no memory.
     pub fn see_found(&mut self)
         requires found { MaySee J.domain self.old }
         ensures { self.new ≡ record self.old { seen = self.old.found } }
@@ -294,8 +296,8 @@ impl<J: Naming> Seat<J> {
         self.seen = self.page.front();
     }
 
-    /// Returns the reply to a query, on the books of what the seat has then seen. The reply owns its rows, for callers that keep it.
-    /// Never blocks.
+    /// Returns the answer to a query, on the books of what is then seen. The answer owns its rows. It waits for no other
+    /// thread.
     pub fn query(&mut self, batch: &Batch) -> Result<Answer, NoAnswer>
         requires has_calls { self.old.calls < 2 ^ 48 }
         requires query { is_query batch.now.ops ≡ true }
@@ -315,8 +317,8 @@ impl<J: Naming> Seat<J> {
         }
     }
 
-    /// Returns the reply to a query on the books of what the seat has found. The reply owns its rows. The only error is a failed
-    /// allocation.
+    /// Returns the answer to a query, on the books of what the seat has found. The answer owns its rows. The only error is
+    /// a failed allocation.
     fn kept_answer(&self, batch: &Batch) -> Result<Answer, AllocError>
         requires found { MaySee J.domain self.now }
         requires query { is_query batch.now.ops ≡ true }
@@ -330,7 +332,8 @@ impl<J: Naming> Seat<J> {
         reply
     }
 
-    /// Makes later queries and submits see at least what the receipt's seat had seen. Never blocks, and allocates nothing.
+    /// Makes later queries and submits begin with what the receipt's seat had seen. It waits for no other thread and takes
+    /// no memory.
     pub fn learn(&mut self, receipt: &Receipt<J>)
         ensures told { IsPrefix receipt.now self.new.told × IsPrefix self.old.told self.new.told }
         ensures seen { (self.new.seen ≡ self.old.seen) × (self.new.own ≡ self.old.own) × (self.new.number ≡ self.old.number) × (self.new.calls ≡ self.old.calls) × (self.new.found ≡ self.old.found) }
@@ -339,7 +342,7 @@ impl<J: Naming> Seat<J> {
     }
 }
 
-/// Keeps the page that was found if it is a new one, and drops the one before.
+/// Replaces the page by the newer one, if a look has found one, and drops the one before.
 fn turn<J: Naming>(
     page: &mut Published,
     newer: Result<Option<Published>, AllocError>,
@@ -358,7 +361,7 @@ fn turn<J: Naming>(
     }
 }
 
-/// Reads once what is published, and keeps it if it is new.
+/// Looks once at the published state, and keeps it if it has another number of items.
 fn look<J: Naming>(
     reader: SeatReader<J>,
     page: &mut Published,
@@ -394,7 +397,8 @@ fn continues<J: Naming>(
     published.count(number) == count && seen.begins(&front) && told.begins(&front)
 }
 
-/// Reads what is published, and returns its journal if it continues what the seat has seen and learnt, and has as many of its calls.
+/// Looks, and returns the published journal. The error is `NoEntry` if that doesn't begin with what the seat has seen and
+/// learnt of, or has another number of its calls.
 fn find<J: Naming>(
     reader: &mut Option<SeatReader<J>>,
     page: &mut Published,
@@ -426,7 +430,7 @@ fn find<J: Naming>(
     }
 }
 
-/// Returns the reply to a query on what is published, which borrows the rows. The only error is a failed allocation.
+/// Returns the answer to a query on the published state, which borrows the rows. The error is out of memory.
 fn lent_answer<'a>(
     alloc: Global,
     page: &'a Published,

@@ -20,7 +20,7 @@ compare_exchange-found-requires g c =
       rw (ap (λ w. w.key) h, pen.1, offer.1, offer.3) (adds_moves c.again-seen.result.log c.args.item.now c.self.inside.items items),
     )
 
--- found as expected: the item was added
+-- the word was as expected: the item was added
 added : (found old : ℕ) (xs ys : List Item) (e f : Item) → found ≡ old → f ≡ e → MatchBool (found == old) (ys ≡ xs ++ f ∷ []) (length ys ≡ found) → ys ≡ xs ++ e ∷ []
 added found old xs ys e f same is h = let t : (found == old) ≡ true = grind (arith, nat_tests) in subst (λ b. MatchBool b (ys ≡ xs ++ f ∷ []) (length ys ≡ found)) t h ∙ ap (λ i. xs ++ i ∷ []) is
 

@@ -4,7 +4,7 @@ use Rattle.shared_registry.specs.Outcomes.{WasOvertaken}
 use Rattle.shared_registry.specs.Seated.{Goes}
 use Rattle.shared_registry.proofs.registry.Registry.submit.Given as goal
 
--- the tries so far were overtaken, and nothing of the batch is in the book
+-- each try so far met a conflict, and the seat has no new call of its own
 abbrev pub invariant-loop : goal.invariant-loop
 invariant-loop g l = record {
   goes : Goes l.initial.seat l.seat;
