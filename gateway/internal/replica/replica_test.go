@@ -110,7 +110,8 @@ func TestTokens(t *testing.T) {
 			t.Errorf("%s: got %s, want %s", c.name, got, c.want)
 		}
 	}
-	got := apply(t, r, 2, tokened(4, 0), tokened(4, 0), prune, tokened(4, 1))
+	slow := strings.Replace(tokened(4, 0), `"before"`, `"hint":"SLOW","before"`, 1) // so that it is under way when it comes again
+	got := apply(t, r, 2, slow, slow, prune, tokened(4, 1))
 	want := []string{committed(4), repeated(4), committed(5), `"code":"O9","place":5,"result":"refused"}`}
 	if strings.Join(got, "\n") != strings.Join(want, "\n") {
 		t.Errorf("in one entry: got %q", got)
