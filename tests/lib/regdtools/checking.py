@@ -13,7 +13,7 @@ from regdtools.program import CRATES, ROOT, sources_of
 
 
 class Failed(Exception):
-    """The crates below are not proved: the end of what the toolchain printed."""
+    """Crates are not proved: the end of what the toolchain printed."""
 
 
 def toolchain():
@@ -21,20 +21,27 @@ def toolchain():
     return pathlib.Path(shutil.which("rt")).resolve().parent.parent
 
 
+def over(libraries, uses, below, jobs=1):
+    """Returns the words with which the compiler takes the crates and libraries that a crate uses, and the crates below it, which are proved
+    in the repository at `libraries`."""
+    kit, words = toolchain(), []
+    is_kit = lambda library: (kit / f"rlibs/{library}.rlib").exists()
+    rlib = lambda library: libraries / "crates" / library / "out/rlib"
+    for library in ["std", *uses]:
+        words += ["--extern", f"{library}={kit / 'rlibs' if is_kit(library) else rlib(library)}/{library}.rlib"]
+    for folder in [kit / "rlibs", *map(rlib, below)]:
+        words += ["-L", f"dependency={folder}"]
+    words += ["--antt-project", kit / "rattle/logic/antt-project.json", "--logic-built", kit / "logic_built", "--jobs", jobs]
+    return [str(word) for word in words]
+
+
 def command(name, libraries, jobs=1):
     """Returns the command that checks a crate in whose folder it runs, with its tests if it is a crate of tests. In the repository at
     `libraries` the crates below it are proved."""
-    kit = toolchain()
-    is_kit = lambda library: (kit / f"rlibs/{library}.rlib").exists()
-    rlib = lambda library: libraries / "crates" / library / "out/rlib"
-    words = ["--crate-name", name, "src/main.rt" if name == proving.PROGRAM else "src/lib.rt"]
-    for library in ["std", *crates.listed()[name]]:
-        words += ["--extern", f"{library}={kit / 'rlibs' if is_kit(library) else rlib(library)}/{library}.rlib"]
-    for folder in [kit / "rlibs", *map(rlib, crates.below([name]))]:
-        words += ["-L", f"dependency={folder}"]
-    words += ["--antt-project", kit / "rattle/logic/antt-project.json", "--logic-built", kit / "logic_built"]
-    words += ["--links", f"{name}=", "--jobs", jobs, *["--test"] * name.endswith("_tests")]
-    return [str(word) for word in [kit / "bin/rattle", "check", *words]]
+    root = "src/main.rt" if name == proving.PROGRAM else "src/lib.rt"
+    words = over(libraries, crates.listed()[name], crates.below([name]), jobs)
+    words += ["--links", f"{name}=", *["--test"] * name.endswith("_tests")]
+    return [str(toolchain() / "bin/rattle"), "check", "--crate-name", name, root, *words]
 
 
 def checksum(names):
@@ -53,13 +60,18 @@ def prove_below(name, libraries):
     now = checksum(names)
     if stamp.exists() and stamp.read_text() == now:
         return
-    proving.copy_crates(names, libraries)
+    prove(names, libraries)
+    stamp.write_text(now)
+
+
+def prove(names, libraries, top=ROOT):
+    """Copies crates of the repository at `top` to `libraries` and has `rt ci` prove them there, or take them from the toolchain's store."""
+    proving.copy_crates(names, libraries, top)
     if names:
         settings = {"stdin": subprocess.DEVNULL, "stdout": subprocess.PIPE, "stderr": subprocess.STDOUT, "text": True, "errors": "replace"}
         ran = subprocess.run(["rt", "ci"], cwd=libraries, **settings)
         if ran.returncode:
-            raise Failed("".join(["the crates below are not proved:\n", *ran.stdout.splitlines(keepends=True)[-60:]]))
-    stamp.write_text(now)
+            raise Failed("".join([f"not proved: {' '.join(names)}\n", *ran.stdout.splitlines(keepends=True)[-60:]]))
 
 
 class Checker:

@@ -3,15 +3,15 @@
 from regdtools.program import CRATES, ROOT
 
 
-def listed():
-    """Returns the libraries that each crate lists in crates.txt, by the crate's name, lowest crate first."""
-    lines = (line.partition("#")[0].partition(":") for line in (ROOT / "crates.txt").read_text().splitlines())
+def listed(root=ROOT):
+    """Returns the libraries that each crate of a checkout lists in crates.txt, by the crate's name, lowest crate first."""
+    lines = (line.partition("#")[0].partition(":") for line in (root / "crates.txt").read_text().splitlines())
     return {name.split()[0]: libraries.split() for name, _, libraries in lines if name.strip()}
 
 
-def below(crates):
-    """Returns the crates of the repository that these depend on, lowest first."""
-    libraries, found = listed(), {*crates}
+def below(crates, root=ROOT):
+    """Returns the crates of a checkout that these depend on, lowest first."""
+    libraries, found = listed(root), {*crates}
     for crate in reversed(libraries):
         if crate in found:
             found.update(libraries[crate])

@@ -1,9 +1,9 @@
 """Builds programs over the verified crates, runs them, and reads what they measured.
 
-A driver is a program bench/drivers/NAME.rattle. It is not part of the repository's crates: it is built in another folder, as a
-crate of a repository of its own. A driver satisfies the conditions of the calls that it measures by construction, but that is
-not proved: it assumes them by calling the C function `assumed` (bench/assume.c), whose contract is false. The compiler's output
-for the verified crates is not affected. A driver proves nothing.
+A driver is a program bench/drivers/NAME.rattle. It is not part of the repository's crates, and is built in another folder. A driver
+satisfies the conditions of the calls that it measures by construction, but that is not proved: it assumes them by calling the C function
+`assumed` (bench/assume.c), whose contract is false. The compiler's output for the verified crates is not affected. A driver proves
+nothing.
 
 A peer is an ordinary Rust program bench/peers/NAME.rs that does the same work with the standard library alone.
 """
@@ -14,6 +14,7 @@ import statistics
 import subprocess
 import sys
 
+from regdtools import checking, crates
 from regdtools.program import ROOT
 
 DRIVERS, PEERS = ROOT / "bench/drivers", ROOT / "bench/peers"
@@ -26,37 +27,28 @@ def peer(name, folder):
     return program
 
 
-def lay_out(folder, name, crates, uses, root=ROOT):
-    """Builds the crates of a checkout, and lays out a repository in `folder` that has them and the driver `name`.
+def built(folder, name, uses, root=ROOT):
+    """Builds the driver `name` in an empty folder, over the crates of a checkout, and returns the path of the program.
 
-    `uses` are the crates and libraries that the driver uses, separated by spaces.
+    `uses` are the crates and libraries that the driver uses, separated by spaces. `rt ci` proves the crates in the folder, or takes
+    them from the toolchain's store.
     """
-    for crate in crates:
-        subprocess.run(["rt", "lib"], cwd=root / "crates" / crate, stdout=sys.stderr, check=True)
-    lines = (root / "crates.txt").read_text().splitlines()
-    lines = [line for line in lines if line.partition(":")[0] in crates]
-    (folder / "crates.txt").write_text("\n".join([*lines, f"{name}: {uses}"]) + "\n")
-    for crate in crates:
-        for part in ["src", "specs", "proofs", "out/rlib"]:
-            if (root / "crates" / crate / part).exists():
-                shutil.copytree(root / "crates" / crate / part, folder / "crates" / crate / part)
-    made, source = folder / "crates" / name, DRIVERS / f"{name}.rattle"
+    made, source, kit, uses = folder / "drivers" / name, DRIVERS / f"{name}.rattle", checking.toolchain(), uses.split()
+    names = {*uses, *crates.below(uses, root)}
+    below = [it for it in crates.listed(root) if it in names]
+    checking.prove(below, folder / "libraries", root)
     (made / "src").mkdir(parents=True)
     shutil.copy(source, made / "src/main.rt")
+    words = ["--crate-name", name, "src/main.rt", *checking.over(folder / "libraries", uses, below)]
+    more = ["--toolchain", kit / "toolchain", "--backend", "llvm", "-o", f"{name}.o"]
+    linked = [f"{name}.o", kit / "c/libos_c.a", kit / "c/liblibc_c.a"]
     if "fn assumed()" in source.read_text():
-        (made / "c").mkdir()
-        shutil.copy(ROOT / "bench/assume.c", made / "c/assume.c")
-
-
-def built(folder, name, words):
-    """Builds the driver `name` of such a repository and returns the path of the program.
-
-    The build includes a first run, with these words: choose them so that it is short.
-    """
-    crate = folder / "crates" / name
-    permitted = os.environ | {"RT_ALLOW_C": name}
-    subprocess.run(["rt", "run", "--", *words], cwd=crate, env=permitted, stdout=sys.stderr, check=True)
-    return crate / "out" / name
+        subprocess.run(["cc", "-O2", "-fPIC", "-fno-lto", "-c", ROOT / "bench/assume.c", "-o", "assume.o"], cwd=made, check=True)
+        linked.append("assume.o")
+    subprocess.run([kit / "bin/rattle", "build", *words, *more], cwd=made, stdout=sys.stderr, check=True)
+    words = ["--target", "x86_64-unknown-linux-gnu", "--toolchain", kit / "toolchain", "-o", name, *linked]
+    subprocess.run([kit / "bin/rattle-link", *words], cwd=made, stdout=sys.stderr, check=True)
+    return made / name
 
 
 def run(program, words):

@@ -34,8 +34,7 @@ def check(folder, calls):
     unknown = [call for call in calls if call not in CALLS]
     if unknown:
         sys.exit(f"unknown calls: {', '.join(unknown)}")
-    drivers.lay_out(folder, DRIVER, CRATES, " ".join(CRATES))
-    program = drivers.built(folder, DRIVER, ["13", "1"])
+    program = drivers.built(folder, DRIVER, " ".join(CRATES))
     runs, wrong = Runs(folder), 0
 
     def allocations(call, times):
