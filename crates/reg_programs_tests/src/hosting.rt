@@ -188,14 +188,15 @@ fn host_by<
 }
 
 fn on_a_port<
+    'x,
     J: Naming + Send + Sync,
     R: Threads + Wait + Clock + Net<Listener = TcpListener, Stream = TcpStream> + Sync,
     C: Callers,
 >(
     rt: &R,
     alloc: Global,
-    registry: &Registry<J>,
-    domain: &TrustDomain,
+    registry: &'x Registry<J>,
+    domain: &'x TrustDomain,
     plan: Plan<'_>,
     callers: &C,
 ) -> Result<Hosted, Fail>
@@ -222,14 +223,15 @@ fn on_a_port<
 
 /// Runs the server and its clients concurrently.
 fn both<
+    'x,
     J: Naming + Send + Sync,
     R: Threads + Wait + Clock + Net<Listener = TcpListener, Stream = TcpStream> + Sync,
     C: Callers,
 >(
     rt: &R,
     alloc: Global,
-    registry: &Registry<J>,
-    domain: &TrustDomain,
+    registry: &'x Registry<J>,
+    domain: &'x TrustDomain,
     seats: Vec<Seat<J>>,
     queues: &[Queue],
     real: TcpListener,
