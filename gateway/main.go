@@ -14,6 +14,7 @@ import (
 	"os/signal"
 	"strings"
 	"syscall"
+	"time"
 
 	"regd/gateway/internal/etcd"
 	"regd/gateway/internal/logline"
@@ -23,6 +24,9 @@ import (
 
 // sumVersion changes with the way in which replies make a checksum.
 const sumVersion = "1"
+
+// statusTime is how long a request for the status, and its answer, may take.
+const statusTime = 10 * time.Second
 
 type settings struct {
 	server.Options
@@ -134,8 +138,7 @@ func run(ctx context.Context, s settings) error {
 		if err != nil {
 			return err
 		}
-		http.Handle("/status", g)
-		go http.Serve(on, nil)
+		go (&http.Server{Handler: g.Handler(), ReadTimeout: statusTime, WriteTimeout: statusTime}).Serve(on)
 	}
 	return g.Run(ctx, func(ctx context.Context) error { return serve(ctx, g, s) })
 }

@@ -2,6 +2,7 @@ package main
 
 import (
 	"bufio"
+	"bytes"
 	"context"
 	"crypto/ecdsa"
 	"crypto/elliptic"
@@ -163,6 +164,17 @@ func (s site) expect(what, got, want string) {
 	}
 }
 
+// get returns what an address answers over HTTP.
+func (s site) get(url string) string {
+	answer, err := http.Get(url)
+	if err != nil {
+		s.t.Fatal(err)
+	}
+	defer answer.Body.Close()
+	text, _ := io.ReadAll(answer.Body)
+	return string(text)
+}
+
 // freeAddress returns an address at which nothing listens.
 func (s site) freeAddress() string {
 	on, err := net.Listen("tcp", "127.0.0.1:0")
@@ -182,15 +194,13 @@ func TestProgram(t *testing.T) {
 		s.expect("a change", s.call(address, prune), fmt.Sprintf(`{"call":1,"place":%d,"replies":[{"pruned":["%d"]}],"result":"committed"}`+"\n", place, place))
 	}
 	s.expect("a fresh query", s.call(fresh, show), `{"call":1,"place":3,"replies":[],"result":"answered"}`+"\n")
-	answer, err := http.Get("http://" + state + "/status")
-	if err != nil {
-		t.Fatal(err)
-	}
-	text, _ := io.ReadAll(answer.Body)
-	answer.Body.Close()
+	text := s.get("http://" + state + "/status")
 	var values struct{ Name, Program string }
-	if json.Unmarshal(text, &values); values.Name != "g" || values.Program != label(t) {
+	if json.Unmarshal([]byte(text), &values); values.Name != "g" || values.Program != label(t) {
 		t.Errorf("status: got %s", text)
+	}
+	if text := s.get("http://" + state + "/metrics"); !strings.Contains(text, "\nregd_gateway_ready 1\n") {
+		t.Errorf("metrics: got %s", text)
 	}
 	s.store.Refuse(1 << 30)
 	s.expect("a query while etcd refuses", s.call(address, show), `{"call":1,"place":3,"replies":[],"result":"answered"}`+"\n")
@@ -267,6 +277,35 @@ func TestFiles(t *testing.T) {
 	s.expect("an operator", s.ask(conn, prune), `{"call":1,"place":1,"replies":[{"pruned":["1"]}],"result":"committed"}`+"\n")
 	if answer := s.call(address, show); strings.Contains(answer, "answered") {
 		t.Errorf("a caller in plain text got %s", answer)
+	}
+}
+
+// TestFailuresAreLoggedOnce lets etcd refuse requests for a second: the program logs one line when that begins, and one when it ends.
+func TestFailuresAreLoggedOnce(t *testing.T) {
+	s := newSite(t)
+	var logged bytes.Buffer
+	state := s.freeAddress()
+	gateway := s.command("-status", state)
+	gateway.Stderr = &logged
+	out, _ := gateway.StdoutPipe()
+	if err := gateway.Start(); err != nil {
+		t.Fatal(err)
+	}
+	t.Cleanup(func() { gateway.Process.Kill() })
+	bufio.NewReader(out).ReadString('\n')
+	s.store.Refuse(1 << 30)
+	time.Sleep(1500 * time.Millisecond) // in which where the log ends is asked, and asked again
+	if text := s.get("http://" + state + "/metrics"); strings.Contains(text, "\nregd_gateway_etcd_failures_total 0\n") {
+		t.Errorf("metrics: got %s", text)
+	}
+	s.store.Refuse(0)
+	time.Sleep(time.Second)
+	gateway.Process.Signal(syscall.SIGTERM)
+	s.status(gateway)
+	for _, event := range []string{`event="etcd doesn't answer" path="/v3/kv/range"`, `event="etcd answers again" path="/v3/kv/range"`} {
+		if count := strings.Count(logged.String(), event); count != 1 {
+			t.Errorf("%s: %d times in %s", event, count, logged.String())
+		}
 	}
 }
 

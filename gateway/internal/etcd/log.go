@@ -10,10 +10,11 @@ import (
 	"fmt"
 	"net/http"
 	"strconv"
+	"sync"
 	"sync/atomic"
-	"time"
 
 	"regd/gateway/internal/logline"
+	"regd/gateway/internal/metrics"
 )
 
 // Errors of the log.
@@ -22,15 +23,20 @@ var (
 	ErrUnknown = errors.New("it is not known whether an entry was made: the one of its number was cut off")
 )
 
+const txnPath = "/v3/kv/txn"
+
 // pageSize is how many entries are read at a time. They may have a megabyte each.
 const pageSize = 64
 
 // A Log is a list of entries, numbered from 1 without a gap in the order in which they were accepted. The entry n is the key log/n, and the
 // key head has the number of the last one.
 type Log struct {
+	Unanswered metrics.Counter // requests that no member answered
+
 	members  []string
 	prefix   string
 	failures atomic.Uint64 // of requests, which choose the member
+	failing  sync.Map      // the kinds of requests of which the last one failed
 	http     http.Client
 }
 
@@ -42,7 +48,7 @@ func New(members []string, prefix string, config *tls.Config) *Log {
 
 // Open prepares the log for a trust domain. It returns an error if the log is that of another one.
 func (l *Log) Open(ctx context.Context, domain string) error {
-	err := l.insist(ctx, "/v3/kv/txn", object{
+	err := l.insist(ctx, 0, txnPath, object{
 		"compare": []object{{"target": "CREATE", "key": l.key("head"), "create_revision": "0"}},
 		"success": []object{l.writing("head", []byte("0")), l.writing("domain", []byte(domain))},
 	}, &struct{}{})
@@ -114,12 +120,15 @@ func (l *Log) Append(ctx context.Context, number uint64, value []byte) (last uin
 	for isOpen := false; ; {
 		var had []pair
 		var done transaction
-		most := callTime + time.Duration(len(value))*byteTime // the answer may have a value of another gateway, which is about as large
-		err := l.call(ctx, most, "/v3/kv/txn", object{
+		// the answer may have a value of another gateway, which is about as large
+		err := l.call(ctx, timeFor(len(value)), txnPath, object{
 			"compare": []object{{"target": "VALUE", "key": l.key("head"), "value": decimal(number - 1)}},
 			"success": []object{l.writing(EntryKey(number), value), l.writing("head", decimal(number))},
 			"failure": []object{l.reading(EntryKey(number)), l.reading("head")},
 		}, &done)
+		if err == nil {
+			l.answers(txnPath)
+		}
 		if err == nil && !done.Succeeded {
 			had, last, err = done.read()
 		}
@@ -127,7 +136,7 @@ func (l *Log) Append(ctx context.Context, number uint64, value []byte) (last uin
 		case ctx.Err() != nil:
 			return 0, ctx.Err()
 		case err != nil: // it may have been made, or may still be made
-			logline.Error("no answer to an append", "entry", number, "error", err)
+			l.fails(txnPath, err)
 			isOpen = true
 			Pause(ctx, retryTime)
 		case done.Succeeded:
@@ -158,7 +167,7 @@ func (l *Log) Follow(ctx context.Context, next uint64, caughtUp func(last uint64
 	}
 	for {
 		var page transaction
-		err := l.call(ctx, pageTime, "/v3/kv/txn", object{"success": []object{
+		err := l.call(ctx, pageTime, txnPath, object{"success": []object{
 			// bounded by keys: given a limit, etcd also counts all keys after the page
 			{"request_range": object{"key": l.key(EntryKey(next)), "range_end": l.key(EntryKey(next + pageSize))}},
 			l.reading("head"),
@@ -215,7 +224,7 @@ func (l *Log) watch(ctx context.Context, revision int64, pass func(...pair) erro
 // Cut deletes the entries up to a number, some at a time, since etcd does nothing else while it deletes.
 func (l *Log) Cut(ctx context.Context, last uint64) error {
 	for {
-		page, err := l.find(ctx, object{"key": l.key("log/"), "range_end": l.key(EntryKey(last + 1)), "limit": "1000", "keys_only": true})
+		page, err := l.find(ctx, 0, object{"key": l.key("log/"), "range_end": l.key(EntryKey(last + 1)), "limit": "1000", "keys_only": true})
 		if err != nil || len(page) == 0 {
 			return err
 		}

@@ -95,8 +95,8 @@ func TestSlowPage(t *testing.T) {
 	}
 }
 
-// TestLargeAppend checks that the append of a large entry may take longer than another request.
-func TestLargeAppend(t *testing.T) {
+// TestLargeValues checks that requests with large values may take longer than others.
+func TestLargeValues(t *testing.T) {
 	store, _, ctx := openLog(t)
 	slow := httptest.NewServer(http.HandlerFunc(func(w http.ResponseWriter, r *http.Request) {
 		select {
@@ -106,10 +106,16 @@ func TestLargeAppend(t *testing.T) {
 		}
 	}))
 	defer slow.Close()
-	begin := time.Now()
-	last, err := New([]string{slow.URL}, "r/", nil).Append(ctx, 1, make([]byte, 1<<20))
-	if took := time.Since(begin); last != 1 || err != nil || took > 3*callTime {
-		t.Errorf("got %d, %v after %v", last, err, took)
+	log := New([]string{slow.URL}, "r/", nil)
+	for name, request := range map[string]func() error{
+		"an append":  func() error { _, err := log.Append(ctx, 1, make([]byte, 1<<20)); return err },
+		"a piece":    func() error { return log.Put(ctx, "piece", make([]byte, 1<<19)) },
+		"reading it": func() error { _, err := log.GetLarge(ctx, "piece", 1<<19); return err },
+	} {
+		begin := time.Now()
+		if err, took := request(), time.Since(begin); err != nil || took > 3*callTime {
+			t.Errorf("%s: got %v after %v", name, err, took)
+		}
 	}
 }
 

@@ -3,6 +3,7 @@ package server
 import (
 	"context"
 	"fmt"
+	"time"
 
 	"regd/gateway/internal/etcd"
 	"regd/gateway/internal/logline"
@@ -29,10 +30,12 @@ func (g *Gateway) appendChanges(ctx context.Context) error {
 		changes, lines := g.collect(ctx)
 		name := fmt.Sprintf("%s.%d", g.run, count)
 		g.flights.Store(name, changes)
+		began := time.Now()
 		last, err := g.log.Append(ctx, next, etcd.JoinEntry(name, lines))
 		if ctx.Err() != nil {
 			return ctx.Err()
 		}
+		g.appends.Observe(time.Since(began))
 		if err != nil { // to append the changes again might make them twice
 			logline.Error("append failed", "entry", name, "error", err)
 			g.flights.Delete(name)
@@ -53,6 +56,8 @@ func (g *Gateway) collect(ctx context.Context) (changes []*request, lines [][]by
 			if !c.left.Load() {
 				changes, lines = append(changes, c), append(lines, c.line)
 				size += len(c.line)
+			} else {
+				g.dropped.Inc()
 			}
 		case <-ctx.Done():
 			return nil, nil

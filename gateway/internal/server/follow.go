@@ -24,6 +24,7 @@ func (g *Gateway) follow(ctx context.Context) error {
 		if ctx.Err() != nil {
 			return ctx.Err()
 		}
+		g.replicasEnded.Inc()
 		logline.Error("replica ended", "error", err)
 		etcd.Pause(ctx, againTime)
 	}
@@ -43,10 +44,15 @@ func (g *Gateway) runReplica(ctx context.Context) error {
 		return err
 	}
 	defer g.board.update(func() { g.board.replica = nil })
+	isReady := false
 	caughtUp := func(last uint64) {
 		if r.Settle(); r.State().Entry >= last { // less if regd has ended
 			g.board.update(func() { g.board.replica, g.board.state = r, r.State() })
-			logline.Info("replica ready", "entry", last, "place", r.State().Place, "seconds", fmt.Sprintf("%.2f", time.Since(began).Seconds()))
+			if took := time.Since(began); !isReady {
+				isReady = true
+				g.replays.Observe(took)
+				logline.Info("replica ready", "entry", last, "place", r.State().Place, "seconds", fmt.Sprintf("%.2f", took.Seconds()))
+			}
 		}
 	}
 	take := func(number uint64, value []byte) {

@@ -6,10 +6,7 @@ import (
 	"bufio"
 	"context"
 	"crypto/tls"
-	"encoding/json"
-	"fmt"
 	"net"
-	"net/http"
 	"sync"
 	"sync/atomic"
 	"time"
@@ -24,11 +21,11 @@ import (
 type Limits struct {
 	Answer, After    time.Duration // for an answer, after which the connection ends; for the commit number that a query names
 	Handshake, Write time.Duration // for the TLS handshake of a caller; for a caller to read when its answers fill all buffers
-	Votes            time.Duration // between two looks at the votes
+	Votes, Members   time.Duration // between two looks at the votes, and at the members of etcd
 }
 
 // UsualLimits are those of the program. Tests shorten some.
-var UsualLimits = Limits{20 * time.Second, 2 * time.Second, 10 * time.Second, 60 * time.Second, 5 * time.Second}
+var UsualLimits = Limits{20 * time.Second, 2 * time.Second, 10 * time.Second, 60 * time.Second, 5 * time.Second, 10 * time.Second}
 
 // Options configure a gateway.
 type Options struct {
@@ -52,10 +49,11 @@ type Gateway struct {
 	marks   chan replica.State // checksums to vote for
 
 	isDisputed atomic.Bool
-	sessions   atomic.Int64 // open ones
-	accepted   atomic.Int64
+	sessions   atomic.Int64  // open ones
 	head       atomic.Uint64 // where the log ended when etcd was last asked
 	headTime   atomic.Int64  // when that was, in seconds
+	members    atomic.Pointer[[]etcd.Member]
+	stats
 }
 
 // New returns a gateway of a log.
@@ -78,7 +76,7 @@ func (g *Gateway) heard(head uint64) {
 func (g *Gateway) Run(ctx context.Context, serve func(context.Context) error) error {
 	ctx, stop := context.WithCancel(ctx)
 	defer stop()
-	parts := []func(context.Context) error{g.follow, g.appendChanges, g.compare, func(ctx context.Context) error {
+	parts := []func(context.Context) error{g.follow, g.appendChanges, g.compare, g.askMembers, func(ctx context.Context) error {
 		if !g.board.wait(ctx, 0, 0) {
 			return ctx.Err()
 		}
@@ -102,15 +100,19 @@ func (g *Gateway) Serve(ctx context.Context, on net.Listener, isFresh bool) erro
 		<-ctx.Done()
 		on.Close()
 	}()
-	for {
+	for isFailing := false; ; {
 		conn, err := on.Accept()
 		switch {
 		case err == nil:
+			isFailing = false
 			go g.receive(ctx, conn, isFresh)
 		case ctx.Err() != nil:
 			return ctx.Err()
 		default: // such as: no free descriptor
-			logline.Error("accept failed", "error", err)
+			if !isFailing {
+				logline.Error("accept failed", "error", err)
+			}
+			isFailing = true
 			etcd.Pause(ctx, 10*time.Millisecond)
 		}
 	}
@@ -126,6 +128,7 @@ func (g *Gateway) receive(ctx context.Context, conn net.Conn, isFresh bool) {
 		secure := tls.Server(conn, g.options.TLS)
 		conn.SetDeadline(time.Now().Add(g.options.Limits.Handshake))
 		if secure.HandshakeContext(ctx) != nil {
+			g.ended.Inc("handshake")
 			return
 		}
 		conn.SetDeadline(time.Time{})
@@ -135,21 +138,4 @@ func (g *Gateway) receive(ctx context.Context, conn net.Conn, isFresh bool) {
 	s := &session{Gateway: g, conn: conn, in: bufio.NewReaderSize(conn, readBuffer), agent: id, isOperator: isOperator, isFresh: isFresh,
 		number: int(g.accepted.Add(1))}
 	s.serve(ctx)
-}
-
-// ServeHTTP answers with the status of the gateway as JSON: with 200 if it answers queries, otherwise with 503.
-func (g *Gateway) ServeHTTP(w http.ResponseWriter, _ *http.Request) {
-	r, state := g.board.read()
-	status := map[string]any{
-		"name": g.options.Name, "program": g.options.Program, "ready": r != nil, "disputed": g.isDisputed.Load(),
-		"entry": state.Entry, "place": state.Place, "sum": fmt.Sprintf("%x", state.Sum),
-		"head": g.head.Load(), "silent": time.Now().Unix() - g.headTime.Load(), "sessions": g.sessions.Load(),
-	}
-	w.Header().Set("Content-Type", "application/json")
-	if r == nil {
-		w.WriteHeader(http.StatusServiceUnavailable)
-	} else {
-		status["regd"], status["tokens"] = r.Pid(), len(r.Tokens())
-	}
-	json.NewEncoder(w).Encode(status)
 }

@@ -5,13 +5,10 @@ import (
 	"bytes"
 	"context"
 	"crypto/tls"
-	"encoding/json"
 	"fmt"
 	"io"
 	"net"
-	"net/http/httptest"
 	"os"
-	"reflect"
 	"strings"
 	"sync/atomic"
 	"testing"
@@ -245,7 +242,7 @@ func TestSilentWatch(t *testing.T) {
 	if counts := s.store.Counts(); counts.Watches != 3 {
 		t.Errorf("%d watches: those of a gateway that misses nothing stay", counts.Watches)
 	}
-	if after, _ := g.board.read(); after != before {
+	if after, _ := g.board.read(); after != before || samples(t, g)["regd_gateway_replay_duration_seconds_count"] != 1 {
 		t.Error("another replica was made")
 	}
 }
@@ -368,6 +365,9 @@ func TestCallerLeft(t *testing.T) {
 		time.Sleep(10 * time.Millisecond)
 	}
 	s.expect("a change", s.call(address, prune), committed(1, 2))
+	if got := samples(t, g)["regd_gateway_changes_dropped_total"]; got != 2 {
+		t.Errorf("%v changes were dropped", got)
+	}
 }
 
 // TestSlowCallers checks that a caller that never reads, and one that never begins its handshake, are cut off.
@@ -397,58 +397,9 @@ func TestSlowCallers(t *testing.T) {
 	if _, err := in.ReadByte(); err != io.EOF {
 		t.Errorf("a caller without a handshake: got %v", err)
 	}
-	for i := 0; g.sessions.Load()+secure.sessions.Load() > 0; i++ {
-		if i == 500 {
-			t.Fatal("a connection stays")
-		}
-		time.Sleep(10 * time.Millisecond)
+	within(t, "a connection stays", func() bool { return g.sessions.Load()+secure.sessions.Load() == 0 })
+	const ended = "regd_gateway_connections_ended_total"
+	if samples(t, g)[ended+`{reason="write"}`] != 1 || samples(t, secure)[ended+`{reason="handshake"}`] != 1 {
+		t.Errorf("got %v and %v", samples(t, g), samples(t, secure))
 	}
-}
-
-// status returns the code and the values of a gateway's status.
-func status(t *testing.T, g *Gateway) (int, map[string]any) {
-	t.Helper()
-	answer := httptest.NewRecorder()
-	g.ServeHTTP(answer, nil)
-	var values map[string]any
-	if err := json.Unmarshal(answer.Body.Bytes(), &values); err != nil || answer.Header().Get("Content-Type") != "application/json" {
-		t.Fatalf("got %v, %v", answer, err)
-	}
-	return answer.Code, values
-}
-
-func TestStatus(t *testing.T) {
-	s := newSite(t)
-	g, address, _ := s.gateway("a")
-	s.call(address, prune)
-	s.call(address, `{"ops":[{"op":"prune"}],"token":"00000000-0000-0000-0000-000000000001"}`)
-	s.dial(address)
-	g.isDisputed.Store(true)
-	within(t, "no connection", func() bool { return g.sessions.Load() == 1 })
-	within(t, "the log doesn't end at the head", func() bool { _, values := status(t, g); return values["head"] == 2.0 })
-	r, state := g.board.read()
-	code, values := status(t, g)
-	silent, _ := values["silent"].(float64)
-	delete(values, "silent")
-	want := map[string]any{"name": "a", "program": "p", "ready": true, "disputed": true, "entry": float64(state.Entry), "place": 2.0,
-		"sum": fmt.Sprintf("%x", state.Sum), "head": 2.0, "sessions": 1.0, "regd": float64(r.Pid()), "tokens": 1.0}
-	if code != 200 || !reflect.DeepEqual(values, want) || silent > 5 {
-		t.Errorf("got %d, %v", code, values)
-	}
-	code, values = status(t, New(s.log, Options{Limits: s.limits}))
-	if code != 503 || values["ready"] != false || values["disputed"] != false || values["silent"].(float64) > 1 {
-		t.Errorf("without a replica: got %d, %v", code, values)
-	}
-}
-
-// TestSilent checks that the status says for how long etcd has not answered.
-func TestSilent(t *testing.T) {
-	t.Parallel()
-	s := newSite(t)
-	g, _, _ := s.gateway("a")
-	silent := func() float64 { _, values := status(t, g); return values["silent"].(float64) }
-	s.store.Refuse(1 << 30)
-	within(t, "etcd is silent", func() bool { return silent() >= 3 })
-	s.store.Refuse(0)
-	within(t, "etcd is not silent", func() bool { return silent() < 3 })
 }

@@ -42,6 +42,7 @@ type session struct {
 
 // A request is a line of a caller.
 type request struct {
+	began time.Time // when the line was read
 	line  []byte
 	place uint64       // of the oldest book that may answer a query
 	reply chan []byte  // with room for one reply; nil if the answer can't be known
@@ -100,7 +101,7 @@ func (s *session) hasLine() bool {
 
 // add adds the line that was read last to the row.
 func (s *session) add(line []byte) *request {
-	q := &request{line: line, reply: make(chan []byte, 1), left: &s.left}
+	q := &request{began: time.Now(), line: line, reply: make(chan []byte, 1), left: &s.left}
 	s.row = append(s.row, q)
 	return q
 }
@@ -148,9 +149,11 @@ func (s *session) writeAnswers(ctx context.Context, most int) bool {
 		s.row = s.row[1:]
 		reply := s.await(ctx, q)
 		if reply == nil {
+			s.ended.Inc("answer")
 			s.flush()
 			return false
 		}
+		s.note(q, reply)
 		if place := wire.Place(reply); place > s.place {
 			s.place = place
 		}
@@ -162,6 +165,18 @@ func (s *session) writeAnswers(ctx context.Context, most int) bool {
 		}
 	}
 	return s.flush()
+}
+
+// note counts an answer.
+func (s *session) note(q *request, reply []byte) {
+	kind := &s.queries
+	if s.isChanging {
+		kind = &s.changed
+	}
+	kind.Observe(time.Since(q.began))
+	if code := wire.Code(reply); code != "" {
+		s.refusals.Inc(code)
+	}
 }
 
 // await returns the answer to a line, or nil. It asks a query again if regd ended, and if the reply is too old.
@@ -201,6 +216,8 @@ func (s *session) flush() bool {
 	}
 	s.conn.SetWriteDeadline(time.Now().Add(s.options.Limits.Write))
 	_, err := s.conn.Write(s.out)
-	s.out = s.out[:0]
+	if s.out = s.out[:0]; err != nil {
+		s.ended.Inc("write")
+	}
 	return err == nil
 }

@@ -51,7 +51,7 @@ func read(ctx context.Context, log *etcd.Log) (c content, err error) {
 	text = nil
 	for i := 0; i < h.Chunks && err == nil; i++ {
 		var chunk []byte
-		chunk, err = log.Get(ctx, chunkKey(h.Entry, i))
+		chunk, err = log.GetLarge(ctx, chunkKey(h.Entry, i), chunkSize)
 		text = append(text, chunk...)
 	}
 	if err == nil {

@@ -12,7 +12,7 @@ SOURCES = TOP / "gateway"
 COMMANDS = {"go": "golang-go", "etcd": "etcd-server", "haproxy": "haproxy", "openssl": "openssl", "jq": "jq", "nc": "netcat-openbsd"}
 
 # how many lines of Go the gateway may have, without tests, comments and blank lines
-LINES = 2000
+LINES = 3000
 
 Programs = collections.namedtuple("Programs", "gateway regd load")
 

@@ -23,6 +23,7 @@ type Server struct {
 	loseAnswers, refuse int
 	held                int      // the number of the watch that is held
 	told                []string // lines that all open watches got
+	alarms              []string
 	counts              Counts
 
 	untilBefore int // transactions
@@ -31,7 +32,7 @@ type Server struct {
 
 // Counts says what a server was asked for.
 type Counts struct {
-	Requests     int // but for watches
+	Requests     int // but for watches and states
 	Transactions int // with a condition
 	Pages        int // transactions without one
 	Watches      int
@@ -54,9 +55,13 @@ func New() *Server {
 	mux.HandleFunc("/v3/watch", s.watch)
 	for path, handle := range map[string]func(*request) object{
 		"/v3/kv/range": s.find, "/v3/kv/put": s.put, "/v3/kv/deleterange": s.delete, "/v3/kv/txn": s.transact,
+		"/v3/maintenance/status": s.status,
 	} {
 		mux.HandleFunc(path, s.handler(handle))
 	}
+	mux.HandleFunc("/metrics", func(w http.ResponseWriter, _ *http.Request) {
+		fmt.Fprint(w, "# TYPE etcd_server_quota_backend_bytes gauge\netcd_server_quota_backend_bytes 2.097152e+06\n")
+	})
 	s.Server = httptest.NewServer(mux)
 	return s
 }
@@ -161,7 +166,9 @@ func (s *Server) handler(handle func(*request) object) http.HandlerFunc {
 		}
 		s.mu.Lock()
 		defer s.mu.Unlock()
-		s.counts.Requests++
+		if r.URL.Path != "/v3/maintenance/status" {
+			s.counts.Requests++
+		}
 		if r.Header.Get("Grpc-Metadata-hasleader") != "true" {
 			http.Error(w, "this member might answer without a majority", http.StatusBadRequest)
 			return
@@ -180,6 +187,13 @@ func (s *Server) handler(handle func(*request) object) http.HandlerFunc {
 		answer["header"] = object{"revision": strconv.FormatInt(s.revision, 10)}
 		json.NewEncoder(w).Encode(answer)
 	}
+}
+
+// Alarm makes the server report an alarm, or none.
+func (s *Server) Alarm(alarms ...string) { s.mu.Lock(); s.alarms = alarms; s.mu.Unlock() }
+
+func (s *Server) status(*request) object {
+	return object{"dbSize": "1048576", "dbSizeInUse": "4096", "errors": s.alarms}
 }
 
 func (s *Server) find(in *request) object {

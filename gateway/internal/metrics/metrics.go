@@ -1,0 +1,112 @@
+// Package metrics has counters and histograms, and writes them in the text format of Prometheus.
+package metrics
+
+import (
+	"bytes"
+	"fmt"
+	"sort"
+	"strconv"
+	"strings"
+	"sync"
+	"sync/atomic"
+	"time"
+)
+
+// ContentType is the type of a Page.
+const ContentType = "text/plain; version=0.0.4; charset=utf-8"
+
+// A Counter is a number that only grows. The zero value is ready, and so are those of the other types.
+type Counter struct{ atomic.Uint64 }
+
+// Inc adds 1.
+func (c *Counter) Inc() { c.Add(1) }
+
+// A Vector has a counter for each value of a label.
+type Vector struct{ counters sync.Map } // from values to *Counter
+
+// Inc adds 1 to the counter of a value. The values have to be few.
+func (v *Vector) Inc(value string) {
+	counter, ok := v.counters.Load(value)
+	if !ok {
+		counter, _ = v.counters.LoadOrStore(value, new(Counter))
+	}
+	counter.(*Counter).Inc()
+}
+
+// bounds has the upper bounds of the buckets of a histogram, in seconds.
+var bounds = [...]float64{.0001, .00025, .0005, .001, .0025, .005, .01, .025, .05, .1, .25, .5, 1, 2.5, 5, 10, 20}
+
+// A Histogram counts durations.
+type Histogram struct {
+	counts [len(bounds) + 1]atomic.Uint64 // of each bucket, without those below it
+	sum    atomic.Int64                   // nanoseconds
+}
+
+// Observe adds a duration.
+func (h *Histogram) Observe(took time.Duration) {
+	h.counts[sort.SearchFloat64s(bounds[:], took.Seconds())].Add(1)
+	h.sum.Add(int64(took))
+}
+
+// A Page is a text for Prometheus. Each method adds a metric with its help.
+type Page struct{ bytes.Buffer }
+
+func (p *Page) begin(kind, name, help string) {
+	fmt.Fprintf(p, "# HELP %s %s\n# TYPE %s %s\n", name, help, name, kind)
+}
+
+func (p *Page) sample(name string, value float64) {
+	fmt.Fprintf(p, "%s %s\n", name, strconv.FormatFloat(value, 'f', -1, 64))
+}
+
+// Gauge adds a number that may grow and shrink.
+func (p *Page) Gauge(name, help string, value float64) {
+	p.begin("gauge", name, help)
+	p.sample(name, value)
+}
+
+// Info adds the value 1 with labels, which are keys, each followed by its value.
+func (p *Page) Info(name, help string, labels ...string) {
+	p.begin("gauge", name, help)
+	var pairs []string
+	for i := 0; i+1 < len(labels); i += 2 {
+		pairs = append(pairs, fmt.Sprintf("%s=%q", labels[i], labels[i+1]))
+	}
+	p.sample(name+"{"+strings.Join(pairs, ",")+"}", 1)
+}
+
+// Counter adds a counter.
+func (p *Page) Counter(name, help string, c *Counter) {
+	p.begin("counter", name, help)
+	p.sample(name, float64(c.Load()))
+}
+
+// Vector adds the counters of all values of a label.
+func (p *Page) Vector(name, help, label string, v *Vector) {
+	p.begin("counter", name, help)
+	var samples []string
+	v.counters.Range(func(value, counter any) bool {
+		samples = append(samples, fmt.Sprintf("%s{%s=%q} %d\n", name, label, value, counter.(*Counter).Load()))
+		return true
+	})
+	sort.Strings(samples)
+	for _, sample := range samples {
+		p.WriteString(sample)
+	}
+}
+
+// Histogram adds a histogram.
+func (p *Page) Histogram(name, help string, h *Histogram) {
+	p.begin("histogram", name, help)
+	count := uint64(0)
+	for i := range h.counts {
+		bound := "+Inf"
+		if i < len(bounds) {
+			bound = strconv.FormatFloat(bounds[i], 'f', -1, 64)
+		}
+		count += h.counts[i].Load()
+		p.sample(fmt.Sprintf("%s_bucket{le=%q}", name, bound), float64(count))
+	}
+	p.sample(name+"_sum", time.Duration(h.sum.Load()).Seconds())
+	p.sample(name+"_count", float64(count))
+}

@@ -1,0 +1,150 @@
+package server
+
+import (
+	"context"
+	"encoding/json"
+	"fmt"
+	"net/http"
+	"time"
+
+	"regd/gateway/internal/etcd"
+	"regd/gateway/internal/metrics"
+)
+
+// silentLimit is how long etcd may be silent before a balancer should send changes to another gateway.
+const silentLimit = 5 * time.Second
+
+// stats are what a gateway counts.
+type stats struct {
+	changed, queries metrics.Histogram // the times from a line to its answer
+	appends, replays metrics.Histogram // those of entries, and of replicas from their start until they are ready
+	refusals         metrics.Vector    // answers with a code, by code
+	accepted         metrics.Counter   // connections
+	ended            metrics.Vector    // connections that this gateway ended, by reason
+	dropped          metrics.Counter   // changes of callers that had left
+	replicasEnded    metrics.Counter
+}
+
+// Handler answers /status, /metrics, /ready and /ready/changes.
+func (g *Gateway) Handler() http.Handler {
+	mux := http.NewServeMux()
+	mux.HandleFunc("/status", g.serveStatus)
+	mux.HandleFunc("/metrics", g.serveMetrics)
+	mux.HandleFunc("/ready", func(w http.ResponseWriter, _ *http.Request) {
+		serveReady(w, g.isReady())
+	})
+	mux.HandleFunc("/ready/changes", func(w http.ResponseWriter, _ *http.Request) {
+		serveReady(w, g.isReady() && g.silence() <= silentLimit)
+	})
+	return mux
+}
+
+// isReady returns true if queries can be answered.
+func (g *Gateway) isReady() bool {
+	r, _ := g.board.read()
+	return r != nil
+}
+
+// silence returns for how long etcd has not said where the log ends. It is asked once a second.
+func (g *Gateway) silence() time.Duration {
+	return time.Duration(time.Now().Unix()-g.headTime.Load()) * time.Second
+}
+
+// serveReady answers with 200 or 503.
+func serveReady(w http.ResponseWriter, isReady bool) {
+	if !isReady {
+		w.WriteHeader(http.StatusServiceUnavailable)
+	}
+	fmt.Fprintln(w, isReady)
+}
+
+// lag returns how many entries of the log the replica has not executed, as far as this gateway knows the log.
+func (g *Gateway) lag(entry uint64) uint64 {
+	if head := g.head.Load(); head > entry {
+		return head - entry
+	}
+	return 0
+}
+
+// serveStatus answers with the status of the gateway as JSON: with 200 if it answers queries, otherwise with 503.
+func (g *Gateway) serveStatus(w http.ResponseWriter, _ *http.Request) {
+	r, state := g.board.read()
+	isReady := g.isReady()
+	status := map[string]any{
+		"name": g.options.Name, "program": g.options.Program, "ready": isReady, "disputed": g.isDisputed.Load(),
+		"entry": state.Entry, "place": state.Place, "sum": fmt.Sprintf("%x", state.Sum),
+		"head": g.head.Load(), "lag": g.lag(state.Entry), "silent": g.silence().Seconds(), "sessions": g.sessions.Load(), "etcd": g.members.Load(),
+	}
+	w.Header().Set("Content-Type", "application/json")
+	if !isReady {
+		w.WriteHeader(http.StatusServiceUnavailable)
+	}
+	if r != nil {
+		status["regd"], status["tokens"] = r.Pid(), len(r.Tokens())
+	}
+	json.NewEncoder(w).Encode(status)
+}
+
+// askMembers keeps the states of etcd's members, until the context ends.
+func (g *Gateway) askMembers(ctx context.Context) error {
+	for ctx.Err() == nil {
+		members := g.log.Members(ctx)
+		g.members.Store(&members)
+		etcd.Pause(ctx, g.options.Limits.Members)
+	}
+	return ctx.Err()
+}
+
+// serveMetrics answers with the metrics that docs/GATEWAY.md lists.
+func (g *Gateway) serveMetrics(w http.ResponseWriter, _ *http.Request) {
+	is := map[bool]float64{true: 1}
+	var p metrics.Page
+	_, state := g.board.read()
+	const name = "regd_gateway_"
+	p.Info(name+"info", "Names of the gateway and of its regd.", "name", g.options.Name, "program", g.options.Program)
+	p.Gauge(name+"ready", "1 if queries can be answered.", is[g.isReady()])
+	p.Gauge(name+"disputed", "1 if another gateway has another checksum.", is[g.isDisputed.Load()])
+	p.Gauge(name+"connections", "Open connections of callers.", float64(g.sessions.Load()))
+	p.Counter(name+"connections_total", "Connections of callers.", &g.accepted)
+	p.Vector(name+"connections_ended_total", "Connections that the gateway ended, by reason.", "reason", &g.ended)
+	p.Histogram(name+"change_duration_seconds", "Times from a line that may be a change to its answer.", &g.changed)
+	p.Histogram(name+"query_duration_seconds", "Times from any other line to its answer.", &g.queries)
+	p.Vector(name+"refusals_total", "Answers with a code, by code.", "code", &g.refusals)
+	p.Histogram(name+"append_duration_seconds", "Times in which etcd accepted an entry of this gateway.", &g.appends)
+	p.Gauge(name+"changes_waiting", "Changes that wait to be appended.", float64(len(g.changes)))
+	p.Counter(name+"changes_dropped_total", "Changes that were not appended because their callers had left.", &g.dropped)
+	p.Gauge(name+"log_entry", "The last entry that the replica has executed.", float64(state.Entry))
+	p.Gauge(name+"log_lag_entries", "Entries that it has not executed.", float64(g.lag(state.Entry)))
+	p.Gauge(name+"log_silent_seconds", "The time since etcd said where the log ends.", g.silence().Seconds())
+	p.Gauge(name+"commit_number", "The commit number of the book.", float64(state.Place))
+	p.Histogram(name+"replay_duration_seconds", "Times from the start of a replica until it was ready.", &g.replays)
+	p.Counter(name+"replicas_ended_total", "Replicas that ended and were replaced.", &g.replicasEnded)
+	p.Counter(name+"etcd_failures_total", "Requests that no member of etcd answered.", &g.log.Unanswered)
+	if members := g.members.Load(); members != nil {
+		addMembers(&p, name+"etcd_", *members)
+	}
+	w.Header().Set("Content-Type", metrics.ContentType)
+	p.WriteTo(w)
+}
+
+// addMembers adds the metrics of etcd's members: of the one whose database is largest, and of the smallest quota.
+func addMembers(p *metrics.Page, name string, members []etcd.Member) {
+	var healthy, size, quota, alarms float64
+	for _, m := range members {
+		if m.Error == "" {
+			healthy++
+		}
+		if float64(m.Bytes) > size {
+			size = float64(m.Bytes)
+		}
+		if m.Quota > 0 && (quota == 0 || float64(m.Quota) < quota) {
+			quota = float64(m.Quota)
+		}
+		alarms += float64(len(m.Alarms))
+	}
+	p.Gauge(name+"members", "Members of etcd that the gateway knows.", float64(len(members)))
+	p.Gauge(name+"members_healthy", "Those of them that serve requests.", healthy)
+	p.Gauge(name+"database_bytes", "The largest database of a member.", size)
+	p.Gauge(name+"quota_bytes", "The smallest quota of a member.", quota)
+	p.Gauge(name+"alarms", "Alarms that members of etcd report.", alarms)
+}
