@@ -54,6 +54,7 @@ func parse(words []string) (s settings, err error) {
 	flags.StringVar(&s.files.Key, "key", "", "TLS: the `file` of its key")
 	flags.StringVar(&s.files.Authorities, "authorities", "", "TLS: the `file` of the authorities of callers")
 	operators := flags.String("operators", "", "TLS: the SPIFFE `IDs` of callers that may send every line, separated by commas")
+	addLimits(flags, &s.Limits)
 	flags.BoolVar(&s.isSnapshot, "snapshot", false, "make a snapshot, cut the log behind it, and exit")
 	flags.Uint64Var(&s.keep, "keep", 10000, "with -snapshot: how many entries stay in the log")
 	if err := flags.Parse(words); err != nil {
@@ -62,7 +63,7 @@ func parse(words []string) (s settings, err error) {
 	if host, _ := os.Hostname(); s.Name == "" {
 		s.Name = host + "/" + s.listen
 	}
-	s.Operators, s.Limits = strings.Split(*operators, ","), server.UsualLimits
+	s.Operators = strings.Split(*operators, ",")
 	isTLS := s.files != server.Files{}
 	switch {
 	case flags.NArg() > 0:
@@ -71,6 +72,8 @@ func parse(words []string) (s settings, err error) {
 		err = errors.New("-domain is required")
 	case s.Replica.Workers < 2 || s.Replica.Workers > 32:
 		err = errors.New("-workers is not 2 to 32")
+	case !s.Limits.IsValid():
+		err = fmt.Errorf("a limit is not above 0, or -limit-line-bytes is above %d", server.UsualLimits.LineBytes)
 	case isTLS && (s.files.Certificate == "" || s.files.Key == "" || s.files.Authorities == ""):
 		err = errors.New("TLS takes -certificate, -key and -authorities")
 	case !isTLS && *operators != "":
@@ -82,6 +85,24 @@ func parse(words []string) (s settings, err error) {
 		fmt.Fprintln(flags.Output(), "regd-gateway:", err)
 	}
 	return s, err
+}
+
+// addLimits adds the options for limits.
+func addLimits(flags *flag.FlagSet, l *server.Limits) {
+	*l = server.UsualLimits
+	flags.DurationVar(&l.Answer, "limit-answer", l.Answer, "the time for an answer, after which a connection ends")
+	flags.DurationVar(&l.After, "limit-after", l.After, "the time that a query waits for the commit number in its after")
+	flags.DurationVar(&l.Handshake, "limit-handshake", l.Handshake, "the time for a TLS handshake")
+	flags.DurationVar(&l.Idle, "limit-idle", l.Idle, "the time between two lines of a connection")
+	flags.DurationVar(&l.Line, "limit-line", l.Line, "the time from the first byte of a line to its last one")
+	flags.DurationVar(&l.Write, "limit-write", l.Write, "the time for a caller to read when its answers fill all buffers")
+	flags.IntVar(&l.LineBytes, "limit-line-bytes", l.LineBytes, "bytes of a line")
+	flags.IntVar(&l.Lines, "limit-lines", l.Lines, "lines of a connection that are under way")
+	flags.IntVar(&l.LongLines, "limit-long-lines", l.LongLines, "lines of over 8 KiB, of all connections, that are under way")
+	flags.IntVar(&l.Changes, "limit-changes", l.Changes, "changes that wait to be appended")
+	flags.Int64Var(&l.ReplyBytes, "limit-reply-bytes", l.ReplyBytes, "bytes of all replies that are not yet sent")
+	flags.IntVar(&l.Connections, "limit-connections", l.Connections, "connections")
+	flags.IntVar(&l.CallerConnections, "limit-caller-connections", l.CallerConnections, "connections of one caller with a certificate")
 }
 
 // isLoopback returns true if no other machine can connect to the address.

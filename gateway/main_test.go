@@ -65,6 +65,10 @@ func TestParse(t *testing.T) {
 		{"-domain ex.org -fresh 10.0.0.1:1", "loopback"},
 		{"-domain ex.org -operators spiffe://ex.org/o", "needs TLS"},
 		{"-domain ex.org -certificate c -key k", "-authorities"},
+		{"-domain ex.org -limit-lines 0", "limit"},
+		{"-domain ex.org -limit-reply-bytes -1", "limit"},
+		{"-domain ex.org -limit-idle 0s", "limit"},
+		{"-domain ex.org -limit-line-bytes 1048577", "limit"},
 	} {
 		_, err := parse(strings.Fields(c.words))
 		if (err == nil) != (c.want == "") || err != nil && !strings.Contains(err.Error(), c.want) {
@@ -74,6 +78,31 @@ func TestParse(t *testing.T) {
 	s, _ := parse([]string{"-domain", "ex.org", "-listen", "127.0.0.1:7"})
 	if !strings.HasSuffix(s.Name, "/127.0.0.1:7") || len(s.Name) < 14 {
 		t.Errorf("the name is %s", s.Name)
+	}
+}
+
+// TestLimits checks that each option for a limit sets that limit and no other.
+func TestLimits(t *testing.T) {
+	for option, set := range map[string]func(*server.Limits){
+		"-limit-answer=3s":            func(l *server.Limits) { l.Answer = 3 * time.Second },
+		"-limit-after=3s":             func(l *server.Limits) { l.After = 3 * time.Second },
+		"-limit-handshake=3s":         func(l *server.Limits) { l.Handshake = 3 * time.Second },
+		"-limit-idle=3s":              func(l *server.Limits) { l.Idle = 3 * time.Second },
+		"-limit-line=3s":              func(l *server.Limits) { l.Line = 3 * time.Second },
+		"-limit-write=3s":             func(l *server.Limits) { l.Write = 3 * time.Second },
+		"-limit-line-bytes=7":         func(l *server.Limits) { l.LineBytes = 7 },
+		"-limit-lines=7":              func(l *server.Limits) { l.Lines = 7 },
+		"-limit-long-lines=7":         func(l *server.Limits) { l.LongLines = 7 },
+		"-limit-changes=7":            func(l *server.Limits) { l.Changes = 7 },
+		"-limit-reply-bytes=7":        func(l *server.Limits) { l.ReplyBytes = 7 },
+		"-limit-connections=7":        func(l *server.Limits) { l.Connections = 7 },
+		"-limit-caller-connections=7": func(l *server.Limits) { l.CallerConnections = 7 },
+	} {
+		want := server.UsualLimits
+		set(&want)
+		if s, err := parse([]string{"-domain", "ex.org", option}); err != nil || s.Limits != want {
+			t.Errorf("%s: got %v, %v", option, s.Limits, err)
+		}
 	}
 }
 

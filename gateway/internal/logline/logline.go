@@ -4,6 +4,7 @@ package logline
 import (
 	"fmt"
 	"os"
+	"sync/atomic"
 	"time"
 )
 
@@ -15,6 +16,17 @@ func Info(event string, pairs ...any) {
 // Error writes a line about something that an operator should look at.
 func Error(event string, pairs ...any) {
 	os.Stderr.WriteString(format(time.Now(), "error", event, pairs))
+}
+
+// A Rare is for an event that may come often: it writes at most one line in a minute. The zero value is ready.
+type Rare struct{ next atomic.Int64 }
+
+// Error writes a line as the function Error does, if it is time for one.
+func (r *Rare) Error(event string, pairs ...any) {
+	now := time.Now().Unix()
+	if next := r.next.Load(); now >= next && r.next.CompareAndSwap(next, now+60) {
+		Error(event, pairs...)
+	}
 }
 
 // format returns the line. The event and the values are quoted, so that no text of a caller looks like another word or line.

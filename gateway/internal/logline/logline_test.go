@@ -24,3 +24,17 @@ func TestFormat(t *testing.T) {
 		}
 	}
 }
+
+// TestRare checks that a rare event is logged, and not again within a minute.
+func TestRare(t *testing.T) {
+	var r Rare
+	begin := time.Now().Unix()
+	r.Error("first")
+	next := r.next.Load()
+	if next < begin+60 || next > time.Now().Unix()+60 {
+		t.Errorf("the next line is due in %d seconds", next-begin)
+	}
+	if r.Error("second"); r.next.Load() != next {
+		t.Error("it was logged again")
+	}
+}

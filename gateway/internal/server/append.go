@@ -53,12 +53,13 @@ func (g *Gateway) collect(ctx context.Context) (changes []*request, lines [][]by
 	for len(lines) == 0 || len(g.changes) > 0 && len(lines) < mostLines && size < mostBytes { // no other goroutine receives
 		select {
 		case c := <-g.changes:
-			if !c.left.Load() {
-				changes, lines = append(changes, c), append(lines, c.line)
-				size += len(c.line)
-			} else {
+			if !c.take() {
 				g.dropped.Inc()
+				c.answer(nil)
+				continue
 			}
+			changes, lines = append(changes, c), append(lines, c.line)
+			size += len(c.line)
 		case <-ctx.Done():
 			return nil, nil
 		}

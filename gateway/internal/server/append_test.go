@@ -2,7 +2,6 @@ package server
 
 import (
 	"sync"
-	"sync/atomic"
 	"testing"
 
 	"regd/gateway/internal/etcd"
@@ -22,7 +21,7 @@ func TestCollect(t *testing.T) {
 	} {
 		g := New(s.log, Options{Limits: s.limits})
 		for i := 0; i < c.count; i++ {
-			g.changes <- &request{line: make([]byte, c.size), left: &atomic.Bool{}}
+			g.changes <- (&session{Gateway: g}).request(make([]byte, c.size))
 		}
 		changes, lines := g.collect(s.ctx)
 		if len(changes) != c.want || len(lines) != c.want || len(g.changes) != c.count-c.want {

@@ -3,59 +3,13 @@ package server
 import (
 	"crypto/tls"
 	"crypto/x509"
-	"fmt"
-	"os"
-	"path/filepath"
+	"io"
+	"net"
 	"strings"
+	"sync"
+	"syscall"
+	"time"
 )
-
-// Files names the certificate of this process, its key, and the authorities that sign the certificates of its peers.
-type Files struct{ Certificate, Key, Authorities string }
-
-// FilesIn names the files cert.pem, key.pem and ca.pem of a folder, or none if there is no folder.
-func FilesIn(folder string) Files {
-	if folder == "" {
-		return Files{}
-	}
-	return Files{filepath.Join(folder, "cert.pem"), filepath.Join(folder, "key.pem"), filepath.Join(folder, "ca.pem")}
-}
-
-// load reads the files. A peer has to show a certificate of the authorities, and to speak TLS 1.3.
-func (f Files) load() (*tls.Config, error) {
-	pair, err := tls.LoadX509KeyPair(f.Certificate, f.Key)
-	if err != nil {
-		return nil, err
-	}
-	text, err := os.ReadFile(f.Authorities)
-	if err != nil {
-		return nil, err
-	}
-	pool := x509.NewCertPool()
-	if !pool.AppendCertsFromPEM(text) {
-		return nil, fmt.Errorf("%s has no certificate", f.Authorities)
-	}
-	return &tls.Config{Certificates: []tls.Certificate{pair}, ClientCAs: pool, RootCAs: pool,
-		ClientAuth: tls.RequireAndVerifyClientCert, MinVersion: tls.VersionTLS13}, nil
-}
-
-// Config returns a configuration for a server and for a client, or nil if no files are named. It reads the files again at each handshake, since
-// such certificates live for hours only; but a client keeps its authorities. A client also accepts TLS 1.2.
-func (f Files) Config() (*tls.Config, error) {
-	if f == (Files{}) {
-		return nil, nil
-	}
-	config, err := f.load()
-	if err != nil {
-		return nil, err
-	}
-	config.MinVersion = tls.VersionTLS12 // a server takes that of load
-	config.GetConfigForClient = func(*tls.ClientHelloInfo) (*tls.Config, error) { return f.load() }
-	config.GetClientCertificate = func(*tls.CertificateRequestInfo) (*tls.Certificate, error) {
-		pair, err := tls.LoadX509KeyPair(f.Certificate, f.Key)
-		return &pair, err
-	}
-	return config, nil
-}
 
 // callerOf returns the SPIFFE ID of a certificate, or "", and whether it is one of the operators. A certificate names a caller if its only URI is
 // a SPIFFE ID, as the specification of X.509-SVIDs requires. Otherwise the caller has no name, and may send nothing.
@@ -68,4 +22,67 @@ func callerOf(leaf *x509.Certificate, operators []string) (id string, isOperator
 		isOperator = isOperator || id == operator
 	}
 	return id, isOperator
+}
+
+// A crowd counts the connections of each caller.
+type crowd struct {
+	mu     sync.Mutex
+	counts map[string]int
+}
+
+// enter adds a connection of a caller. It returns false if the caller then has more than the given number.
+func (c *crowd) enter(id string, most int) bool {
+	c.mu.Lock()
+	defer c.mu.Unlock()
+	c.counts[id]++
+	return c.counts[id] <= most
+}
+
+// leave takes a connection of a caller away.
+func (c *crowd) leave(id string) {
+	c.mu.Lock()
+	defer c.mu.Unlock()
+	if c.counts[id]--; c.counts[id] == 0 {
+		delete(c.counts, id)
+	}
+}
+
+// what a caller may still send after the gateway has ended its side of a connection
+const (
+	partTime  = time.Second
+	partBytes = 1 << 20
+)
+
+// part ends the gateway's side of a connection, and then reads for a short time what the caller still sends. A connection that is closed while
+// it has unread bytes is reset, and the caller may lose the last answers.
+func part(conn net.Conn) {
+	half, ok := conn.(interface{ CloseWrite() error })
+	if !ok || half.CloseWrite() != nil {
+		return
+	}
+	conn.SetReadDeadline(time.Now().Add(partTime))
+	io.CopyN(io.Discard, conn, partBytes)
+}
+
+// isReset returns true if the other side of a connection has ended it in both directions. To end one direction is no sign that a caller has left:
+// it may wait for its answers.
+func isReset(conn net.Conn) bool {
+	if secure, ok := conn.(*tls.Conn); ok {
+		conn = secure.NetConn()
+	}
+	tcp, ok := conn.(*net.TCPConn)
+	if !ok {
+		return false
+	}
+	raw, err := tcp.SyscallConn()
+	if err != nil {
+		return true
+	}
+	const closed = 7 // TCP_CLOSE of the kernel
+	isClosed := false
+	err = raw.Control(func(descriptor uintptr) {
+		info, err := syscall.GetsockoptInet4Addr(int(descriptor), syscall.IPPROTO_TCP, syscall.TCP_INFO) // of which the first byte is the state
+		isClosed = err == nil && info[0] == closed
+	})
+	return isClosed || err != nil
 }

@@ -1,7 +1,6 @@
 package server
 
 import (
-	"bufio"
 	"crypto/ecdsa"
 	"crypto/elliptic"
 	"crypto/rand"
@@ -146,45 +145,24 @@ func handshake(t *testing.T, server *tls.Config, client *tls.Config) (string, er
 
 // TestCallers checks what callers with certificates may send, and that a connection outlives the time for a handshake.
 func TestCallers(t *testing.T) {
-	a := newAuthority(t)
-	a.leaf("server")
-	config, err := a.files("server").Config()
-	if err != nil {
-		t.Fatal(err)
-	}
 	s := newSite(t)
 	s.limits.Handshake = time.Second
-	g, _, _ := s.gateway("a")
-	g.options.TLS, g.options.Operators = config, []string{n2}
-	on, err := net.Listen("tcp", "127.0.0.1:0")
-	if err != nil {
-		t.Fatal(err)
-	}
-	go g.Serve(s.ctx, on, false)
+	_, dial := s.secured(n2)
 	trust := `{"ops":[{"op":"trust","agent":"` + n1 + `"}]}`
 	for _, c := range []struct {
-		name, uri string
-		line      string
-		want      string
+		name string
+		uris []string
+		line string
+		want string
 	}{
-		{"an agent", n1, trust, answered(1, 0)},
-		{"an agent with a change", n1, prune, `{"code":"G1","line":1}`},
-		{"another agent", n1 + "0", trust, `{"code":"G1","line":1}`},
-		{"nobody", "", trust, `{"code":"G1","line":1}`},
-		{"an operator", n2, show, answered(1, 0)},
-		{"an operator with a change", n2, prune, committed(1, 1)},
+		{"an agent", []string{n1}, trust, answered(1, 0)},
+		{"an agent with a change", []string{n1}, prune, `{"code":"G1","line":1}`},
+		{"another agent", []string{n1 + "0"}, trust, `{"code":"G1","line":1}`},
+		{"nobody", nil, trust, `{"code":"G1","line":1}`},
+		{"an operator", []string{n2}, show, answered(1, 0)},
+		{"an operator with a change", []string{n2}, prune, committed(1, 1)},
 	} {
-		if a.leaf("caller"); c.uri != "" {
-			a.leaf("caller", c.uri)
-		}
-		client, err := a.files("caller").Config()
-		if err != nil {
-			t.Fatal(err)
-		}
-		client.ServerName = "gateway"
-		outer, _ := s.dial(on.Addr().String())
-		conn := tls.Client(outer, client)
-		in := bufio.NewReader(conn)
+		conn, in := dial(c.uris...)
 		fmt.Fprintln(conn, c.line)
 		got, err := in.ReadString('\n')
 		s.expect(c.name, []string{got}, c.want+"\n")

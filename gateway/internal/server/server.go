@@ -17,15 +17,47 @@ import (
 	"regd/gateway/internal/wire"
 )
 
-// Limits are how long a gateway waits.
+// Limits bound how long a gateway waits, and what it accepts.
 type Limits struct {
-	Answer, After    time.Duration // for an answer, after which the connection ends; for the commit number that a query names
-	Handshake, Write time.Duration // for the TLS handshake of a caller; for a caller to read when its answers fill all buffers
-	Votes, Members   time.Duration // between two looks at the votes, and at the members of etcd
+	Answer    time.Duration // for an answer, after which the connection ends
+	After     time.Duration // for the commit number that a query names
+	Handshake time.Duration // for the TLS handshake of a caller
+	Idle      time.Duration // for a caller to begin a line
+	Line      time.Duration // for the rest of the line
+	Write     time.Duration // for a caller to read when its answers fill all buffers
+	Votes     time.Duration // between two looks at the votes
+	Members   time.Duration // between two looks at the members of etcd
+
+	LineBytes         int   // of a line, without its line feed
+	Lines             int   // of a connection that are under way
+	LongLines         int   // of over 8 KiB, of all connections
+	Changes           int   // that wait to be appended
+	ReplyBytes        int64 // of replies that are not yet sent
+	Connections       int
+	CallerConnections int // of one caller with a certificate
 }
 
-// UsualLimits are those of the program. Tests shorten some.
-var UsualLimits = Limits{20 * time.Second, 2 * time.Second, 10 * time.Second, 60 * time.Second, 5 * time.Second, 10 * time.Second}
+// UsualLimits are the defaults of the program.
+var UsualLimits = Limits{
+	Answer: 20 * time.Second, After: 2 * time.Second, Handshake: 10 * time.Second, Idle: 15 * time.Minute, Line: 30 * time.Second,
+	Write: 20 * time.Second, Votes: 5 * time.Second, Members: 10 * time.Second,
+	LineBytes: wire.MaxLine, Lines: 256, LongLines: 64, Changes: 4096, ReplyBytes: 512 << 20, Connections: 10000, CallerConnections: 100,
+}
+
+// IsValid returns true if all limits are above 0, and lines are not longer than regd accepts them.
+func (l Limits) IsValid() bool {
+	for _, long := range []time.Duration{l.Answer, l.After, l.Handshake, l.Idle, l.Line, l.Write, l.Votes, l.Members} {
+		if long <= 0 {
+			return false
+		}
+	}
+	for _, count := range []int{l.LineBytes, l.Lines, l.LongLines, l.Changes, int(l.ReplyBytes), l.Connections, l.CallerConnections} {
+		if count <= 0 {
+			return false
+		}
+	}
+	return l.LineBytes <= wire.MaxLine
+}
 
 // Options configure a gateway.
 type Options struct {
@@ -45,6 +77,10 @@ type Gateway struct {
 	board   board
 	flights sync.Map // from the names of this gateway's entries that are not yet answered to their changes
 	changes chan *request
+	long    chan struct{} // one for each long line that is under way
+	held    atomic.Int64  // bytes of replies that are not yet sent
+	active  atomic.Int64  // connections with lines that are under way
+	crowd   crowd
 	fresh   fresh
 	marks   chan replica.State // checksums to vote for
 
@@ -54,13 +90,16 @@ type Gateway struct {
 	headTime   atomic.Int64  // when that was, in seconds
 	members    atomic.Pointer[[]etcd.Member]
 	stats
+
+	acceptFails, crowded, busy logline.Rare
 }
 
 // New returns a gateway of a log.
 func New(log *etcd.Log, options Options) *Gateway {
 	g := &Gateway{
 		log: log, options: options, run: wire.NewID(), board: board{changed: make(chan struct{})},
-		changes: make(chan *request, 4096), marks: make(chan replica.State, votesLeft),
+		changes: make(chan *request, options.Limits.Changes), long: make(chan struct{}, options.Limits.LongLines),
+		crowd: crowd{counts: map[string]int{}}, marks: make(chan replica.State, votesLeft),
 	}
 	g.heard(0)
 	return g
@@ -100,19 +139,15 @@ func (g *Gateway) Serve(ctx context.Context, on net.Listener, isFresh bool) erro
 		<-ctx.Done()
 		on.Close()
 	}()
-	for isFailing := false; ; {
+	for {
 		conn, err := on.Accept()
 		switch {
 		case err == nil:
-			isFailing = false
 			go g.receive(ctx, conn, isFresh)
 		case ctx.Err() != nil:
 			return ctx.Err()
 		default: // such as: no free descriptor
-			if !isFailing {
-				logline.Error("accept failed", "error", err)
-			}
-			isFailing = true
+			g.acceptFails.Error("accept failed", "error", err)
 			etcd.Pause(ctx, 10*time.Millisecond)
 		}
 	}
@@ -120,13 +155,18 @@ func (g *Gateway) Serve(ctx context.Context, on net.Listener, isFresh bool) erro
 
 // receive serves one connection.
 func (g *Gateway) receive(ctx context.Context, conn net.Conn, isFresh bool) {
-	g.sessions.Add(1)
-	defer g.sessions.Add(-1)
 	defer func() { conn.Close() }()
+	defer g.sessions.Add(-1)
+	limits := g.options.Limits
+	if g.sessions.Add(1) > int64(limits.Connections) {
+		g.ended.Inc("connections")
+		g.crowded.Error("too many connections", "limit", limits.Connections)
+		return
+	}
 	id, isOperator := "", true
 	if g.options.TLS != nil {
 		secure := tls.Server(conn, g.options.TLS)
-		conn.SetDeadline(time.Now().Add(g.options.Limits.Handshake))
+		conn.SetDeadline(time.Now().Add(limits.Handshake))
 		if secure.HandshakeContext(ctx) != nil {
 			g.ended.Inc("handshake")
 			return
@@ -134,8 +174,19 @@ func (g *Gateway) receive(ctx context.Context, conn net.Conn, isFresh bool) {
 		conn.SetDeadline(time.Time{})
 		conn = secure
 		id, isOperator = callerOf(secure.ConnectionState().PeerCertificates[0], g.options.Operators) // the handshake requires one
+		defer g.crowd.leave(id)
+		if !g.crowd.enter(id, limits.CallerConnections) {
+			g.ended.Inc("caller")
+			g.crowded.Error("too many connections of a caller", "limit", limits.CallerConnections, "caller", id)
+			conn.SetWriteDeadline(time.Now().Add(limits.Handshake))
+			conn.Write(wire.AppendReply(nil, wire.Refusal(wire.TooMany), 0, 1))
+			part(conn)
+			return
+		}
 	}
 	s := &session{Gateway: g, conn: conn, in: bufio.NewReaderSize(conn, readBuffer), agent: id, isOperator: isOperator, isFresh: isFresh,
 		number: int(g.accepted.Add(1))}
-	s.serve(ctx)
+	if s.serve(ctx); !s.isBroken {
+		part(conn)
+	}
 }

@@ -10,7 +10,6 @@ import (
 	"net"
 	"os"
 	"strings"
-	"sync/atomic"
 	"testing"
 	"time"
 
@@ -147,7 +146,7 @@ func TestOrder(t *testing.T) {
 		`{"code":"G2","line":6}`, committed(6, 3), `{"code":"L2","line":8}`, answered(7, 3))
 	s.expect("the other port", s.call(fresh, show, prune, show), answered(1, 3), committed(2, 4), answered(3, 4))
 	var many, want []string
-	for i := 0; i < 3*mostRow; i++ {
+	for i := 0; i < 3*s.limits.Lines; i++ {
 		many, want = append(many, prune), append(want, committed(i+1, i+5))
 	}
 	s.expect("many lines", s.call(address, many...), want...)
@@ -283,7 +282,7 @@ func TestUnknownAppend(t *testing.T) {
 	s.log.Cut(s.ctx, 1)
 	g := New(s.log, Options{Limits: s.limits})
 	go g.appendChanges(s.ctx)
-	first := &request{line: []byte(prune), reply: make(chan []byte, 1), left: &atomic.Bool{}}
+	first := (&session{Gateway: g}).request([]byte(prune))
 	s.store.LoseAnswers(1)
 	g.changes <- first
 	select {
@@ -295,7 +294,7 @@ func TestUnknownAppend(t *testing.T) {
 	case <-s.ctx.Done():
 		t.Fatal("no answer")
 	}
-	g.changes <- &request{line: []byte(show), reply: make(chan []byte, 1), left: &atomic.Bool{}}
+	g.changes <- (&session{Gateway: g}).request([]byte(show))
 	for {
 		value, err := s.log.Get(s.ctx, etcd.EntryKey(2))
 		if err != nil {
@@ -353,10 +352,14 @@ func TestReplicaEnds(t *testing.T) {
 func TestCallerLeft(t *testing.T) {
 	s := newSite(t)
 	g, address, _ := s.gateway("a")
-	gone, here := &atomic.Bool{}, &atomic.Bool{}
-	gone.Store(true)
-	for _, left := range []*atomic.Bool{gone, here, gone} {
-		g.changes <- &request{line: []byte(prune), reply: make(chan []byte, 1), left: left}
+	for _, isHere := range []bool{false, true, false} {
+		q := (&session{Gateway: g}).request([]byte(prune))
+		if !isHere {
+			if q.leave(); q.line != nil {
+				t.Error("a line that nobody waits for takes memory")
+			}
+		}
+		g.changes <- q
 	}
 	for i := 0; i < 100; i++ {
 		if head, _ := s.log.Head(s.ctx); head > 0 {

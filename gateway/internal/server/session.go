@@ -4,7 +4,10 @@ import (
 	"bufio"
 	"bytes"
 	"context"
+	"errors"
 	"net"
+	"os"
+	"runtime"
 	"sync/atomic"
 	"time"
 
@@ -13,10 +16,12 @@ import (
 )
 
 const (
-	mostRow    = 256 // lines of a connection that are under way
 	retryTime  = 2 * time.Millisecond
 	flushSize  = 1 << 15
 	readBuffer = 1 << 13
+	replyRoom  = 1 << 18 // for replies to the lines of a connection that are under way, if these are as long as the last ones were
+	// lines that are under way of all connections together, if each has more than one
+	queryRoom, changeRoom = 512, 4096
 )
 
 // A session is a connection of a caller. One goroutine reads lines, forwards each, and writes the answers in the order of the lines.
@@ -28,44 +33,32 @@ type session struct {
 	conn       net.Conn
 	in         *bufio.Reader
 	out        []byte
+	unsent     int64  // bytes of the replies in out
 	agent      string // the SPIFFE ID of the caller, or ""
 	isOperator bool
 	isFresh    bool
 	number     int // of the connection, which chooses a worker of regd
 
 	row          []*request // those whose answer is not yet written
+	largest      int        // about the size of a large reply
 	isChanging   bool       // they are changes
+	isLong       bool       // one of them has a slot for a long line
+	isBroken     bool       // nothing more can be written
 	lines, calls int        // how many were answered
 	place        uint64     // the newest commit number that the caller has seen
-	left         atomic.Bool
-}
-
-// A request is a line of a caller.
-type request struct {
-	began time.Time // when the line was read
-	line  []byte
-	place uint64       // of the oldest book that may answer a query
-	reply chan []byte  // with room for one reply; nil if the answer can't be known
-	left  *atomic.Bool // the caller's connection has ended
-}
-
-// answer stores the reply. Only the first one counts.
-func (q *request) answer(reply []byte) {
-	select {
-	case q.reply <- reply:
-	default:
-	}
+	answered     time.Time  // when the last answer came
 }
 
 // serve serves a connection to its end.
 func (s *session) serve(ctx context.Context) {
-	defer s.left.Store(true)
+	defer s.leave()
 	for {
-		if len(s.row) >= mostRow && !s.writeAnswers(ctx, mostRow/2) || !s.hasLine() && !s.writeAnswers(ctx, 0) {
+		if s.isFull() && !s.writeAnswers(ctx, len(s.row)/2) || !s.hasLine() && !(s.writeAnswers(ctx, 0) && s.waitForLine()) {
 			return
 		}
-		line, code, err := wire.ReadLine(s.in)
+		line, code, err := wire.ReadLine(s.in, s.options.Limits.LineBytes, func() bool { return s.takeSlot(ctx) })
 		if err != nil {
+			s.noteLate(err, "line")
 			return
 		}
 		isChange := false
@@ -78,18 +71,27 @@ func (s *session) serve(ctx context.Context) {
 			line, code = wire.ForLog(line)
 		}
 		if code != "" {
-			s.add(nil).answer(wire.Refusal(code))
+			s.add(s.request(nil)).answer(wire.Refusal(code))
 			continue
 		}
 		if (isChange != s.isChanging || s.isFresh) && !s.writeAnswers(ctx, 0) {
 			return
 		}
-		if s.isChanging = isChange; isChange {
-			s.changes <- s.add(line)
-		} else if !s.query(ctx, line) {
+		if s.isChanging = isChange; isChange && !s.change(ctx, line) || !isChange && !s.query(ctx, line) {
 			return
 		}
 	}
+}
+
+// isFull returns true if no further line may be under way before some are answered. Connections with lines under way have equal shares, so that one
+// with many lines doesn't hold up another with one.
+func (s *session) isFull() bool {
+	room := int64(queryRoom)
+	if s.isChanging {
+		room = changeRoom
+	}
+	count := len(s.row)
+	return count >= s.options.Limits.Lines || count*s.largest > replyRoom || count > 0 && int64(count)*s.active.Load() >= room
 }
 
 // hasLine returns true if the next line has arrived. It is false for a line that is longer than the buffer, so such a line is read when the lines
@@ -99,11 +101,97 @@ func (s *session) hasLine() bool {
 	return bytes.IndexByte(arrived, '\n') >= 0
 }
 
-// add adds the line that was read last to the row.
-func (s *session) add(line []byte) *request {
-	q := &request{began: time.Now(), line: line, reply: make(chan []byte, 1), left: &s.left}
+// waitForLine waits until a line begins to arrive, and limits the time for the rest of it.
+func (s *session) waitForLine() bool {
+	s.conn.SetReadDeadline(time.Now().Add(s.options.Limits.Idle))
+	if _, err := s.in.Peek(1); err != nil {
+		s.noteLate(err, "idle")
+		return false
+	}
+	runtime.Gosched() // a caller that always has lines waits for its turn
+	s.conn.SetReadDeadline(time.Now().Add(s.options.Limits.Line))
+	return true
+}
+
+// noteLate counts a connection that ends because a time limit is over.
+func (s *session) noteLate(err error, reason string) {
+	if errors.Is(err, os.ErrDeadlineExceeded) {
+		s.ended.Inc(reason)
+	}
+}
+
+// takeSlot waits for one of the slots for lines that are longer than the buffer. It returns false if there is none for too long.
+func (s *session) takeSlot(ctx context.Context) bool {
+	late := time.NewTimer(s.options.Limits.Answer)
+	defer late.Stop()
+	select {
+	case s.long <- struct{}{}:
+		s.isLong = true
+		s.conn.SetReadDeadline(time.Now().Add(s.options.Limits.Line))
+	case <-late.C:
+		s.busy.Error("too many long lines wait", "limit", cap(s.long))
+	case <-ctx.Done():
+	}
+	return s.isLong
+}
+
+func (s *session) freeSlot() {
+	if s.isLong {
+		<-s.long
+		s.isLong = false
+	}
+}
+
+// leave takes back what is not yet answered, and gives up the room that it has.
+func (s *session) leave() {
+	for _, q := range s.row {
+		q.leave()
+	}
+	if len(s.row) > 0 {
+		s.active.Add(-1)
+	}
+	s.held.Add(-s.unsent)
+	s.freeSlot()
+}
+
+// request returns a request with a line.
+func (s *session) request(line []byte) *request {
+	return &request{session: s, began: time.Now(), line: line, reply: make(chan []byte, 1)}
+}
+
+// add adds a request to the row.
+func (s *session) add(q *request) *request {
+	if len(s.row) == 0 {
+		s.active.Add(1)
+	}
 	s.row = append(s.row, q)
 	return q
+}
+
+// change queues a line to be appended to the log, and refuses it if too many wait for too long. It returns false if the session ends.
+func (s *session) change(ctx context.Context, line []byte) bool {
+	q := s.request(line)
+	select {
+	case s.changes <- q:
+		s.add(q)
+		return true
+	default:
+	}
+	if len(s.row) > 0 && !s.writeAnswers(ctx, 0) { // they don't wait with it
+		return false
+	}
+	late := time.NewTimer(s.options.Limits.Answer)
+	defer late.Stop()
+	select {
+	case s.changes <- q:
+	case <-late.C:
+		s.busy.Error("too many changes wait", "limit", cap(s.changes))
+		q.answer(wire.Refusal(wire.Busy))
+	case <-ctx.Done():
+		return false
+	}
+	s.add(q)
+	return true
 }
 
 // query sends a line to the replica. It returns false if the session ends.
@@ -124,7 +212,9 @@ func (s *session) query(ctx context.Context, line []byte) bool {
 		defer cancel()
 		s.board.wait(late, 0, after) // if it is still too early, regd says W1
 	}
-	s.ask(s.add(line))
+	q := s.request(line)
+	q.isQuery = true
+	s.ask(s.add(q))
 	return true
 }
 
@@ -146,12 +236,15 @@ func (s *session) ask(q *request) {
 func (s *session) writeAnswers(ctx context.Context, most int) bool {
 	for len(s.row) > most {
 		q := s.row[0]
-		s.row = s.row[1:]
 		reply := s.await(ctx, q)
 		if reply == nil {
-			s.ended.Inc("answer")
 			s.flush()
 			return false
+		}
+		s.row, s.answered = s.row[1:], time.Now()
+		if len(s.row) == 0 {
+			s.freeSlot()
+			s.active.Add(-1)
 		}
 		s.note(q, reply)
 		if place := wire.Place(reply); place > s.place {
@@ -167,15 +260,19 @@ func (s *session) writeAnswers(ctx context.Context, most int) bool {
 	return s.flush()
 }
 
-// note counts an answer.
+// note takes an answer into the counts.
 func (s *session) note(q *request, reply []byte) {
 	kind := &s.queries
 	if s.isChanging {
 		kind = &s.changed
 	}
-	kind.Observe(time.Since(q.began))
+	kind.Observe(s.answered.Sub(q.began))
 	if code := wire.Code(reply); code != "" {
 		s.refusals.Inc(code)
+	}
+	s.unsent += int64(len(reply))
+	if s.largest -= s.largest / 8; s.largest < len(reply) {
+		s.largest = len(reply)
 	}
 }
 
@@ -184,21 +281,32 @@ func (s *session) await(ctx context.Context, q *request) []byte {
 	if len(q.reply) == 0 && !s.flush() {
 		return nil
 	}
-	late := time.NewTimer(s.options.Limits.Answer) // a context for each line would make all connections wait for one lock
+	begin := q.began
+	if s.answered.After(begin) {
+		begin = s.answered
+	}
+	late := time.NewTimer(time.Until(begin.Add(s.options.Limits.Answer))) // a context for each line would make all connections wait for one lock
 	defer late.Stop()
 	for {
+		var reply []byte
 		select {
-		case reply := <-q.reply:
-			if s.isChanging || reply != nil && !s.isOld(q, reply) {
-				return reply
+		case reply = <-q.reply: // also if it is late
+		default:
+			select {
+			case reply = <-q.reply:
+			case <-late.C:
+				s.ended.Inc("answer")
+				return nil
+			case <-ctx.Done():
+				return nil
 			}
-			etcd.Pause(ctx, retryTime)
-			s.ask(q)
-		case <-late.C:
-			return nil
-		case <-ctx.Done():
-			return nil
 		}
+		if s.isChanging || reply != nil && !s.isOld(q, reply) {
+			return reply
+		}
+		s.held.Add(-int64(len(reply)))
+		etcd.Pause(ctx, retryTime)
+		s.ask(q)
 	}
 }
 
@@ -210,14 +318,78 @@ func (s *session) isOld(q *request, reply []byte) bool {
 	return !wire.IsRefusal(reply) && (place < s.place || place < q.place || wire.Code(reply) == "W1" && place < state.Place)
 }
 
+// flush writes what is in out. A caller that doesn't read has less time for it while the replies to all callers take much room.
 func (s *session) flush() bool {
 	if len(s.out) == 0 {
-		return true
+		return !s.isBroken
 	}
-	s.conn.SetWriteDeadline(time.Now().Add(s.options.Limits.Write))
-	_, err := s.conn.Write(s.out)
-	if s.out = s.out[:0]; err != nil {
-		s.ended.Inc("write")
+	long := s.options.Limits.Write
+	if s.held.Load() > s.options.Limits.ReplyBytes/2 {
+		long /= 10
 	}
-	return err == nil
+	s.conn.SetWriteDeadline(time.Now().Add(long))
+	if _, err := s.conn.Write(s.out); err != nil {
+		s.isBroken = true
+		s.noteLate(err, "write")
+	}
+	s.held.Add(-s.unsent)
+	s.unsent = 0
+	if s.out = s.out[:0]; cap(s.out) > 4*flushSize {
+		s.out = nil
+	}
+	return !s.isBroken
+}
+
+// A request is a line of a caller.
+type request struct {
+	began   time.Time // when the line was read
+	line    []byte
+	isQuery bool        // its reply may be refused
+	place   uint64      // of the oldest book that may answer a query
+	reply   chan []byte // with room for one reply; nil if the answer can't be known
+	isTaken atomic.Bool // a change is to be appended, or its caller has left
+	hasLeft atomic.Bool // the caller has left
+	session *session
+}
+
+// take returns true if a change is to be appended, and false if its caller has left.
+func (q *request) take() bool {
+	return !isReset(q.session.conn) && q.isTaken.CompareAndSwap(false, true)
+}
+
+// leave takes a request back: a change that is not yet taken will not be appended, and its line takes no more memory.
+func (q *request) leave() {
+	if !q.isQuery && q.isTaken.CompareAndSwap(false, true) {
+		q.line = nil
+	}
+	q.hasLeft.Store(true)
+	q.forget()
+}
+
+// forget gives up the room of a reply that nobody waits for.
+func (q *request) forget() {
+	select {
+	case reply := <-q.reply:
+		q.session.held.Add(-int64(len(reply)))
+	default:
+	}
+}
+
+// answer stores the reply. Only the first one counts. A query whose reply finds no room is refused.
+func (q *request) answer(reply []byte) {
+	held := &q.session.held
+	if held.Add(int64(len(reply))) > q.session.options.Limits.ReplyBytes && q.isQuery {
+		held.Add(-int64(len(reply)))
+		q.session.busy.Error("replies take too much room", "limit", q.session.options.Limits.ReplyBytes)
+		reply = wire.Refusal(wire.Busy)
+		held.Add(int64(len(reply)))
+	}
+	select {
+	case q.reply <- reply:
+		if q.hasLeft.Load() {
+			q.forget()
+		}
+	default:
+		held.Add(-int64(len(reply)))
+	}
 }

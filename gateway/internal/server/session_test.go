@@ -79,11 +79,11 @@ func TestAccept(t *testing.T) {
 	}
 }
 
-// TestRow checks how many lines of a connection are under way: no more than mostRow, and of the longest ones one.
+// TestRow checks how many lines of a connection are under way: no more than the limit, and of the longest ones one.
 func TestRow(t *testing.T) {
 	s := newSite(t)
 	short := `{"ops":[{"op":"prune"}]}`
-	for line, want := range map[string]int{short: mostRow, short + strings.Repeat(" ", wire.MaxLine-len(short)): 1} {
+	for line, want := range map[string]int{short: s.limits.Lines, short + strings.Repeat(" ", wire.MaxLine-len(short)): 1} {
 		g := New(s.log, Options{Limits: s.limits}) // which makes no entries of its changes
 		inner, outer := net.Pipe()
 		ctx, cancel := context.WithCancel(s.ctx)
@@ -123,7 +123,7 @@ func rowOf(s *site, answers ...[]byte) (*session, *written) {
 	conn := &written{}
 	made := &session{Gateway: New(s.log, Options{Limits: s.limits}), conn: conn, isChanging: true}
 	for _, answer := range answers {
-		made.add(nil).answer(answer)
+		made.add(made.request(nil)).answer(answer)
 	}
 	return made, conn
 }
@@ -209,7 +209,8 @@ func TestQueriesOutliveRegd(t *testing.T) {
 
 // TestAnswerOnce checks that only the first reply to a line counts, and that nothing waits for the caller to take it.
 func TestAnswerOnce(t *testing.T) {
-	q, done := &request{reply: make(chan []byte, 1)}, make(chan struct{})
+	made, _ := rowOf(newSite(t))
+	q, done := made.request(nil), make(chan struct{})
 	go func() {
 		q.answer([]byte("a"))
 		q.answer([]byte("b"))
@@ -220,8 +221,21 @@ func TestAnswerOnce(t *testing.T) {
 	case <-time.After(5 * time.Second):
 		t.Fatal("a second reply waits")
 	}
-	if got := string(<-q.reply); got != "a" {
-		t.Errorf("got %s", got)
+	if got, held := string(<-q.reply), made.held.Load(); got != "a" || held != 1 {
+		t.Errorf("got %s, and %d bytes are held", got, held)
+	}
+}
+
+// TestLateAnswer checks that an answer which is there is taken, however late it is.
+func TestLateAnswer(t *testing.T) {
+	s := newSite(t)
+	s.limits.Answer = time.Nanosecond
+	for i := 0; i < 100; i++ {
+		made, conn := rowOf(s, []byte(committed(7, 1)))
+		time.Sleep(time.Microsecond)
+		if !made.writeAnswers(s.ctx, 0) {
+			t.Fatalf("wrote %s", conn.text)
+		}
 	}
 }
 
@@ -232,7 +246,7 @@ func TestPastAfter(t *testing.T) {
 	g, address, _ := s.gateway("a")
 	s.expect("a change", s.call(address, prune), committed(1, 1))
 	made := &session{Gateway: g, conn: &written{}}
-	made.add(nil) // which is never answered
+	made.add(made.request(nil)) // which is never answered
 	if isGoing := made.query(s.ctx, []byte(`{"ops":[],"after":1}`)); !isGoing || len(made.row) != 2 {
 		t.Errorf("%d lines are under way", len(made.row))
 	}
@@ -254,6 +268,7 @@ func TestAsksAgain(t *testing.T) {
 	if err := json.Unmarshal(r.Ask([]byte(show)), &asked); err != nil || asked.Call < 4 || asked.Call > 1010 { // one in 2 ms
 		t.Errorf("asked %d times, %v", asked.Call, err)
 	}
+	within(t, "old replies are held", func() bool { return g.held.Load() == 0 })
 }
 
 // TestPausesOfReplicas checks that there are pauses before the log is read again, and before another replica is started.

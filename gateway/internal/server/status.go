@@ -111,6 +111,7 @@ func (g *Gateway) serveMetrics(w http.ResponseWriter, _ *http.Request) {
 	p.Histogram(name+"query_duration_seconds", "Times from any other line to its answer.", &g.queries)
 	p.Vector(name+"refusals_total", "Answers with a code, by code.", "code", &g.refusals)
 	p.Histogram(name+"append_duration_seconds", "Times in which etcd accepted an entry of this gateway.", &g.appends)
+	p.Gauge(name+"reply_bytes", "Bytes of replies that are not yet sent.", float64(g.held.Load()))
 	p.Gauge(name+"changes_waiting", "Changes that wait to be appended.", float64(len(g.changes)))
 	p.Counter(name+"changes_dropped_total", "Changes that were not appended because their callers had left.", &g.dropped)
 	p.Gauge(name+"log_entry", "The last entry that the replica has executed.", float64(state.Entry))

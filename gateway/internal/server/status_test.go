@@ -33,7 +33,6 @@ func status(t *testing.T, g *Gateway) (int, map[string]any) {
 }
 
 func TestStatus(t *testing.T) {
-	t.Parallel()
 	s := newSite(t)
 	g, address, _ := s.gateway("a")
 	s.call(address, prune)
@@ -111,7 +110,6 @@ func samples(t *testing.T, g *Gateway) map[string]float64 {
 }
 
 func TestMetrics(t *testing.T) {
-	t.Parallel()
 	s := newSite(t)
 	s.limits.Members = 10 * time.Millisecond
 	g, address, _ := s.gateway("a")
@@ -129,7 +127,7 @@ func TestMetrics(t *testing.T) {
 	for name, want := range map[string]float64{
 		`info{name="a",program="p"}`: 1, "ready": 1, "disputed": 1, "connections": 1, "connections_total": 2,
 		"change_duration_seconds_count": 3, "query_duration_seconds_count": 2, `refusals_total{code="L2"}`: 1, `refusals_total{code="O3"}`: 1,
-		"append_duration_seconds_count": float64(state.Entry), "changes_waiting": 0, "changes_dropped_total": 0,
+		"append_duration_seconds_count": float64(state.Entry), "changes_waiting": 0, "reply_bytes": 0, "changes_dropped_total": 0,
 		"log_entry": float64(state.Entry), "log_lag_entries": 4, "commit_number": 2,
 		"replay_duration_seconds_count": 1, "replicas_ended_total": 0,
 		"etcd_failures_total": 0, "etcd_members": 1, "etcd_members_healthy": 1, "etcd_database_bytes": 1 << 20, "etcd_quota_bytes": 1 << 21,

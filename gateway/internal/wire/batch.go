@@ -19,6 +19,9 @@ const (
 	NotAllowed = "G1" // the caller may not send this line
 	TooMixed   = "G2" // a change with more than MaxQueries queries
 	NoRoom     = "G3" // the line is too long for what the gateway adds to it
+	TooMany    = "G4" // the caller has too many connections
+	Busy       = "G5" // too many lines wait, or replies take too much room
+	TooLong    = "G6" // the line is longer than this gateway accepts
 )
 
 // changes has the names of regd's operations, and whether they change the book.

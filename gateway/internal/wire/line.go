@@ -14,14 +14,18 @@ import (
 // MaxLine is the largest number of bytes in a line, without its line feed.
 const MaxLine = 1 << 20
 
-// ReadLine reads a line without its line feed. It returns the code with which a line is refused: L1 if it is too long, L3 if the input ends
-// in it. An error means that there is no line; io.EOF that the input ended.
-func ReadLine(in *bufio.Reader) (line []byte, code string, err error) {
-	size := 0
+// ReadLine reads a line without its line feed. When the line outgrows the buffer of in, it calls hasRoom, and doesn't keep the line if that is
+// false. It returns the code with which a line is refused: L1 if it is too long, L3 if the input ends in it, Busy if it was not kept, and TooLong if it
+// has more than the given number of bytes. An error means that there is no line; io.EOF that the input ended.
+func ReadLine(in *bufio.Reader, most int, hasRoom func() bool) (line []byte, code string, err error) {
+	size, isKept := 0, true
 	for err = bufio.ErrBufferFull; err == bufio.ErrBufferFull; {
 		var part []byte
 		part, err = in.ReadSlice('\n')
-		if size += len(part); size <= MaxLine+1 {
+		if err == bufio.ErrBufferFull && size == 0 {
+			isKept = hasRoom()
+		}
+		if size += len(part); isKept && size <= most+1 {
 			line = append(line, part...)
 		}
 	}
@@ -35,6 +39,10 @@ func ReadLine(in *bufio.Reader) (line []byte, code string, err error) {
 		return nil, "L1", nil
 	case err == io.EOF:
 		return nil, "L3", nil
+	case !isKept:
+		return nil, Busy, nil
+	case size > most:
+		return nil, TooLong, nil
 	}
 	return line[:size], "", nil
 }

@@ -63,7 +63,7 @@ func TestReadLine(t *testing.T) {
 		for _, size := range []int{16, 4096} {
 			in, got := bufio.NewReaderSize(strings.NewReader(c.text), size), []string{}
 			for {
-				line, code, err := ReadLine(in)
+				line, code, err := ReadLine(in, MaxLine, func() bool { return true })
 				if err == io.EOF {
 					break
 				} else if err != nil {
@@ -77,6 +77,32 @@ func TestReadLine(t *testing.T) {
 			if strings.Join(got, "|") != strings.Join(c.want, "|") {
 				t.Errorf("%s: got %.200q", c.name, got)
 			}
+		}
+	}
+}
+
+// TestReadLineBounds reads lines with a smaller limit, and such that outgrow the buffer, with and without room.
+func TestReadLineBounds(t *testing.T) {
+	long := strings.Repeat("x", 100)
+	for _, c := range []struct {
+		name, text string
+		hasRoom    bool
+		line, code string
+		asked      int
+	}{
+		{"a short line", "a\n", false, "a", "", 0},
+		{"one that fills the buffer", long[:15] + "\n", false, long[:15], "", 0},
+		{"a long line", long[:50] + "\n", true, long[:50], "", 1},
+		{"the longest line", long[:60] + "\n", true, long[:60], "", 1},
+		{"a line that is too long", long[:61] + "\n", true, "", TooLong, 1},
+		{"a long line without room", long[:50] + "\n", false, "", Busy, 1},
+		{"one without its end", long[:50], false, "", "L3", 1},
+	} {
+		asked := 0
+		in := bufio.NewReaderSize(strings.NewReader(c.text), 16)
+		line, code, err := ReadLine(in, 60, func() bool { asked++; return c.hasRoom })
+		if string(line) != c.line || code != c.code || err != nil || asked != c.asked {
+			t.Errorf("%s: got %s, %s, %v, asked %d times", c.name, line, code, err, asked)
 		}
 	}
 }
@@ -95,7 +121,7 @@ func (e *endless) Read(to []byte) (int, error) {
 func TestReadLineMemory(t *testing.T) {
 	var before, after runtime.MemStats
 	runtime.ReadMemStats(&before)
-	_, code, err := ReadLine(bufio.NewReader(&endless{256 * MaxLine}))
+	_, code, err := ReadLine(bufio.NewReader(&endless{256 * MaxLine}), MaxLine, func() bool { return true })
 	runtime.ReadMemStats(&after)
 	if grown := after.TotalAlloc - before.TotalAlloc; code != "L1" || err != nil || grown > 16*MaxLine {
 		t.Errorf("got %s, %v, %d bytes", code, err, grown)
@@ -104,7 +130,7 @@ func TestReadLineMemory(t *testing.T) {
 
 func TestReadLineError(t *testing.T) {
 	in := bufio.NewReader(io.MultiReader(strings.NewReader("a"), failing{}))
-	if _, code, err := ReadLine(in); err != io.ErrUnexpectedEOF || code != "" {
+	if _, code, err := ReadLine(in, MaxLine, nil); err != io.ErrUnexpectedEOF || code != "" {
 		t.Errorf("got %q, %v", code, err)
 	}
 }

@@ -2,7 +2,7 @@
 //
 // It knows prune, which commits and reports its number, show, after, and token, which it ignores. Some hints in a line make it misbehave: L5, L6,
 // L7 and L8 are replied as codes, KILL ends the process, HANG makes it answer nothing more on this connection, and SLOW makes it take a tenth of a
-// second. With LATE a change is seen by the other connections after two seconds. For the domain shared.org the connections number their calls
+// second. LARGE makes a reply of 100 kB. With LATE a change is seen by the other connections after two seconds. For the domain shared.org the connections number their calls
 // together, and for hung.org it never listens.
 package regdtest
 
@@ -14,6 +14,7 @@ import (
 	"net"
 	"os"
 	"strconv"
+	"strings"
 	"sync"
 	"time"
 )
@@ -124,6 +125,9 @@ func (b *book) reply(text []byte, isWriter bool) (reply string, isCall bool) {
 			b.place++
 			return fmt.Sprintf(`"place":%d,"replies":[{"pruned":["%d"]}],"result":"committed"`, b.place, b.place), true
 		}
+	}
+	if bytes.Contains(text, []byte("LARGE")) {
+		return fmt.Sprintf(`"place":%d,"replies":["%s"],"result":"answered"`, place, strings.Repeat("x", 100_000)), true
 	}
 	return fmt.Sprintf(`"place":%d,"replies":[],"result":"answered"`, place), true
 }

@@ -1,0 +1,421 @@
+package server
+
+import (
+	"bufio"
+	"context"
+	"crypto/tls"
+	"fmt"
+	"io"
+	"net"
+	"strings"
+	"testing"
+	"time"
+
+	"regd/gateway/internal/wire"
+)
+
+// large is a query with a reply of 100 kB.
+const large = `{"ops":[{"op":"show","hint":"LARGE"}]}`
+
+func refusal(code string, line int) string { return fmt.Sprintf(`{"code":"%s","line":%d}`, code, line) }
+
+// ends waits for the end of a connection, and returns what came before it.
+func ends(t *testing.T, in io.Reader) string {
+	t.Helper()
+	text, err := io.ReadAll(in)
+	if err != nil {
+		t.Errorf("the connection ended with %v", err)
+	}
+	return string(text)
+}
+
+// endedFor returns how many connections a gateway ended for a reason.
+func endedFor(t *testing.T, g *Gateway, reason string) float64 {
+	return samples(t, g)[fmt.Sprintf("regd_gateway_connections_ended_total{reason=%q}", reason)]
+}
+
+// TestIdle checks that a caller that begins no line, and one that doesn't end its line, are cut off, and that one that sends lines is not.
+func TestIdle(t *testing.T) {
+	t.Parallel()
+	s := newSite(t)
+	s.limits.Idle, s.limits.Line = 2*time.Second, 500*time.Millisecond
+	g, address, _ := s.gateway("a")
+	active, answers := s.dial(address)
+	_, silent := s.dial(address)
+	slow, cut := s.dial(address)
+	fmt.Fprint(slow, show+"\n"+show[:9])
+	begin := time.Now()
+	if got := ends(t, cut); got != answered(1, 0)+"\n" {
+		t.Errorf("got %s", got)
+	}
+	if took := time.Since(begin); took >= s.limits.Idle {
+		t.Errorf("half a line: it took %v", took)
+	}
+	for call := 1; time.Since(begin) < 2*s.limits.Idle; call++ {
+		fmt.Fprintln(active, show)
+		if got, err := answers.ReadString('\n'); got != answered(call, 0)+"\n" {
+			t.Fatalf("got %s, %v", got, err)
+		}
+		time.Sleep(s.limits.Idle / 5)
+	}
+	if got := ends(t, silent); got != "" {
+		t.Errorf("got %s", got)
+	}
+	if idle, line := endedFor(t, g, "idle"), endedFor(t, g, "line"); idle != 1 || line != 1 {
+		t.Errorf("%v silent and %v slow ones were counted", idle, line)
+	}
+}
+
+// TestConnectionsLimit checks that a connection over the limit is closed without an answer, and that room is free again when one ends.
+func TestConnectionsLimit(t *testing.T) {
+	s := newSite(t)
+	s.limits.Connections = 2
+	g, address, _ := s.gateway("a")
+	first, _ := s.dial(address)
+	s.dial(address)
+	within(t, "no connections", func() bool { return g.sessions.Load() == 2 })
+	_, third := s.dial(address)
+	if text, _ := io.ReadAll(third); len(text) > 0 || endedFor(t, g, "connections") != 1 {
+		t.Errorf("got %s", text)
+	}
+	first.Close()
+	within(t, "no room", func() bool { return g.sessions.Load() == 1 })
+	s.expect("after one has ended", s.call(address, show), answered(1, 0))
+}
+
+// secured starts a gateway with certificates, and returns its address and what opens a connection of a caller.
+func (s *site) secured(operators ...string) (*Gateway, func(uris ...string) (net.Conn, *bufio.Reader)) {
+	a := newAuthority(s.t)
+	a.leaf("server")
+	config, err := a.files("server").Config()
+	if err != nil {
+		s.t.Fatal(err)
+	}
+	g, _, _ := s.gateway("secured")
+	g.options.TLS, g.options.Operators = config, operators
+	on, err := net.Listen("tcp", "127.0.0.1:0")
+	if err != nil {
+		s.t.Fatal(err)
+	}
+	go g.Serve(s.ctx, on, false)
+	return g, func(uris ...string) (net.Conn, *bufio.Reader) {
+		a.leaf("caller", uris...)
+		client, err := a.files("caller").Config()
+		if err != nil {
+			s.t.Fatal(err)
+		}
+		client.ServerName = "gateway"
+		outer, _ := s.dial(on.Addr().String())
+		conn := tls.Client(outer, client)
+		return conn, bufio.NewReader(conn)
+	}
+}
+
+// TestCallerConnections checks that a caller with too many connections gets G4 on one more, whatever it sends, and that others are served.
+func TestCallerConnections(t *testing.T) {
+	s := newSite(t)
+	s.limits.CallerConnections = 2
+	g, dial := s.secured(n2)
+	served := func(conn net.Conn, in *bufio.Reader) {
+		t.Helper()
+		fmt.Fprintln(conn, show)
+		if got, err := in.ReadString('\n'); got != answered(1, 0)+"\n" {
+			t.Fatalf("got %s, %v", got, err)
+		}
+	}
+	first, in := dial(n2)
+	served(first, in)
+	served(dial(n2))
+	third, in := dial(n2)
+	fmt.Fprint(third, strings.Repeat(show+"\n", 100))
+	if got := ends(t, in); got != refusal(wire.TooMany, 1)+"\n" || endedFor(t, g, "caller") != 1 {
+		t.Errorf("got %s", got)
+	}
+	other, in := dial(n1)
+	fmt.Fprintln(other, show)
+	if got, err := in.ReadString('\n'); got != refusal(wire.NotAllowed, 1)+"\n" {
+		t.Errorf("another caller got %s, %v", got, err)
+	}
+	first.Close()
+	within(t, "the connections stay", func() bool { return g.sessions.Load() == 2 })
+	served(dial(n2))
+}
+
+// TestLineBytes checks the limit of a line.
+func TestLineBytes(t *testing.T) {
+	s := newSite(t)
+	s.limits.LineBytes = 20000
+	_, address, _ := s.gateway("a")
+	fill := func(size int) string { return show + strings.Repeat(" ", size-len(show)) }
+	s.expect("long lines", s.call(address, fill(20000), fill(20001), fill(wire.MaxLine), fill(wire.MaxLine+1), show),
+		answered(1, 0), refusal(wire.TooLong, 2), refusal(wire.TooLong, 3), refusal("L1", 4), answered(2, 0))
+}
+
+// TestLongLines checks that few long lines are under way: one over the limit waits, and is refused if that takes too long.
+func TestLongLinesLimit(t *testing.T) {
+	s := newSite(t)
+	s.limits.LongLines, s.limits.Answer = 1, 300*time.Millisecond
+	g, address, _ := s.gateway("a")
+	long := show + strings.Repeat(" ", 2*readBuffer)
+	s.expect("one after another", s.call(address, long, long, long), answered(1, 0), answered(2, 0), answered(3, 0))
+	slow, in := s.dial(address)
+	fmt.Fprint(slow, long[:readBuffer+1])
+	within(t, "no slot is taken", func() bool { return len(g.long) == 1 })
+	s.expect("while another one arrives", s.call(address, show, long, show), answered(1, 0), refusal(wire.Busy, 2), answered(2, 0))
+	fmt.Fprintln(slow, long[readBuffer+1:])
+	if got, err := in.ReadString('\n'); got != answered(1, 0)+"\n" {
+		t.Errorf("the first one got %s, %v", got, err)
+	}
+	s.expect("afterwards", s.call(address, long), answered(1, 0))
+	fmt.Fprint(slow, long[:readBuffer+1])
+	within(t, "no slot is taken", func() bool { return len(g.long) == 1 })
+	slow.Close()
+	within(t, "the slot stays taken", func() bool { return len(g.long) == 0 })
+}
+
+// TestChangesLimit lets etcd refuse everything. A change that waits behind too many others is refused after the time for an answer. What was sent
+// before it is answered immediately, and its connection goes on.
+func TestChangesLimit(t *testing.T) {
+	s := newSite(t)
+	s.limits.Changes, s.limits.Answer = 2, 500*time.Millisecond
+	g, address, _ := s.gateway("a")
+	s.store.Refuse(1 << 30)
+	g.changes <- (&session{Gateway: g}).request([]byte(prune))
+	within(t, "no append", func() (isUnderWay bool) {
+		g.flights.Range(func(any, any) bool { isUnderWay = true; return false })
+		return isUnderWay
+	})
+	for i := 0; i < 2; i++ {
+		g.changes <- (&session{Gateway: g}).request([]byte(prune))
+	}
+	conn, in := s.dial(address)
+	begin := time.Now()
+	fmt.Fprintf(conn, "%s\n%s\n%s\n", show, prune, show)
+	got, _ := in.ReadString('\n')
+	if took := time.Since(begin); got != answered(1, 0)+"\n" || took >= s.limits.Answer {
+		t.Errorf("before the change: got %s after %v", got, took)
+	}
+	got, _ = in.ReadString('\n')
+	if took := time.Since(begin); got != refusal(wire.Busy, 2)+"\n" || took < s.limits.Answer || took > 5*time.Second {
+		t.Errorf("the change: got %s after %v", got, took)
+	}
+	if got, _ := in.ReadString('\n'); got != answered(2, 0)+"\n" {
+		t.Errorf("after the change: got %s", got)
+	}
+	s.store.Refuse(0)
+	s.expect("another change", s.call(address, prune), committed(1, 4))
+}
+
+// TestWaitingAnswers checks that the answer to a change doesn't wait with a later one for which there is no room.
+func TestWaitingAnswers(t *testing.T) {
+	s := newSite(t)
+	s.limits.Changes = 1
+	conn := &written{}
+	made := &session{Gateway: New(s.log, Options{Limits: s.limits}), conn: conn, isChanging: true}
+	made.changes <- made.request(nil)
+	made.add(made.request(nil)).answer([]byte(committed(7, 1)))
+	ctx, cancel := context.WithTimeout(s.ctx, 100*time.Millisecond)
+	defer cancel()
+	if made.change(ctx, []byte(prune)) || conn.text != committed(1, 1)+"\n" {
+		t.Errorf("wrote %s", conn.text)
+	}
+}
+
+// TestShares checks how many lines of a connection may be under way while others have some.
+func TestShares(t *testing.T) {
+	s := newSite(t)
+	made, _ := rowOf(s)
+	others := func(count int64) { made.active.Store(count + 1) }
+	for made.add(made.request(nil)); len(made.row) < 8; made.add(made.request(nil)) {
+	}
+	for _, c := range []struct {
+		name       string
+		isChanging bool
+		others     int64
+		want       bool
+	}{
+		{"queries alone", false, 0, false},
+		{"queries and few others", false, queryRoom/8 - 2, false},
+		{"queries and many others", false, queryRoom / 8, true},
+		{"changes and as many others", true, queryRoom / 8, false},
+		{"changes and more others", true, changeRoom / 8, true},
+	} {
+		others(c.others)
+		if made.isChanging = c.isChanging; made.isFull() != c.want {
+			t.Errorf("%s: got %v", c.name, !c.want)
+		}
+	}
+	others(0)
+	for _, q := range made.row {
+		q.answer([]byte(committed(7, 1)))
+	}
+	if !made.writeAnswers(s.ctx, 0) || made.active.Load() != 0 {
+		t.Errorf("%d connections are active", made.active.Load())
+	}
+	if made.active.Store(1 << 40); made.isFull() {
+		t.Error("no line may be under way")
+	}
+	made.active.Store(0)
+	made.add(made.request(nil))
+	if made.leave(); made.active.Load() != 0 {
+		t.Errorf("%d connections are active", made.active.Load())
+	}
+}
+
+// TestReplyRoom lets a caller send queries with large replies, and read none. When the size of the replies is known, few are under way.
+func TestReplyRoom(t *testing.T) {
+	s := newSite(t)
+	g, address, _ := s.gateway("a")
+	conn, in := s.dial(address)
+	conn.(*net.TCPConn).SetReadBuffer(4096)
+	fmt.Fprintln(conn, large)
+	if got, err := in.ReadString('\n'); len(got) < 100_000 {
+		t.Fatalf("got %s, %v", got, err)
+	}
+	within(t, "a reply is held", func() bool { return g.held.Load() == 0 })
+	fmt.Fprint(conn, strings.Repeat(large+"\n", 100))
+	within(t, "no reply", func() bool { return g.held.Load() >= replyRoom/2 })
+	time.Sleep(300 * time.Millisecond)
+	if held := g.held.Load(); held > 2*replyRoom {
+		t.Errorf("%d bytes of replies are held", held)
+	}
+	conn.Close()
+	within(t, "replies stay", func() bool { return g.held.Load() == 0 })
+	made, _ := rowOf(s)
+	for _, size := range []int{replyRoom, 1, 1, 1, 1, 1, 1, 1, 1, 1, 1, 1, 1, 1, 1, 1, 1} {
+		made.add(made.request(nil)).answer(make([]byte, size))
+		made.writeAnswers(s.ctx, 0)
+	}
+	if made.largest > replyRoom/4 {
+		t.Errorf("after small replies a large one is of %d bytes", made.largest)
+	}
+	if cap(made.out) > 4*flushSize {
+		t.Errorf("%d bytes are kept", cap(made.out))
+	}
+}
+
+// TestReplyBytes lets a caller ask for more than fits, and read nothing. Large replies to others find no room, small ones do.
+func TestReplyBytes(t *testing.T) {
+	s := newSite(t)
+	s.limits.ReplyBytes, s.limits.Write = 350_000, 10*time.Minute
+	g, address, _ := s.gateway("a")
+	conn, in := s.dial(address)
+	conn.(*net.TCPConn).SetReadBuffer(4096)
+	fmt.Fprint(conn, strings.Repeat(large+"\n", 100))
+	within(t, "no replies", func() bool { return samples(t, g)["regd_gateway_reply_bytes"] > 300_000 })
+	if held := g.held.Load(); held > 360_000 {
+		t.Errorf("%d bytes of replies are held", held)
+	}
+	s.expect("others", s.call(address, large, show), refusal(wire.Busy, 1), answered(1, 0))
+	busy := 0
+	for i := 0; i < 100; i++ {
+		got, err := in.ReadString('\n')
+		if err != nil {
+			t.Fatal(err)
+		}
+		if strings.HasPrefix(got, `{"code":"G5",`) {
+			busy++
+		}
+	}
+	if busy == 0 || busy == 100 {
+		t.Errorf("%d of 100 queries were refused", busy)
+	}
+	within(t, "replies stay", func() bool { return g.held.Load() == 0 })
+	s.expect("afterwards", s.call(address, show), answered(1, 0))
+}
+
+// TestLateReply checks that a reply which comes when its caller has left takes no room, and neither does one that had come before.
+func TestLateReply(t *testing.T) {
+	made, _ := rowOf(newSite(t), []byte("abc"))
+	late := made.add(made.request(nil))
+	made.unsent = 5
+	made.held.Add(5)
+	made.leave()
+	if late.answer([]byte("abc")); made.held.Load() != 0 {
+		t.Errorf("%d bytes are held", made.held.Load())
+	}
+}
+
+// TestPressure checks that a caller that doesn't read has less time for it when replies take much room.
+func TestPressure(t *testing.T) {
+	s := newSite(t)
+	s.limits.Write = 20 * time.Second
+	g, address, _ := s.gateway("a")
+	g.held.Add(s.limits.ReplyBytes/2 + 1)
+	conn, _ := s.dial(address)
+	conn.(*net.TCPConn).SetReadBuffer(4096)
+	begin := time.Now()
+	for lines := []byte(strings.Repeat(show+"\n", 1000)); ; {
+		conn.SetWriteDeadline(time.Now().Add(30 * time.Second))
+		if _, err := conn.Write(lines); err != nil {
+			break
+		}
+	}
+	if took := time.Since(begin); took > s.limits.Write*3/4 || endedFor(t, g, "write") != 1 {
+		t.Errorf("it was cut off after %v", took)
+	}
+}
+
+// TestPart checks that a caller gets its answers although the gateway ends a connection on which lines are unread.
+func TestPart(t *testing.T) {
+	s := newSite(t)
+	s.limits.Answer = 200 * time.Millisecond
+	_, address, _ := s.gateway("a")
+	s.store.Refuse(1 << 30)
+	conn, in := s.dial(address)
+	fmt.Fprint(conn, show+"\n"+prune+"\n"+strings.Repeat(show+"\n", 1000))
+	time.Sleep(2 * s.limits.Answer)
+	if got := ends(t, in); got != answered(1, 0)+"\n" {
+		t.Errorf("got %s", got)
+	}
+	s.store.Refuse(0)
+}
+
+// TestReset checks that no change is made for a caller that has ended its connection in both directions, and that one that has ended one
+// direction may wait.
+func TestReset(t *testing.T) {
+	s := newSite(t)
+	on, err := net.Listen("tcp", "127.0.0.1:0")
+	if err != nil {
+		t.Fatal(err)
+	}
+	defer on.Close()
+	outer, _ := s.dial(on.Addr().String())
+	inner, err := on.Accept()
+	if err != nil {
+		t.Fatal(err)
+	}
+	defer inner.Close()
+	g := New(s.log, Options{Limits: s.limits})
+	queued := func() *request {
+		q := (&session{Gateway: g, conn: tls.Server(inner, nil)}).request([]byte(prune))
+		g.changes <- q
+		return q
+	}
+	outer.(*net.TCPConn).CloseWrite()
+	time.Sleep(50 * time.Millisecond)
+	queued()
+	if changes, _ := g.collect(s.ctx); len(changes) != 1 {
+		t.Errorf("half closed: %d changes are made", len(changes))
+	}
+	outer.(*net.TCPConn).SetLinger(0)
+	outer.Close()
+	within(t, "it is not reset", func() bool { return isReset(inner) })
+	q := queued()
+	g.changes <- (&session{Gateway: g}).request([]byte(show))
+	if changes, lines := g.collect(s.ctx); len(changes) != 1 || string(lines[0]) != show {
+		t.Errorf("reset: got %q", lines)
+	}
+	select {
+	case reply := <-q.reply:
+		if reply != nil {
+			t.Errorf("got %s", reply)
+		}
+	default:
+		t.Error("the session isn't ended")
+	}
+	inner.Close()
+	if !isReset(inner) {
+		t.Error("a closed connection is not reset")
+	}
+}
