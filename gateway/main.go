@@ -20,9 +20,10 @@ import (
 	"regd/gateway/internal/logline"
 	"regd/gateway/internal/server"
 	"regd/gateway/internal/snapshot"
+	"regd/gateway/internal/wire"
 )
 
-// sumVersion changes with the way in which replies make a checksum.
+// sumVersion changes with the way in which replies make a checksum. Votes have it in front of the version of the replies.
 const sumVersion = "1"
 
 // statusTime is how long a request for the status, and its answer, may take.
@@ -35,6 +36,7 @@ type settings struct {
 	files                      server.Files
 	isSnapshot                 bool
 	keep                       uint64
+	skip                       etcd.Line
 }
 
 // parse reads the command line, and prints what is wrong with it.
@@ -56,6 +58,8 @@ func parse(words []string) (s settings, err error) {
 	operators := flags.String("operators", "", "TLS: the SPIFFE `IDs` of callers that may send every line, separated by commas")
 	addLimits(flags, &s.Limits)
 	flags.BoolVar(&s.isSnapshot, "snapshot", false, "make a snapshot, cut the log behind it, and exit")
+	skip := flags.String("skip", "", "make all replicas leave out a `line`, given as the number of its entry, a point, and its number there, and exit")
+	flags.StringVar(&s.Replies, "replies", "1", "a `version`: gateways with the same one have to give the same replies")
 	flags.Uint64Var(&s.keep, "keep", 10000, "with -snapshot: how many entries stay in the log")
 	if err := flags.Parse(words); err != nil {
 		return s, err
@@ -64,7 +68,8 @@ func parse(words []string) (s settings, err error) {
 		s.Name = host + "/" + s.listen
 	}
 	s.Operators = strings.Split(*operators, ",")
-	isTLS := s.files != server.Files{}
+	isTLS, isLine := s.files != server.Files{}, false
+	s.skip, isLine = etcd.ParseLine(*skip)
 	switch {
 	case flags.NArg() > 0:
 		err = fmt.Errorf("an unknown word: %s", flags.Arg(0))
@@ -72,6 +77,8 @@ func parse(words []string) (s settings, err error) {
 		err = errors.New("-domain is required")
 	case s.Replica.Workers < 2 || s.Replica.Workers > 32:
 		err = errors.New("-workers is not 2 to 32")
+	case *skip != "" && !isLine:
+		err = errors.New("-skip takes a line, such as 17.1")
 	case !s.Limits.IsValid():
 		err = fmt.Errorf("a limit is not above 0, or -limit-line-bytes is above %d", server.UsualLimits.LineBytes)
 	case isTLS && (s.files.Certificate == "" || s.files.Key == "" || s.files.Authorities == ""):
@@ -96,6 +103,7 @@ func addLimits(flags *flag.FlagSet, l *server.Limits) {
 	flags.DurationVar(&l.Idle, "limit-idle", l.Idle, "the time between two lines of a connection")
 	flags.DurationVar(&l.Line, "limit-line", l.Line, "the time from the first byte of a line to its last one")
 	flags.DurationVar(&l.Write, "limit-write", l.Write, "the time for a caller to read when its answers fill all buffers")
+	flags.DurationVar(&l.Stop, "limit-stop", l.Stop, "the time for lines that are under way after SIGTERM")
 	flags.IntVar(&l.LineBytes, "limit-line-bytes", l.LineBytes, "bytes of a line")
 	flags.IntVar(&l.Lines, "limit-lines", l.Lines, "lines of a connection that are under way")
 	flags.IntVar(&l.LongLines, "limit-long-lines", l.LongLines, "lines of over 8 KiB, of all connections, that are under way")
@@ -118,7 +126,10 @@ func main() {
 		os.Exit(2)
 	}
 	ctx, stop := signal.NotifyContext(context.Background(), syscall.SIGINT, syscall.SIGTERM)
-	defer stop()
+	go func() {
+		<-ctx.Done()
+		stop() // so that a second signal ends the program immediately
+	}()
 	if err := run(ctx, s); err != nil && ctx.Err() == nil {
 		logline.Error("stopped", "error", err)
 		if errors.Is(err, server.ErrOutvoted) {
@@ -138,20 +149,26 @@ func run(ctx context.Context, s settings) error {
 	if err != nil {
 		return err
 	}
-	s.Program = fmt.Sprintf("%s-%.8x", sumVersion, sha256.Sum256(text))
-	if s.TLS, err = s.files.Config(); err != nil {
+	s.Program, s.Replies = fmt.Sprintf("%.8x", sha256.Sum256(text)), sumVersion+"-"+s.Replies
+	if s.Callers, err = s.files.Load(); err != nil {
 		return err
 	}
-	etcdTLS, err := server.FilesIn(s.etcdFiles).Config()
-	if err != nil {
+	if s.Etcd, err = server.FilesIn(s.etcdFiles).Load(); err != nil {
 		return err
 	}
-	log := etcd.New(strings.Split(s.members, ","), s.prefix, etcdTLS)
+	var dial etcd.Dial
+	if s.Etcd != nil {
+		dial = s.Etcd.Dial
+	}
+	log := etcd.New(strings.Split(s.members, ","), s.prefix, dial)
 	if err := log.Open(ctx, s.Replica.Domain); err != nil {
 		return err
 	}
-	if s.isSnapshot {
+	switch {
+	case s.isSnapshot:
 		return snapshot.Make(ctx, log, s.Replica, s.keep)
+	case s.skip != etcd.Line{}:
+		return snapshot.Skip(ctx, log, s.skip, wire.NewID())
 	}
 	g := server.New(log, s.Options)
 	if s.status != "" {
@@ -161,7 +178,17 @@ func run(ctx context.Context, s settings) error {
 		}
 		go (&http.Server{Handler: g.Handler(), ReadTimeout: statusTime, WriteTimeout: statusTime}).Serve(on)
 	}
-	return g.Run(ctx, func(ctx context.Context) error { return serve(ctx, g, s) })
+	work, end := context.WithCancel(context.Background())
+	defer end()
+	go func() {
+		<-ctx.Done()
+		logline.Info("stopping")
+		late, cancel := context.WithTimeout(work, s.Limits.Stop)
+		defer cancel()
+		g.Shutdown(late)
+		end()
+	}()
+	return g.Run(work, func(ctx context.Context) error { return serve(ctx, g, s) })
 }
 
 // serve accepts callers, and prints their address.

@@ -65,6 +65,8 @@ func TestParse(t *testing.T) {
 		{"-domain ex.org -fresh 10.0.0.1:1", "loopback"},
 		{"-domain ex.org -operators spiffe://ex.org/o", "needs TLS"},
 		{"-domain ex.org -certificate c -key k", "-authorities"},
+		{"-domain ex.org -skip 17.1", ""},
+		{"-domain ex.org -skip 17", "-skip"},
 		{"-domain ex.org -limit-lines 0", "limit"},
 		{"-domain ex.org -limit-reply-bytes -1", "limit"},
 		{"-domain ex.org -limit-idle 0s", "limit"},
@@ -90,6 +92,7 @@ func TestLimits(t *testing.T) {
 		"-limit-idle=3s":              func(l *server.Limits) { l.Idle = 3 * time.Second },
 		"-limit-line=3s":              func(l *server.Limits) { l.Line = 3 * time.Second },
 		"-limit-write=3s":             func(l *server.Limits) { l.Write = 3 * time.Second },
+		"-limit-stop=3s":              func(l *server.Limits) { l.Stop = 3 * time.Second },
 		"-limit-line-bytes=7":         func(l *server.Limits) { l.LineBytes = 7 },
 		"-limit-lines=7":              func(l *server.Limits) { l.Lines = 7 },
 		"-limit-long-lines=7":         func(l *server.Limits) { l.LongLines = 7 },
@@ -225,7 +228,7 @@ func TestProgram(t *testing.T) {
 	s.expect("a fresh query", s.call(fresh, show), `{"call":1,"place":3,"replies":[],"result":"answered"}`+"\n")
 	text := s.get("http://" + state + "/status")
 	var values struct{ Name, Program string }
-	if json.Unmarshal([]byte(text), &values); values.Name != "g" || values.Program != label(t) {
+	if json.Unmarshal([]byte(text), &values); values.Name != "g" || values.Program != checksum(t) {
 		t.Errorf("status: got %s", text)
 	}
 	if text := s.get("http://" + state + "/metrics"); !strings.Contains(text, "\nregd_gateway_ready 1\n") {
@@ -244,13 +247,13 @@ func TestProgram(t *testing.T) {
 	s.expect("a query after a snapshot", s.call(address, show), `{"call":1,"place":3,"replies":[],"result":"answered"}`+"\n")
 }
 
-// label returns what votes say of this program as a regd.
-func label(t *testing.T) string {
+// checksum returns what the status says of this program as a regd.
+func checksum(t *testing.T) string {
 	text, err := os.ReadFile(os.Args[0])
 	if err != nil {
 		t.Fatal(err)
 	}
-	return fmt.Sprintf("1-%.8x", sha256.Sum256(text))
+	return fmt.Sprintf("%.8x", sha256.Sum256(text))
 }
 
 // TestOutvoted checks the exit status of a gateway whose checksum is wrong.
@@ -262,13 +265,79 @@ func TestOutvoted(t *testing.T) {
 		s.log.Append(ctx, entry, etcd.JoinEntry(fmt.Sprint(entry), [][]byte{[]byte(prune)}))
 	}
 	for _, name := range []string{"a", "b"} {
-		s.log.Put(ctx, "sum/"+label(t)+"/00000000000003e8/"+name, []byte("00"))
+		s.log.Put(ctx, "sum/1-1/00000000000003e8/"+name, []byte("00"))
 	}
 	s.expect("the exit status", fmt.Sprint(s.status(s.command())), "4")
+	gateway, _ := s.start("-replies", "2")
+	for begin := time.Now(); ; time.Sleep(10 * time.Millisecond) {
+		if votes, err := s.log.List(ctx, "sum/1-2/00000000000003e8/"); len(votes) == 1 {
+			break
+		} else if err != nil || time.Since(begin) > 10*time.Second {
+			t.Fatalf("the votes are %v, %v", votes, err)
+		}
+	}
+	gateway.Process.Signal(syscall.SIGTERM)
+	s.expect("the exit status with other replies", fmt.Sprint(s.status(gateway)), "0")
 }
 
-// TestFiles runs the program with certificates, over an etcd with certificates that doesn't speak TLS 1.3.
-func TestFiles(t *testing.T) {
+// TestSkipOption runs the program to skip a line.
+func TestSkipOption(t *testing.T) {
+	s := newSite(t)
+	_, address := s.start()
+	for place := 1; place <= 3; place++ {
+		s.call(address, prune)
+	}
+	if status := s.status(s.command("-skip", "2.1")); status != 0 {
+		t.Fatalf("the status of a skip is %d", status)
+	}
+	s.expect("the status of a skip of nothing", fmt.Sprint(s.status(s.command("-skip", "99.1"))), "1")
+	for begin := time.Now(); !strings.Contains(s.call(address, show), `"place":2,`); time.Sleep(10 * time.Millisecond) {
+		if time.Since(begin) > 10*time.Second {
+			t.Fatal("the line is not skipped")
+		}
+	}
+}
+
+// TestSignal sends the program a signal while etcd refuses a change. The change is answered when etcd accepts it, and the program ends. A second signal
+// ends the program immediately, and without one it ends when the time is over.
+func TestSignal(t *testing.T) {
+	for _, c := range []struct{ name, status string }{{"a change that is accepted", "0"}, {"two signals", "-1"}, {"a change that isn't", "0"}} {
+		s := newSite(t)
+		gateway, address := s.start("-limit-stop", "3s")
+		conn, err := net.Dial("tcp", address)
+		if err != nil {
+			t.Fatal(err)
+		}
+		defer conn.Close()
+		s.store.Refuse(1 << 30)
+		fmt.Fprintln(conn, prune)
+		time.Sleep(200 * time.Millisecond)
+		begin := time.Now()
+		gateway.Process.Signal(syscall.SIGTERM)
+		time.Sleep(200 * time.Millisecond)
+		want := ""
+		switch c.status {
+		case "-1":
+			gateway.Process.Signal(syscall.SIGTERM)
+		default:
+			if c.name == "a change that is accepted" {
+				s.store.Refuse(0)
+				want = `{"call":1,"place":1,"replies":[{"pruned":["1"]}],"result":"committed"}` + "\n"
+			}
+		}
+		conn.SetDeadline(time.Now().Add(20 * time.Second))
+		answer, _ := io.ReadAll(conn)
+		s.expect(c.name, string(answer), want)
+		s.expect("the exit status after "+c.name, fmt.Sprint(s.status(gateway)), c.status)
+		if took := time.Since(begin); took > 12*time.Second {
+			t.Errorf("%s: it took %v", c.name, took)
+		}
+		s.store.Refuse(0)
+	}
+}
+
+// TestCertificates runs the program with certificates, over an etcd with certificates that doesn't speak TLS 1.3.
+func TestCertificates(t *testing.T) {
 	s, folder := newSite(t), t.TempDir()
 	key, err := ecdsa.GenerateKey(elliptic.P256(), rand.Reader)
 	if err != nil {
@@ -281,24 +350,27 @@ func TestFiles(t *testing.T) {
 		t.Fatal(err)
 	}
 	keyDER, _ := x509.MarshalECPrivateKey(key)
-	certificate := pem.EncodeToMemory(&pem.Block{Type: "CERTIFICATE", Bytes: der})
-	for name, text := range map[string][]byte{"cert.pem": certificate, "ca.pem": certificate,
-		"key.pem": pem.EncodeToMemory(&pem.Block{Type: "EC PRIVATE KEY", Bytes: keyDER})} {
+	certificate, keyPEM := pem.EncodeToMemory(&pem.Block{Type: "CERTIFICATE", Bytes: der}), pem.EncodeToMemory(&pem.Block{Type: "EC PRIVATE KEY", Bytes: keyDER})
+	for name, text := range map[string][]byte{"cert.pem": certificate, "ca.pem": certificate, "key.pem": keyPEM} {
 		if err := os.WriteFile(filepath.Join(folder, name), text, 0o600); err != nil {
 			t.Fatal(err)
 		}
 	}
-	config, err := server.FilesIn(folder).Config()
+	certificates, err := server.FilesIn(folder).Load()
+	if err != nil {
+		t.Fatal(err)
+	}
+	pair, err := tls.X509KeyPair(certificate, keyPEM)
 	if err != nil {
 		t.Fatal(err)
 	}
 	secure := httptest.NewUnstartedServer(s.store.Config.Handler)
-	secure.TLS = &tls.Config{Certificates: config.Certificates, ClientAuth: tls.RequireAnyClientCert, MaxVersion: tls.VersionTLS12}
+	secure.TLS = &tls.Config{Certificates: []tls.Certificate{pair}, ClientAuth: tls.RequireAnyClientCert, MaxVersion: tls.VersionTLS12}
 	secure.StartTLS()
 	t.Cleanup(secure.CloseClientConnections)
 	_, address := s.start("-etcd", secure.URL, "-etcd-files", folder, "-operators", "spiffe://ex.org/ci,spiffe://ex.org/o",
 		"-certificate", filepath.Join(folder, "cert.pem"), "-key", filepath.Join(folder, "key.pem"), "-authorities", filepath.Join(folder, "ca.pem"))
-	conn, err := tls.Dial("tcp", address, config)
+	conn, err := certificates.Dial(context.Background(), "tcp", address)
 	if err != nil {
 		t.Fatal(err)
 	}

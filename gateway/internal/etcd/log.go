@@ -4,10 +4,10 @@ package etcd
 import (
 	"bytes"
 	"context"
-	"crypto/tls"
 	"encoding/json"
 	"errors"
 	"fmt"
+	"net"
 	"net/http"
 	"strconv"
 	"sync"
@@ -19,8 +19,9 @@ import (
 
 // Errors of the log.
 var (
-	ErrCut     = errors.New("the next entry was cut off: a snapshot stands for it")
-	ErrUnknown = errors.New("it is not known whether an entry was made: the one of its number was cut off")
+	ErrCut        = errors.New("the next entry was cut off: a snapshot stands for it")
+	ErrTurnedBack = errors.New("the log ends before the last entry that was read: etcd was restored from a backup")
+	ErrUnknown    = errors.New("it is not known whether an entry was made: the one of its number was cut off")
 )
 
 const txnPath = "/v3/kv/txn"
@@ -40,9 +41,12 @@ type Log struct {
 	http     http.Client
 }
 
-// New returns the log whose keys begin with the prefix. The members of etcd are URLs, and config is for those with https.
-func New(members []string, prefix string, config *tls.Config) *Log {
-	transport := &http.Transport{MaxIdleConnsPerHost: 16, TLSClientConfig: config}
+// A Dial opens a connection with TLS.
+type Dial func(ctx context.Context, network, address string) (net.Conn, error)
+
+// New returns the log whose keys begin with the prefix. The members of etcd are URLs, and dial is for those with https.
+func New(members []string, prefix string, dial Dial) *Log {
+	transport := &http.Transport{MaxIdleConnsPerHost: 16, DialTLSContext: dial}
 	return &Log{members: members, prefix: prefix, http: http.Client{Transport: transport}}
 }
 
@@ -153,7 +157,7 @@ func (l *Log) Append(ctx context.Context, number uint64, value []byte) (last uin
 }
 
 // Follow passes all entries from a number on to take, in order and without a gap: first those that exist, then, after a call of caughtUp, new
-// ones. It ends with an error: ErrCut, or one of etcd or the context. It also returns the number of the entry that is due next.
+// ones. It ends with an error: ErrCut, ErrTurnedBack, or one of etcd or the context. It also returns the number of the entry that is due next.
 func (l *Log) Follow(ctx context.Context, next uint64, caughtUp func(last uint64), take func(number uint64, value []byte)) (uint64, error) {
 	pass := func(entries ...pair) error {
 		for _, one := range entries {
@@ -178,6 +182,8 @@ func (l *Log) Follow(ctx context.Context, next uint64, caughtUp func(last uint64
 		entries, last, err := page.read()
 		if err == nil && len(entries) == 0 && last >= next {
 			err = ErrCut
+		} else if err == nil && last+1 < next {
+			err = ErrTurnedBack
 		}
 		if err == nil {
 			err = pass(entries...)

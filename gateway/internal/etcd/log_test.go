@@ -118,6 +118,9 @@ func TestFollow(t *testing.T) {
 	if _, err := log.Follow(ctx, 50, func(uint64) {}, func(uint64, []byte) {}); !errors.Is(err, etcd.ErrCut) {
 		t.Errorf("cut off in front: got %v", err)
 	}
+	if _, err := log.Follow(ctx, before+7, func(uint64) {}, func(uint64, []byte) {}); !errors.Is(err, etcd.ErrTurnedBack) {
+		t.Errorf("behind the end: got %v", err)
+	}
 	log.Cut(ctx, before+5)
 	if _, err := log.Follow(ctx, 50, func(uint64) {}, func(uint64, []byte) {}); !errors.Is(err, etcd.ErrCut) {
 		t.Errorf("all cut off: got %v", err)
@@ -160,5 +163,49 @@ func TestEntry(t *testing.T) {
 	name, got := etcd.SplitEntry(etcd.JoinEntry("n.1", lines))
 	if name != "n.1" || len(got) != 3 || string(got[0]) != "a" || len(got[1]) != 0 || string(got[2]) != "b\r" {
 		t.Errorf("got %s, %q", name, got)
+	}
+}
+
+// TestSkip checks what the log has of a skipped line.
+func TestSkip(t *testing.T) {
+	_, log, ctx := open(t)
+	for number := uint64(1); number <= 20; number++ {
+		if _, err := log.Append(ctx, number, etcd.JoinEntry(fmt.Sprint(number), [][]byte{[]byte("a"), []byte("b")})); err != nil {
+			t.Fatal(err)
+		}
+	}
+	for _, line := range []etcd.Line{{Entry: 21, Number: 1}, {Entry: 17, Number: 3}, {Entry: 17}} {
+		if err := log.Skip(ctx, line, "x"); err == nil {
+			t.Errorf("line %v was skipped, which is not there", line)
+		}
+	}
+	if skips, err := log.Skips(ctx); len(skips) != 0 || err != nil {
+		t.Errorf("got %v, %v", skips, err)
+	}
+	second := etcd.Line{Entry: 17, Number: 2}
+	for _, id := range []string{"x", "y"} { // such as again, when the first one was not answered
+		if err := log.Skip(ctx, second, id); err != nil {
+			t.Fatal(err)
+		}
+	}
+	skips, err := log.Skips(ctx)
+	if when, bad := time.Parse(time.RFC3339, skips[second]); len(skips) != 1 || err != nil || bad != nil || time.Since(when) > time.Minute {
+		t.Errorf("got %v, %v", skips, err)
+	}
+	for number, id := range map[uint64]string{21: "x", 22: "y"} {
+		value, _ := log.Get(ctx, etcd.EntryKey(number))
+		if name, lines := etcd.SplitEntry(value); name != "skip 17.2 "+id || len(lines) != 1 || string(lines[0]) != `{"skip":"17.2"}` {
+			t.Errorf("entry %d is %s", number, value)
+		}
+	}
+	for name, want := range map[string]bool{"skip 17.2 x": true, "11111111-0000.17": false, "skip 17.2": false, "skip x y": false, "skip 17.2z x": false, "": false} {
+		if line, isRecord := etcd.Skipped(name); isRecord != want || isRecord && line != second {
+			t.Errorf("%s: got %v, %v", name, line, isRecord)
+		}
+	}
+	for text, want := range map[string]bool{"17.2": true, "17": false, "17.2.": false, "017.2": false, "": false, "-1.2": false} {
+		if line, ok := etcd.ParseLine(text); ok != want || ok && line != second {
+			t.Errorf("%s: got %v, %v", text, line, ok)
+		}
 	}
 }

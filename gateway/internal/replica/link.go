@@ -7,12 +7,10 @@ import (
 	"time"
 )
 
-// hangTime is how long regd may take to listen, and for the next reply that it owes. Then it is ended, and with it the replica.
-var hangTime = 10 * time.Second
-
 // A link is a connection to regd: lines out, replies in, in the same order.
 type link struct {
 	conn net.Conn
+	hang time.Duration // for the next reply
 
 	mu        sync.Mutex
 	pending   []byte               // lines that are not yet written
@@ -49,7 +47,7 @@ func (l *link) submit(line []byte, done func(reply []byte)) {
 func (l *link) expect() {
 	var late time.Time // never
 	if len(l.waiting) > 0 {
-		late = time.Now().Add(hangTime)
+		late = time.Now().Add(l.hang)
 	}
 	l.conn.SetReadDeadline(late)
 }

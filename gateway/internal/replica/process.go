@@ -19,7 +19,9 @@ import (
 type Options struct {
 	Program string
 	Domain  string
-	Workers int // one executes the changes, the others answer queries
+	Workers int           // one executes the changes, the others answer queries
+	Hang    time.Duration // for regd to listen, and for the next reply that it owes, after which the replica ends; 0 for 10 seconds
+	Tokens  int           // how many are retained, by all gateways; 0 for 65,536
 }
 
 // firstLine makes regd's first reply on a connection, which shows that the connection is alone on its worker.
@@ -30,6 +32,12 @@ const firstLine = `{"ops":[{"op":"show","id":"00000000-0000-0000-0000-0000000000
 // regd accepts as many connections as it has workers, and the replica opens all of them. So connection 0 is the only writer, each connection
 // has a worker of its own, no other process can connect, and regd ends when this gateway ends.
 func Start(ctx context.Context, options Options, onEntry func(State)) (*Replica, error) {
+	if options.Hang == 0 {
+		options.Hang = 10 * time.Second
+	}
+	if options.Tokens == 0 {
+		options.Tokens = 65536
+	}
 	workers := strconv.Itoa(options.Workers)
 	// the seed stays the default: ids are drawn before a change is appended to the log
 	ctx, cancel := context.WithCancel(ctx)
@@ -44,11 +52,11 @@ func Start(ctx context.Context, options Options, onEntry func(State)) (*Replica,
 		cancel()
 		return nil, err
 	}
-	late := time.AfterFunc(hangTime, cancel)
+	late := time.AfterFunc(options.Hang, cancel)
 	defer late.Stop()
-	r := &Replica{command: command, onEntry: onEntry, ctx: ctx, cancel: cancel, slots: make(chan struct{}, mostOpen),
+	r := &Replica{options: options, command: command, onEntry: onEntry, ctx: ctx, cancel: cancel, slots: make(chan struct{}, mostOpen),
 		tokens: map[string]*Kept{}}
-	if err := r.connect(out, options.Workers); err != nil {
+	if err := r.connect(out); err != nil {
 		r.Close()
 		return nil, err
 	}
@@ -56,17 +64,17 @@ func Start(ctx context.Context, options Options, onEntry func(State)) (*Replica,
 }
 
 // connect opens all connections to the address that regd prints.
-func (r *Replica) connect(out io.Reader, workers int) error {
+func (r *Replica) connect(out io.Reader) error {
 	var first struct{ Listening string }
 	if err := json.NewDecoder(out).Decode(&first); err != nil {
 		return fmt.Errorf("regd didn't listen: %w", err)
 	}
-	for i := 0; i < workers; i++ {
+	for i := 0; i < r.options.Workers; i++ {
 		conn, err := net.Dial("tcp", first.Listening)
 		if err != nil {
 			return err
 		}
-		r.links = append(r.links, &link{conn: conn})
+		r.links = append(r.links, &link{conn: conn, hang: r.options.Hang})
 	}
 	r.reading.Add(len(r.links))
 	for i, l := range r.links {

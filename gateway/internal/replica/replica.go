@@ -19,20 +19,18 @@ import (
 // mostOpen is how many changes may be under way in regd while a replica follows the log.
 const mostOpen = 4096
 
-// mostTokens is how many tokens a replica retains. When a batch with a token is committed and there are more, the oldest one is forgotten. So the
-// retained tokens are a function of the log, whatever a clock says.
-var mostTokens = 65536
-
 // State is what a replica has executed.
 type State struct {
-	Entry uint64            // the last entry of which every line is answered
-	Place uint64            // the commit number of the book
-	Sum   [sha256.Size]byte // of all replies to changes, in their order
+	Entry   uint64            // the last entry of which every line is answered
+	Place   uint64            // the commit number of the book
+	Sum     [sha256.Size]byte // of all replies to changes, in their order
+	Skipped int               `json:",omitempty"` // how many lines were left out
 }
 
 // A Replica is a running regd with the state of the log up to an entry. When regd ends or leaves the log, its context ends, and the replica is
 // of no more use.
 type Replica struct {
+	options Options
 	command *exec.Cmd
 	links   []*link // the first one is for changes
 	onEntry func(State)
@@ -47,7 +45,7 @@ type Replica struct {
 	state    State
 	tokens   map[string]*Kept // also those of batches that are under way
 	retained []*Kept          // those of committed batches, the oldest first
-	hasLeft  bool             // regd gave a reply that the other replicas may not have got
+	hasLeft  bool             // regd gave no reply, or one that the other replicas may not have got
 }
 
 // A Kept is a token under which a batch was committed, or is about to be.
@@ -86,17 +84,40 @@ func (r *Replica) Query(number int, line []byte, done func(reply []byte)) {
 // Ask sends a query to regd and waits for the reply. It returns nil if regd has ended.
 func (r *Replica) Ask(line []byte) []byte { return r.links[1].call(line) }
 
-// Apply executes the lines of an entry, in order, and calls answer with the number and the reply of each. It returns before the replies
-// come. If regd ends, some lines are not answered.
-func (r *Replica) Apply(entry uint64, lines [][]byte, answer func(number int, reply []byte)) {
+// Apply executes the lines of an entry, in order, but for those that skips reports, and calls answer with the number and the reply of each. It
+// returns before the replies come. If regd ends, some lines are not answered.
+func (r *Replica) Apply(entry uint64, lines [][]byte, skips func(number int) bool, answer func(number int, reply []byte)) {
 	for i, line := range lines {
 		i := i
-		r.apply(line, func(reply []byte) {
+		done := func(reply []byte) {
 			if answer(i, reply); i == len(lines)-1 {
 				r.finish(entry)
 			}
-		})
+		}
+		if skips != nil && skips(i) {
+			r.skip(done)
+		} else {
+			r.apply(line, done)
+		}
 	}
+}
+
+// skip leaves a line out, when the lines before it are executed.
+func (r *Replica) skip(done func(reply []byte)) {
+	if r.Settle(); r.HasEnded() {
+		return
+	}
+	r.mu.Lock()
+	r.state.Skipped++
+	r.mu.Unlock()
+	done(wire.Refusal(wire.Skipped))
+}
+
+// HasEnded returns true if a line was not executed, because regd has ended or left the log.
+func (r *Replica) HasEnded() bool {
+	r.mu.Lock()
+	defer r.mu.Unlock()
+	return r.hasLeft
 }
 
 // Settle waits until every line is answered, or regd has ended.
@@ -168,7 +189,8 @@ func (r *Replica) isLost(reply []byte) bool {
 		}
 		r.hasLeft = true
 	}
-	return r.hasLeft || reply == nil
+	r.hasLeft = r.hasLeft || reply == nil
+	return r.hasLeft
 }
 
 // note takes the reply to a change into the state. It returns false if the replica is of no more use.
@@ -191,11 +213,12 @@ func (r *Replica) note(reply []byte, kept *Kept) bool {
 	return true
 }
 
-// retain retains the token of a committed batch.
+// retain retains the token of a committed batch. If there are more than a number, the oldest one is forgotten. So the retained tokens are a function of
+// the log, whatever a clock says.
 func (r *Replica) retain(kept *Kept, reply []byte) {
 	kept.Reply = reply
 	r.tokens[kept.Token] = kept
-	if r.retained = append(r.retained, kept); len(r.retained) > mostTokens {
+	if r.retained = append(r.retained, kept); len(r.retained) > r.options.Tokens {
 		delete(r.tokens, r.retained[0].Token)
 		r.retained = r.retained[1:]
 	}

@@ -21,10 +21,13 @@ func TestMain(m *testing.M) {
 }
 
 // start returns a replica over a regd in miniature, and the states that it reports.
-func start(t *testing.T) (*Replica, func() []State) {
+func start(t *testing.T) (*Replica, func() []State) { return startWith(t, Options{}) }
+
+func startWith(t *testing.T, options Options) (*Replica, func() []State) {
+	options.Program, options.Domain, options.Workers = os.Args[0], "ex.org", 3
 	var mu sync.Mutex
 	var states []State
-	r, err := Start(context.Background(), Options{Program: os.Args[0], Domain: "ex.org", Workers: 3}, func(s State) {
+	r, err := Start(context.Background(), options, func(s State) {
 		mu.Lock()
 		states = append(states, s)
 		mu.Unlock()
@@ -53,7 +56,7 @@ func apply(t *testing.T, r *Replica, entry uint64, lines ...string) []string {
 		all = append(all, []byte(line))
 	}
 	tails := make([]string, len(lines))
-	r.Apply(entry, all, func(number int, reply []byte) { tails[number] = string(wire.Tail(reply)) })
+	r.Apply(entry, all, nil, func(number int, reply []byte) { tails[number] = string(wire.Tail(reply)) })
 	r.Settle()
 	return tails
 }
@@ -123,10 +126,7 @@ func TestTokens(t *testing.T) {
 }
 
 func TestTokensAreRetainedByNumber(t *testing.T) {
-	most := mostTokens
-	t.Cleanup(func() { mostTokens = most })
-	mostTokens = 2
-	r, _ := start(t)
+	r, _ := startWith(t, Options{Tokens: 2})
 	apply(t, r, 1, tokened(1, 0), tokened(2, 0), strings.Replace(tokened(4, 0), "prune", "delete", 1), tokened(3, 0))
 	if kept := r.Tokens(); len(kept) != 2 || len(r.tokens) != 2 {
 		t.Errorf("got %v", kept)
@@ -159,6 +159,37 @@ func TestRestore(t *testing.T) {
 	third, _ := start(t)
 	if err := third.Restore(State{Place: 2}, []string{prune, `{"ops":[]}`}, nil); err == nil {
 		t.Error("a line of a snapshot that is not committed is no error")
+	}
+}
+
+// TestReplicaSkips checks that a line which is left out is answered after those before it, and not at all if regd has ended.
+func TestReplicaSkips(t *testing.T) {
+	r, states := start(t)
+	slow, kill := []byte(`{"ops":[{"op":"prune","hint":"SLOW"}]}`), []byte(`{"ops":[{"op":"prune","hint":"KILL"}]}`)
+	var got []string
+	skipped := func(numbers ...int) func(int) bool {
+		return func(number int) bool {
+			for _, one := range numbers {
+				if one == number {
+					return true
+				}
+			}
+			return false
+		}
+	}
+	answer := func(number int, reply []byte) { got = append(got, fmt.Sprint(number, " ", string(wire.Tail(reply)))) }
+	r.Apply(1, [][]byte{slow, kill, slow, kill}, skipped(1, 3), answer)
+	want := []string{"0 " + committed(1), `1 {"code":"G7"`, "2 " + committed(2), `3 {"code":"G7"`}
+	if strings.Join(got, "\n") != strings.Join(want, "\n") {
+		t.Errorf("got %q", got)
+	}
+	if all := states(); len(all) != 1 || all[0].Entry != 1 || all[0].Skipped != 2 || all[0].Place != 2 {
+		t.Errorf("got %v", all)
+	}
+	got = nil
+	r.Apply(2, [][]byte{slow, kill, slow}, skipped(2), answer)
+	if !r.HasEnded() || len(got) != 1 || len(states()) != 1 {
+		t.Errorf("after the end: got %q, %v", got, states())
 	}
 }
 
@@ -207,7 +238,7 @@ func TestClose(t *testing.T) {
 	if err != nil {
 		t.Fatal(err)
 	}
-	r.Apply(1, [][]byte{[]byte(prune)}, func(int, []byte) {})
+	r.Apply(1, [][]byte{[]byte(prune)}, nil, func(int, []byte) {})
 	<-begun
 	closed := make(chan struct{})
 	go func() {
@@ -252,7 +283,7 @@ func TestOpenChanges(t *testing.T) {
 	}
 	done := make(chan struct{})
 	go func() {
-		r.Apply(1, lines, func(int, []byte) {})
+		r.Apply(1, lines, nil, func(int, []byte) {})
 		close(done)
 	}()
 	waits(t, "too few changes are open", func() bool { return sent() >= mostOpen })
@@ -318,7 +349,7 @@ func TestEnd(t *testing.T) {
 	}
 	<-r.Context().Done()
 	r.Query(0, []byte(`{}`), func(reply []byte) { got <- reply })
-	r.Apply(1, [][]byte{[]byte(prune)}, func(int, []byte) { t.Error("answered") })
+	r.Apply(1, [][]byte{[]byte(prune)}, nil, func(int, []byte) { t.Error("answered") })
 	if reply := <-got; reply != nil {
 		t.Errorf("got %s", reply)
 	}
@@ -326,15 +357,13 @@ func TestEnd(t *testing.T) {
 
 // TestHang checks that a replica ends if regd owes a reply for too long, and neither if regd is slow nor if nothing is asked.
 func TestHang(t *testing.T) {
-	long := hangTime
-	t.Cleanup(func() { hangTime = long })
-	r, _ := start(t)
-	hangTime = 800 * time.Millisecond
+	const hang = 800 * time.Millisecond
+	r, _ := startWith(t, Options{Hang: hang})
 	for place := 1; place <= 10; place++ {
-		r.Apply(1, [][]byte{[]byte(`{"ops":[{"op":"prune","hint":"SLOW"}]}`)}, func(int, []byte) {})
+		r.Apply(1, [][]byte{[]byte(`{"ops":[{"op":"prune","hint":"SLOW"}]}`)}, nil, func(int, []byte) {})
 	}
 	r.Settle()
-	time.Sleep(hangTime * 3 / 2)
+	time.Sleep(hang * 3 / 2)
 	if got := apply(t, r, 2, prune); got[0] != committed(11) {
 		t.Fatalf("got %q", got)
 	}
@@ -353,25 +382,23 @@ func TestHang(t *testing.T) {
 
 // TestHungStart checks that a regd that never listens is ended.
 func TestHungStart(t *testing.T) {
-	long := hangTime
-	t.Cleanup(func() { hangTime = long })
-	hangTime = 300 * time.Millisecond
 	ctx, stop := context.WithTimeout(context.Background(), 10*time.Second)
 	defer stop()
-	if r, err := Start(ctx, Options{os.Args[0], "hung.org", 2}, nil); err == nil || ctx.Err() != nil {
+	if r, err := Start(ctx, Options{Program: os.Args[0], Domain: "hung.org", Workers: 2, Hang: 300 * time.Millisecond}, nil); err == nil || ctx.Err() != nil {
 		t.Errorf("got %v, %v", r, err)
 	}
 }
 
 func TestStartFails(t *testing.T) {
-	for _, options := range []Options{{"/nonexistent", "ex.org", 2}, {"/bin/true", "ex.org", 2}, {os.Args[0], "shared.org", 2}} {
+	for _, options := range []Options{{Program: "/nonexistent", Domain: "ex.org", Workers: 2}, {Program: "/bin/true", Domain: "ex.org", Workers: 2},
+		{Program: os.Args[0], Domain: "shared.org", Workers: 2}} {
 		if r, err := Start(context.Background(), options, nil); err == nil {
 			r.Close()
 			t.Errorf("%v started", options)
 		}
 	}
 	program, pid := script(t, "exec %s \"$@\"")
-	if _, err := Start(context.Background(), Options{program, "shared.org", 2}, nil); err == nil {
+	if _, err := Start(context.Background(), Options{Program: program, Domain: "shared.org", Workers: 2}, nil); err == nil {
 		t.Error("it started")
 	}
 	waits(t, "regd stays", func() bool { return syscall.Kill(pid(), 0) != nil })
@@ -394,7 +421,7 @@ func script(t *testing.T, command string) (string, func() int) {
 // TestWrapper checks that Close ends the connections to a regd that is not the process which was started, so that regd ends too.
 func TestWrapper(t *testing.T) {
 	program, pid := script(t, "%s \"$@\"")
-	r, err := Start(context.Background(), Options{program, "ex.org", 2}, nil)
+	r, err := Start(context.Background(), Options{Program: program, Domain: "ex.org", Workers: 2}, nil)
 	if err != nil {
 		t.Fatal(err)
 	}

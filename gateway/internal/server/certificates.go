@@ -1,11 +1,17 @@
 package server
 
 import (
+	"context"
 	"crypto/tls"
 	"crypto/x509"
 	"fmt"
+	"net"
 	"os"
 	"path/filepath"
+	"sync"
+	"time"
+
+	"regd/gateway/internal/logline"
 )
 
 // Files names the certificate of this process, its key, and the authorities that sign the certificates of its peers.
@@ -19,10 +25,13 @@ func FilesIn(folder string) Files {
 	return Files{filepath.Join(folder, "cert.pem"), filepath.Join(folder, "key.pem"), filepath.Join(folder, "ca.pem")}
 }
 
-// load reads the files. A peer has to show a certificate of the authorities, and to speak TLS 1.3.
+// load reads the files. A peer has to show a certificate of the authorities at each handshake, and to speak TLS 1.3.
 func (f Files) load() (*tls.Config, error) {
 	pair, err := tls.LoadX509KeyPair(f.Certificate, f.Key)
 	if err != nil {
+		return nil, err
+	}
+	if pair.Leaf, err = x509.ParseCertificate(pair.Certificate[0]); err != nil {
 		return nil, err
 	}
 	text, err := os.ReadFile(f.Authorities)
@@ -33,25 +42,71 @@ func (f Files) load() (*tls.Config, error) {
 	if !pool.AppendCertsFromPEM(text) {
 		return nil, fmt.Errorf("%s has no certificate", f.Authorities)
 	}
-	return &tls.Config{Certificates: []tls.Certificate{pair}, ClientCAs: pool, RootCAs: pool,
+	return &tls.Config{Certificates: []tls.Certificate{pair}, ClientCAs: pool, RootCAs: pool, SessionTicketsDisabled: true,
 		ClientAuth: tls.RequireAndVerifyClientCert, MinVersion: tls.VersionTLS13}, nil
 }
 
-// Config returns a configuration for a server and for a client, or nil if no files are named. It reads the files again at each handshake, since
-// such certificates live for hours only; but a client keeps its authorities. A client also accepts TLS 1.2.
-func (f Files) Config() (*tls.Config, error) {
+// stamp changes when one of the files does.
+func (f Files) stamp() (stamp string) {
+	for _, name := range []string{f.Certificate, f.Key, f.Authorities} {
+		if info, err := os.Stat(name); err == nil {
+			stamp += fmt.Sprintln(info.ModTime().UnixNano(), info.Size())
+		}
+	}
+	return stamp
+}
+
+// Certificates are what Files name. They are read again when the files change, since such certificates live for hours only. While the files are
+// not valid, such as between the replacement of one and the next, the former ones stay in use.
+type Certificates struct {
+	files Files
+
+	mu     sync.Mutex
+	config *tls.Config
+	stamp  string // of the files that config was read from
+	fails  logline.Rare
+}
+
+// Load reads the files. It returns nil if none are named.
+func (f Files) Load() (*Certificates, error) {
 	if f == (Files{}) {
 		return nil, nil
 	}
-	config, err := f.load()
-	if err != nil {
-		return nil, err
-	}
-	config.MinVersion = tls.VersionTLS12 // a server takes that of load
-	config.GetConfigForClient = func(*tls.ClientHelloInfo) (*tls.Config, error) { return f.load() }
-	config.GetClientCertificate = func(*tls.CertificateRequestInfo) (*tls.Certificate, error) {
-		pair, err := tls.LoadX509KeyPair(f.Certificate, f.Key)
-		return &pair, err
-	}
-	return config, nil
+	c := &Certificates{files: f, stamp: f.stamp()}
+	var err error
+	c.config, err = f.load()
+	return c, err
 }
+
+// current returns a configuration with the files as they are now, or as they were when they were valid. It must not be changed.
+func (c *Certificates) current() *tls.Config {
+	c.mu.Lock()
+	defer c.mu.Unlock()
+	stamp := c.files.stamp()
+	if stamp == c.stamp {
+		return c.config
+	}
+	config, err := c.files.load()
+	if err != nil {
+		c.fails.Error("certificates not loaded", "certificate", c.files.Certificate, "error", err)
+		return c.config
+	}
+	c.config, c.stamp = config, stamp
+	logline.Info("certificates loaded", "certificate", c.files.Certificate, "expiry", c.config.Certificates[0].Leaf.NotAfter.UTC().Format(time.RFC3339))
+	return c.config
+}
+
+// Server returns a configuration for a server.
+func (c *Certificates) Server() *tls.Config {
+	return &tls.Config{GetConfigForClient: func(*tls.ClientHelloInfo) (*tls.Config, error) { return c.current(), nil }}
+}
+
+// Dial opens a connection as a client, which also accepts TLS 1.2.
+func (c *Certificates) Dial(ctx context.Context, network, address string) (net.Conn, error) {
+	config := c.current().Clone()
+	config.MinVersion = tls.VersionTLS12
+	return (&tls.Dialer{Config: config}).DialContext(ctx, network, address)
+}
+
+// Expiry returns when the certificate expires.
+func (c *Certificates) Expiry() time.Time { return c.current().Certificates[0].Leaf.NotAfter }

@@ -17,6 +17,13 @@ const (
 	silentTime = 3 * time.Second        // how long a watch may bring nothing although there are new entries
 )
 
+// A failure is a line in which one replica after another has ended.
+type failure struct {
+	Line  etcd.Line `json:"line"`
+	Times int       `json:"times"`
+	sent  uint64    // the last entry that any of them has got
+}
+
 // follow keeps a replica at the end of the log, and starts another one when it ends, until the context ends.
 func (g *Gateway) follow(ctx context.Context) error {
 	for {
@@ -26,6 +33,9 @@ func (g *Gateway) follow(ctx context.Context) error {
 		}
 		g.replicasEnded.Inc()
 		logline.Error("replica ended", "error", err)
+		if f := g.failure.Load(); f != nil && f.Times > 1 {
+			logline.Error("a line ends replicas", "line", f.Line, "times", f.Times)
+		}
 		etcd.Pause(ctx, againTime)
 	}
 }
@@ -39,6 +49,11 @@ func (g *Gateway) runReplica(ctx context.Context) error {
 	}
 	defer r.Close()
 	ctx = r.Context()
+	skips, err := g.log.Skips(ctx)
+	if err != nil {
+		return err
+	}
+	g.skips.Store(&skips)
 	next, err := snapshot.Load(ctx, g.log, r)
 	if err != nil {
 		return err
@@ -55,10 +70,25 @@ func (g *Gateway) runReplica(ctx context.Context) error {
 			}
 		}
 	}
+	before, at := g.failure.Load(), etcd.Line{}
 	take := func(number uint64, value []byte) {
 		name, lines := etcd.SplitEntry(value)
-		r.Apply(number, lines, func(line int, reply []byte) { g.answer(name, line, reply) })
+		if line, isRecord := etcd.Skipped(name); isRecord && skips[line] == "" {
+			logline.Info("a line is skipped of which the replica did not know", "line", line)
+			r.Close()
+		}
+		isSkipped := func(i int) bool {
+			line := etcd.Line{Entry: number, Number: i + 1}
+			if before != nil && number <= before.sent { // one at a time, to find the one that ends replicas
+				if r.Settle(); !r.HasEnded() {
+					at = line
+				}
+			}
+			return skips[line] != ""
+		}
+		r.Apply(number, lines, isSkipped, func(i int, reply []byte) { g.answer(name, i, reply) })
 	}
+	defer func() { g.failure.Store(before.after(r.State().Entry, at, next-1)) }()
 	for {
 		reading, cut := context.WithCancel(ctx)
 		go g.guard(reading, cut, r)
@@ -67,12 +97,27 @@ func (g *Gateway) runReplica(ctx context.Context) error {
 		switch {
 		case ctx.Err() != nil:
 			return errors.New("regd ended")
-		case errors.Is(err, etcd.ErrCut):
+		case errors.Is(err, etcd.ErrCut) || errors.Is(err, etcd.ErrTurnedBack):
 			return err
 		}
 		logline.Error("reading the log again", "next", next, "error", err)
 		etcd.Pause(ctx, againTime)
 	}
+}
+
+// after returns the failure after a replica has ended which had executed one entry and got another one, or nil if it had executed all. If the lines
+// were executed one at a time, it has ended in the given one.
+func (f *failure) after(executed uint64, at etcd.Line, sent uint64) *failure {
+	if executed >= sent {
+		return nil
+	}
+	if at.Entry != executed+1 {
+		at = etcd.Line{Entry: executed + 1, Number: 1}
+	}
+	if f != nil && f.Line == at {
+		return &failure{at, f.Times + 1, f.sent}
+	}
+	return &failure{at, 1, sent}
 }
 
 // executed takes note that the replica has executed an entry.

@@ -68,6 +68,7 @@ func TestIdle(t *testing.T) {
 
 // TestConnectionsLimit checks that a connection over the limit is closed without an answer, and that room is free again when one ends.
 func TestConnectionsLimit(t *testing.T) {
+	t.Parallel()
 	s := newSite(t)
 	s.limits.Connections = 2
 	g, address, _ := s.gateway("a")
@@ -83,36 +84,27 @@ func TestConnectionsLimit(t *testing.T) {
 	s.expect("after one has ended", s.call(address, show), answered(1, 0))
 }
 
-// secured starts a gateway with certificates, and returns its address and what opens a connection of a caller.
+// secured starts a gateway with certificates, and returns it with what opens a connection of a caller.
 func (s *site) secured(operators ...string) (*Gateway, func(uris ...string) (net.Conn, *bufio.Reader)) {
 	a := newAuthority(s.t)
 	a.leaf("server")
-	config, err := a.files("server").Config()
-	if err != nil {
-		s.t.Fatal(err)
-	}
-	g, _, _ := s.gateway("secured")
-	g.options.TLS, g.options.Operators = config, operators
-	on, err := net.Listen("tcp", "127.0.0.1:0")
-	if err != nil {
-		s.t.Fatal(err)
-	}
-	go g.Serve(s.ctx, on, false)
+	s.callers, s.operators = a.load("server"), operators
+	g, address, _ := s.gateway("secured")
 	return g, func(uris ...string) (net.Conn, *bufio.Reader) {
 		a.leaf("caller", uris...)
-		client, err := a.files("caller").Config()
+		conn, err := a.load("caller").Dial(s.ctx, "tcp", address)
 		if err != nil {
 			s.t.Fatal(err)
 		}
-		client.ServerName = "gateway"
-		outer, _ := s.dial(on.Addr().String())
-		conn := tls.Client(outer, client)
+		conn.SetDeadline(time.Now().Add(40 * time.Second))
+		s.t.Cleanup(func() { conn.Close() })
 		return conn, bufio.NewReader(conn)
 	}
 }
 
 // TestCallerConnections checks that a caller with too many connections gets G4 on one more, whatever it sends, and that others are served.
 func TestCallerConnections(t *testing.T) {
+	t.Parallel()
 	s := newSite(t)
 	s.limits.CallerConnections = 2
 	g, dial := s.secured(n2)
@@ -153,6 +145,7 @@ func TestLineBytes(t *testing.T) {
 
 // TestLongLines checks that few long lines are under way: one over the limit waits, and is refused if that takes too long.
 func TestLongLinesLimit(t *testing.T) {
+	t.Parallel()
 	s := newSite(t)
 	s.limits.LongLines, s.limits.Answer = 1, 300*time.Millisecond
 	g, address, _ := s.gateway("a")
@@ -169,6 +162,7 @@ func TestLongLinesLimit(t *testing.T) {
 	s.expect("afterwards", s.call(address, long), answered(1, 0))
 	fmt.Fprint(slow, long[:readBuffer+1])
 	within(t, "no slot is taken", func() bool { return len(g.long) == 1 })
+	slow.(*net.TCPConn).SetLinger(0) // so that there is no end of the line, but an error
 	slow.Close()
 	within(t, "the slot stays taken", func() bool { return len(g.long) == 0 })
 }
@@ -176,6 +170,7 @@ func TestLongLinesLimit(t *testing.T) {
 // TestChangesLimit lets etcd refuse everything. A change that waits behind too many others is refused after the time for an answer. What was sent
 // before it is answered immediately, and its connection goes on.
 func TestChangesLimit(t *testing.T) {
+	t.Parallel()
 	s := newSite(t)
 	s.limits.Changes, s.limits.Answer = 2, 500*time.Millisecond
 	g, address, _ := s.gateway("a")
@@ -262,8 +257,107 @@ func TestShares(t *testing.T) {
 	}
 }
 
+// TestTurns takes all turns. Few queries that are sent together are answered without one. More of them wait, and their first answers don't.
+func TestTurns(t *testing.T) {
+	t.Parallel()
+	s := newSite(t)
+	g, address, _ := s.gateway("a")
+	if len(g.turns) != 2 {
+		t.Fatalf("there are turns for %d workers", len(g.turns))
+	}
+	fill := func() {
+		for _, turns := range g.turns {
+			for len(turns) < mostTurns {
+				turns <- struct{}{}
+			}
+		}
+	}
+	fill()
+	conn, in := s.dial(address)
+	fmt.Fprint(conn, strings.Repeat(show+"\n", 3*fewLines))
+	read := func(from, to int) {
+		t.Helper()
+		for call := from; call <= to; call++ {
+			if got, err := in.ReadString('\n'); got != answered(call, 0)+"\n" {
+				t.Fatalf("got %s, %v", got, err)
+			}
+		}
+	}
+	read(1, fewLines)
+	conn.SetReadDeadline(time.Now().Add(200 * time.Millisecond))
+	if got, err := in.ReadString('\n'); err == nil {
+		t.Errorf("without a turn: got %s", got)
+	}
+	s.expect("others meanwhile", s.call(address, show, show), answered(1, 0), answered(2, 0))
+	conn.SetReadDeadline(time.Now().Add(20 * time.Second))
+	for _, turns := range g.turns {
+		<-turns
+	}
+	read(fewLines+1, 3*fewLines)
+	within(t, "a turn doesn't end", func() bool { return len(g.turns[0])+len(g.turns[1]) == 2*mostTurns-2 })
+	fill()
+	for call := 3*fewLines + 1; call <= 5*fewLines; call++ { // one after another
+		fmt.Fprintln(conn, show)
+		read(call, call)
+	}
+}
+
+// TestManyWait checks that callers who send many queries together wait longer if many of them wait.
+func TestManyWait(t *testing.T) {
+	made, _ := rowOf(newSite(t))
+	made.turns = []chan struct{}{make(chan struct{})}
+	take := func() (bool, time.Duration) {
+		made.streak = fewLines
+		ctx, cancel := context.WithTimeout(context.Background(), 200*longerWait)
+		defer cancel()
+		begin := time.Now()
+		turns := made.turns[0]
+		go func() {
+			select {
+			case <-turns:
+			case <-ctx.Done():
+			}
+		}()
+		isTaken := made.takeTurn(ctx)
+		made.hasTurn = false
+		return isTaken, time.Since(begin)
+	}
+	for others, want := range map[int64]time.Duration{0: 0, manyWait - 1: 0, manyWait + 49: 50 * longerWait} {
+		made.waiting.Store(others)
+		if isTaken, took := take(); !isTaken || took < want || want == 0 && took > 45*longerWait || made.waiting.Load() != others {
+			t.Errorf("while %d others wait: got %v after %v", others, isTaken, took)
+		}
+	}
+	made.waiting.Store(1 << 20)
+	if isTaken, took := take(); isTaken && took < 100*longerWait || took > 20*time.Second {
+		t.Errorf("got %v after %v", isTaken, took)
+	}
+}
+
+// TestTurnsEnd checks that a turn ends before a caller is waited for, and when it has left.
+func TestTurnsEnd(t *testing.T) {
+	made, conn := rowOf(newSite(t), []byte(committed(7, 1)))
+	take := func() {
+		for made.streak = fewLines; !made.hasTurn; {
+			made.takeTurn(context.Background())
+		}
+	}
+	take()
+	conn.before = func() {
+		if len(made.turns[0]) != 0 {
+			t.Error("a caller that may not read has a turn")
+		}
+	}
+	made.writeAnswers(context.Background(), 0)
+	take()
+	if made.leave(); len(made.turns[0]) != 0 {
+		t.Error("a caller that has left has a turn")
+	}
+}
+
 // TestReplyRoom lets a caller send queries with large replies, and read none. When the size of the replies is known, few are under way.
 func TestReplyRoom(t *testing.T) {
+	t.Parallel()
 	s := newSite(t)
 	g, address, _ := s.gateway("a")
 	conn, in := s.dial(address)
@@ -296,6 +390,7 @@ func TestReplyRoom(t *testing.T) {
 
 // TestReplyBytes lets a caller ask for more than fits, and read nothing. Large replies to others find no room, small ones do.
 func TestReplyBytes(t *testing.T) {
+	t.Parallel()
 	s := newSite(t)
 	s.limits.ReplyBytes, s.limits.Write = 350_000, 10*time.Minute
 	g, address, _ := s.gateway("a")
@@ -336,8 +431,23 @@ func TestLateReply(t *testing.T) {
 	}
 }
 
+// TestUnsent checks that replies are held until they are written.
+func TestUnsent(t *testing.T) {
+	reply := []byte(committed(7, 1))
+	made, conn := rowOf(newSite(t), reply, reply)
+	conn.before = func() {
+		if held := made.held.Load(); held != int64(2*len(reply)) {
+			t.Errorf("%d bytes are held", held)
+		}
+	}
+	if !made.writeAnswers(context.Background(), 0) || made.held.Load() != 0 {
+		t.Errorf("afterwards %d bytes are held", made.held.Load())
+	}
+}
+
 // TestPressure checks that a caller that doesn't read has less time for it when replies take much room.
 func TestPressure(t *testing.T) {
+	t.Parallel()
 	s := newSite(t)
 	s.limits.Write = 20 * time.Second
 	g, address, _ := s.gateway("a")
@@ -358,6 +468,7 @@ func TestPressure(t *testing.T) {
 
 // TestPart checks that a caller gets its answers although the gateway ends a connection on which lines are unread.
 func TestPart(t *testing.T) {
+	t.Parallel()
 	s := newSite(t)
 	s.limits.Answer = 200 * time.Millisecond
 	_, address, _ := s.gateway("a")

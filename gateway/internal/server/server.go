@@ -25,6 +25,7 @@ type Limits struct {
 	Idle      time.Duration // for a caller to begin a line
 	Line      time.Duration // for the rest of the line
 	Write     time.Duration // for a caller to read when its answers fill all buffers
+	Stop      time.Duration // for lines that are under way when the gateway shuts down
 	Votes     time.Duration // between two looks at the votes
 	Members   time.Duration // between two looks at the members of etcd
 
@@ -40,13 +41,13 @@ type Limits struct {
 // UsualLimits are the defaults of the program.
 var UsualLimits = Limits{
 	Answer: 20 * time.Second, After: 2 * time.Second, Handshake: 10 * time.Second, Idle: 15 * time.Minute, Line: 30 * time.Second,
-	Write: 20 * time.Second, Votes: 5 * time.Second, Members: 10 * time.Second,
+	Write: 20 * time.Second, Stop: 25 * time.Second, Votes: 5 * time.Second, Members: 10 * time.Second,
 	LineBytes: wire.MaxLine, Lines: 256, LongLines: 64, Changes: 4096, ReplyBytes: 512 << 20, Connections: 10000, CallerConnections: 100,
 }
 
 // IsValid returns true if all limits are above 0, and lines are not longer than regd accepts them.
 func (l Limits) IsValid() bool {
-	for _, long := range []time.Duration{l.Answer, l.After, l.Handshake, l.Idle, l.Line, l.Write, l.Votes, l.Members} {
+	for _, long := range []time.Duration{l.Answer, l.After, l.Handshake, l.Idle, l.Line, l.Write, l.Stop, l.Votes, l.Members} {
 		if long <= 0 {
 			return false
 		}
@@ -62,10 +63,12 @@ func (l Limits) IsValid() bool {
 // Options configure a gateway.
 type Options struct {
 	Name      string // the same each time this gateway is started, and no other one's
-	Program   string // a checksum of everything that replies depend on
+	Program   string // a checksum of the program regd, for the status
+	Replies   string // a version: gateways with the same one have to give the same replies
 	Replica   replica.Options
-	TLS       *tls.Config // nil: callers come in plain text, and all are operators
-	Operators []string    // SPIFFE IDs that may send every line
+	Callers   *Certificates // for callers; nil: they come in plain text, and all are operators
+	Etcd      *Certificates // for etcd, or nil
+	Operators []string      // SPIFFE IDs that may send every line
 	Limits    Limits
 }
 
@@ -77,9 +80,13 @@ type Gateway struct {
 	board   board
 	flights sync.Map // from the names of this gateway's entries that are not yet answered to their changes
 	changes chan *request
-	long    chan struct{} // one for each long line that is under way
-	held    atomic.Int64  // bytes of replies that are not yet sent
-	active  atomic.Int64  // connections with lines that are under way
+	long    chan struct{}   // one for each long line that is under way
+	turns   []chan struct{} // for each worker of regd, of callers that send many queries together
+	waiting atomic.Int64    // callers that wait for a turn
+	held    atomic.Int64    // bytes of replies that are not yet sent
+	active  atomic.Int64    // connections with lines that are under way
+	stop    chan struct{}   // closed when the gateway shuts down
+	open    sync.Map        // connections of sessions
 	crowd   crowd
 	fresh   fresh
 	marks   chan replica.State // checksums to vote for
@@ -89,6 +96,8 @@ type Gateway struct {
 	head       atomic.Uint64 // where the log ended when etcd was last asked
 	headTime   atomic.Int64  // when that was, in seconds
 	members    atomic.Pointer[[]etcd.Member]
+	skips      atomic.Pointer[etcd.Skips]
+	failure    atomic.Pointer[failure]
 	stats
 
 	acceptFails, crowded, busy logline.Rare
@@ -99,7 +108,10 @@ func New(log *etcd.Log, options Options) *Gateway {
 	g := &Gateway{
 		log: log, options: options, run: wire.NewID(), board: board{changed: make(chan struct{})},
 		changes: make(chan *request, options.Limits.Changes), long: make(chan struct{}, options.Limits.LongLines),
-		crowd: crowd{counts: map[string]int{}}, marks: make(chan replica.State, votesLeft),
+		stop: make(chan struct{}), crowd: crowd{counts: map[string]int{}}, marks: make(chan replica.State, votesLeft),
+	}
+	for len(g.turns) == 0 || len(g.turns) < options.Replica.Workers-1 {
+		g.turns = append(g.turns, make(chan struct{}, mostTurns))
 	}
 	g.heard(0)
 	return g
@@ -133,10 +145,35 @@ func (g *Gateway) Run(ctx context.Context, serve func(context.Context) error) er
 	return err
 }
 
+// Shutdown accepts no more callers, reads no more lines, and ends each connection when its lines are answered. It returns when no connection is left,
+// or the context ends. It may be called once.
+func (g *Gateway) Shutdown(ctx context.Context) {
+	close(g.stop)
+	g.open.Range(func(conn, _ any) bool {
+		conn.(net.Conn).SetReadDeadline(time.Now())
+		return true
+	})
+	for g.sessions.Load() > 0 && ctx.Err() == nil {
+		etcd.Pause(ctx, 10*time.Millisecond)
+	}
+}
+
+func (g *Gateway) isStopping() bool {
+	select {
+	case <-g.stop:
+		return true
+	default:
+		return false
+	}
+}
+
 // Serve accepts callers until the context ends. Queries of fresh ones see every change that was answered to anybody before.
 func (g *Gateway) Serve(ctx context.Context, on net.Listener, isFresh bool) error {
 	go func() {
-		<-ctx.Done()
+		select {
+		case <-ctx.Done():
+		case <-g.stop:
+		}
 		on.Close()
 	}()
 	for {
@@ -144,7 +181,8 @@ func (g *Gateway) Serve(ctx context.Context, on net.Listener, isFresh bool) erro
 		switch {
 		case err == nil:
 			go g.receive(ctx, conn, isFresh)
-		case ctx.Err() != nil:
+		case ctx.Err() != nil || g.isStopping():
+			<-ctx.Done() // for which connections go on
 			return ctx.Err()
 		default: // such as: no free descriptor
 			g.acceptFails.Error("accept failed", "error", err)
@@ -163,30 +201,31 @@ func (g *Gateway) receive(ctx context.Context, conn net.Conn, isFresh bool) {
 		g.crowded.Error("too many connections", "limit", limits.Connections)
 		return
 	}
-	id, isOperator := "", true
-	if g.options.TLS != nil {
-		secure := tls.Server(conn, g.options.TLS)
+	s := &session{Gateway: g, conn: conn, isOperator: true, isFresh: isFresh, number: int(g.accepted.Add(1))}
+	isAdmitted := true
+	if g.options.Callers != nil {
+		secure := tls.Server(conn, g.options.Callers.Server())
 		conn.SetDeadline(time.Now().Add(limits.Handshake))
 		if secure.HandshakeContext(ctx) != nil {
 			g.ended.Inc("handshake")
 			return
 		}
 		conn.SetDeadline(time.Time{})
-		conn = secure
-		id, isOperator = callerOf(secure.ConnectionState().PeerCertificates[0], g.options.Operators) // the handshake requires one
-		defer g.crowd.leave(id)
-		if !g.crowd.enter(id, limits.CallerConnections) {
-			g.ended.Inc("caller")
-			g.crowded.Error("too many connections of a caller", "limit", limits.CallerConnections, "caller", id)
-			conn.SetWriteDeadline(time.Now().Add(limits.Handshake))
-			conn.Write(wire.AppendReply(nil, wire.Refusal(wire.TooMany), 0, 1))
-			part(conn)
-			return
-		}
+		conn, s.conn = secure, secure
+		s.agent, s.isOperator = callerOf(secure.ConnectionState().PeerCertificates[0], g.options.Operators) // the handshake requires one
+		defer g.crowd.leave(s.agent)
+		isAdmitted = g.crowd.enter(s.agent, limits.CallerConnections)
 	}
-	s := &session{Gateway: g, conn: conn, in: bufio.NewReaderSize(conn, readBuffer), agent: id, isOperator: isOperator, isFresh: isFresh,
-		number: int(g.accepted.Add(1))}
-	if s.serve(ctx); !s.isBroken {
+	s.in = bufio.NewReaderSize(conn, readBuffer)
+	if isAdmitted {
+		s.serve(ctx)
+	} else {
+		g.ended.Inc("caller")
+		g.crowded.Error("too many connections of a caller", "limit", limits.CallerConnections, "caller", s.agent)
+		s.add(s.request(nil)).answer(wire.Refusal(wire.TooMany))
+		s.writeAnswers(ctx, 0)
+	}
+	if !s.isBroken {
 		part(conn)
 	}
 }

@@ -4,7 +4,6 @@ import (
 	"bufio"
 	"bytes"
 	"context"
-	"crypto/tls"
 	"fmt"
 	"io"
 	"net"
@@ -36,8 +35,10 @@ type site struct {
 	ctx   context.Context
 	store *etcdtest.Server
 	log   *etcd.Log
-	// limits of the gateways that start from now on
-	limits Limits
+	// of the gateways that start from now on
+	limits    Limits
+	callers   *Certificates
+	operators []string
 }
 
 func newSite(t *testing.T) *site {
@@ -45,7 +46,7 @@ func newSite(t *testing.T) *site {
 	t.Cleanup(store.CloseClientConnections)
 	ctx, cancel := context.WithTimeout(context.Background(), 50*time.Second)
 	t.Cleanup(cancel)
-	s := &site{t, ctx, store, etcd.New([]string{store.URL}, "r/", nil), UsualLimits}
+	s := &site{t: t, ctx: ctx, store: store, log: etcd.New([]string{store.URL}, "r/", nil), limits: UsualLimits}
 	if err := s.log.Open(ctx, "ex.org"); err != nil {
 		t.Fatal(err)
 	}
@@ -54,7 +55,7 @@ func newSite(t *testing.T) *site {
 
 // gateway starts a gateway, and returns it with the addresses of its two ports.
 func (s *site) gateway(name string) (*Gateway, string, string) {
-	g := New(s.log, Options{Name: name, Program: "p", Limits: s.limits,
+	g := New(s.log, Options{Name: name, Program: "p", Replies: "p", Limits: s.limits, Callers: s.callers, Operators: s.operators,
 		Replica: replica.Options{Program: os.Args[0], Domain: "ex.org", Workers: 3}})
 	ctx, stop := context.WithCancel(s.ctx)
 	var addresses []string
@@ -190,6 +191,7 @@ func TestIDs(t *testing.T) {
 
 // TestGateways checks that two gateways execute one log, and that a query with the place of the other one waits for it.
 func TestGateways(t *testing.T) {
+	t.Parallel()
 	s := newSite(t)
 	_, first, _ := s.gateway("a")
 	_, second, fresh := s.gateway("b")
@@ -264,6 +266,7 @@ func TestCutLog(t *testing.T) {
 
 // TestLostAppend loses answers of etcd: an entry is made once.
 func TestLostAppend(t *testing.T) {
+	t.Parallel()
 	s := newSite(t)
 	_, address, _ := s.gateway("a")
 	for place := 1; place < 6; place++ {
@@ -311,6 +314,7 @@ func TestUnknownAppend(t *testing.T) {
 // TestNoAnswer lets etcd refuse everything. After some time the connection of a change ends, and that of a fresh query; other queries are answered.
 // Of the changes whose callers have left, only the one that was being appended is made.
 func TestNoAnswer(t *testing.T) {
+	t.Parallel()
 	s := newSite(t)
 	s.limits.Answer = 300 * time.Millisecond
 	_, usual, fresh := s.gateway("a")
@@ -356,7 +360,7 @@ func TestCallerLeft(t *testing.T) {
 		q := (&session{Gateway: g}).request([]byte(prune))
 		if !isHere {
 			if q.leave(); q.line != nil {
-				t.Error("a line that nobody waits for takes memory")
+				t.Error("a line that no session waits for takes memory")
 			}
 		}
 		g.changes <- q
@@ -390,7 +394,9 @@ func TestSlowCallers(t *testing.T) {
 			t.Fatal("a caller that never reads is served")
 		}
 	}
-	secure := New(s.log, Options{TLS: &tls.Config{}, Limits: s.limits})
+	a := newAuthority(t)
+	a.leaf("server")
+	secure := New(s.log, Options{Callers: a.load("server"), Limits: s.limits})
 	on, err := net.Listen("tcp", "127.0.0.1:0")
 	if err != nil {
 		t.Fatal(err)

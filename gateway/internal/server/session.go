@@ -21,7 +21,11 @@ const (
 	readBuffer = 1 << 13
 	replyRoom  = 1 << 18 // for replies to the lines of a connection that are under way, if these are as long as the last ones were
 	// lines that are under way of all connections together, if each has more than one
-	queryRoom, changeRoom = 512, 4096
+	queryRoom, changeRoom = 128, 1024
+	fewLines              = 4                    // queries that a caller may send together without a turn
+	mostTurns             = 2                    // for each worker of regd
+	manyWait              = 64                   // callers that wait for a turn, before they wait longer
+	longerWait            = 4 * time.Millisecond // for each of them beyond that
 )
 
 // A session is a connection of a caller. One goroutine reads lines, forwards each, and writes the answers in the order of the lines.
@@ -43,6 +47,8 @@ type session struct {
 	largest      int        // about the size of a large reply
 	isChanging   bool       // they are changes
 	isLong       bool       // one of them has a slot for a long line
+	hasTurn      bool       // they are queries that may be asked together
+	streak       int        // how many have arrived together
 	isBroken     bool       // nothing more can be written
 	lines, calls int        // how many were answered
 	place        uint64     // the newest commit number that the caller has seen
@@ -52,7 +58,9 @@ type session struct {
 // serve serves a connection to its end.
 func (s *session) serve(ctx context.Context) {
 	defer s.leave()
-	for {
+	s.open.Store(s.conn, true)
+	defer s.open.Delete(s.conn)
+	for !s.isStopping() {
 		if s.isFull() && !s.writeAnswers(ctx, len(s.row)/2) || !s.hasLine() && !(s.writeAnswers(ctx, 0) && s.waitForLine()) {
 			return
 		}
@@ -81,6 +89,7 @@ func (s *session) serve(ctx context.Context) {
 			return
 		}
 	}
+	s.writeAnswers(ctx, 0)
 }
 
 // isFull returns true if no further line may be under way before some are answered. Connections with lines under way have equal shares, so that one
@@ -103,19 +112,27 @@ func (s *session) hasLine() bool {
 
 // waitForLine waits until a line begins to arrive, and limits the time for the rest of it.
 func (s *session) waitForLine() bool {
-	s.conn.SetReadDeadline(time.Now().Add(s.options.Limits.Idle))
+	if !s.readFor(s.options.Limits.Idle) {
+		return false
+	}
 	if _, err := s.in.Peek(1); err != nil {
 		s.noteLate(err, "idle")
 		return false
 	}
-	runtime.Gosched() // a caller that always has lines waits for its turn
-	s.conn.SetReadDeadline(time.Now().Add(s.options.Limits.Line))
-	return true
+	s.streak = 0
+	runtime.Gosched() // a caller that always has lines doesn't keep a processor
+	return s.readFor(s.options.Limits.Line)
+}
+
+// readFor limits the time for reading. It returns false if nothing is to be read, because the gateway shuts down.
+func (s *session) readFor(long time.Duration) bool {
+	s.conn.SetReadDeadline(time.Now().Add(long))
+	return !s.isStopping() // asked last, since Shutdown ends the time of those that were not stopping before
 }
 
 // noteLate counts a connection that ends because a time limit is over.
 func (s *session) noteLate(err error, reason string) {
-	if errors.Is(err, os.ErrDeadlineExceeded) {
+	if errors.Is(err, os.ErrDeadlineExceeded) && !s.isStopping() {
 		s.ended.Inc(reason)
 	}
 }
@@ -127,12 +144,12 @@ func (s *session) takeSlot(ctx context.Context) bool {
 	select {
 	case s.long <- struct{}{}:
 		s.isLong = true
-		s.conn.SetReadDeadline(time.Now().Add(s.options.Limits.Line))
+		return s.readFor(s.options.Limits.Line)
 	case <-late.C:
 		s.busy.Error("too many long lines wait", "limit", cap(s.long))
 	case <-ctx.Done():
 	}
-	return s.isLong
+	return false
 }
 
 func (s *session) freeSlot() {
@@ -152,6 +169,7 @@ func (s *session) leave() {
 	}
 	s.held.Add(-s.unsent)
 	s.freeSlot()
+	s.freeTurn()
 }
 
 // request returns a request with a line.
@@ -194,8 +212,47 @@ func (s *session) change(ctx context.Context, line []byte) bool {
 	return true
 }
 
+// takeTurn waits until it is the turn of a caller that sends many queries together. So there are few of their lines in front of those of other
+// callers, which wait for each answer and need no turn. It returns false if the session ends.
+func (s *session) takeTurn(ctx context.Context) bool {
+	if s.streak++; s.hasTurn || s.streak <= fewLines {
+		return true
+	}
+	turns := s.turns[s.number%len(s.turns)]
+	select {
+	case turns <- struct{}{}:
+	default:
+		if !s.writeAnswers(ctx, 0) {
+			return false
+		}
+		over := s.waiting.Add(1) - manyWait
+		defer s.waiting.Add(-1)
+		if over > 0 {
+			etcd.Pause(ctx, time.Duration(over)*longerWait)
+		}
+		select {
+		case turns <- struct{}{}:
+		case <-ctx.Done():
+			return false
+		}
+	}
+	s.hasTurn = true
+	return true
+}
+
+// freeTurn ends the turn, before something is waited for that may take long.
+func (s *session) freeTurn() {
+	if s.hasTurn {
+		<-s.turns[s.number%len(s.turns)]
+		s.hasTurn = false
+	}
+}
+
 // query sends a line to the replica. It returns false if the session ends.
 func (s *session) query(ctx context.Context, line []byte) bool {
+	if !s.takeTurn(ctx) {
+		return false
+	}
 	if s.isFresh {
 		late, cancel := context.WithTimeout(ctx, s.options.Limits.Answer)
 		defer cancel()
@@ -323,6 +380,7 @@ func (s *session) flush() bool {
 	if len(s.out) == 0 {
 		return !s.isBroken
 	}
+	s.freeTurn()
 	long := s.options.Limits.Write
 	if s.held.Load() > s.options.Limits.ReplyBytes/2 {
 		long /= 10
@@ -366,7 +424,7 @@ func (q *request) leave() {
 	q.forget()
 }
 
-// forget gives up the room of a reply that nobody waits for.
+// forget gives up the room of a reply that no session waits for.
 func (q *request) forget() {
 	select {
 	case reply := <-q.reply:

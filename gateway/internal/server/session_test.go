@@ -109,11 +109,16 @@ type written struct {
 	net.Conn
 	sizes []int
 	text  string
+	// called before each write
+	before func()
 }
 
 func (w *written) SetWriteDeadline(time.Time) error { return nil }
 
 func (w *written) Write(text []byte) (int, error) {
+	if w.before != nil {
+		w.before()
+	}
 	w.sizes, w.text = append(w.sizes, len(text)), w.text+string(text)
 	return len(text), nil
 }
@@ -166,6 +171,7 @@ func TestAnswersDoNotWait(t *testing.T) {
 // TestFreshAnswersDoNotWait sends two fresh queries together. The worker is late, so the answer to the first one comes after two seconds. Only then is
 // etcd asked for the second one, and if it doesn't answer, the caller still has the first answer.
 func TestFreshAnswersDoNotWait(t *testing.T) {
+	t.Parallel()
 	s := newSite(t)
 	s.limits.Answer = 4 * time.Second
 	g, usual, fresh := s.gateway("a")
@@ -190,6 +196,7 @@ func TestFreshAnswersDoNotWait(t *testing.T) {
 
 // TestQueriesOutliveRegd kills regd while it owes replies to queries: they are asked again when there is another replica.
 func TestQueriesOutliveRegd(t *testing.T) {
+	t.Parallel()
 	s := newSite(t)
 	g, address, _ := s.gateway("a")
 	conn, in := s.dial(address)
@@ -348,6 +355,7 @@ func TestFreshHead(t *testing.T) {
 
 // TestReplicaIsAway checks that the gateway is not ready after its regd has ended, and that a regd which always ends is never ready.
 func TestReplicaIsAway(t *testing.T) {
+	t.Parallel()
 	s := newSite(t)
 	g, _, _ := s.gateway("a")
 	first, _ := g.board.read()
@@ -383,7 +391,7 @@ func TestRunEnds(t *testing.T) {
 	for _, name := range []string{"a", "b"} {
 		s.log.Put(s.ctx, "sum/p/00000000000003e8/"+name, []byte("00"))
 	}
-	g := New(s.log, Options{Program: "p", Name: "c", Limits: s.limits, Replica: replica.Options{Program: os.Args[0], Domain: "ex.org", Workers: 2}})
+	g := New(s.log, Options{Replies: "p", Name: "c", Limits: s.limits, Replica: replica.Options{Program: os.Args[0], Domain: "ex.org", Workers: 2}})
 	isOver, begin := false, time.Now()
 	err := g.Run(s.ctx, func(ctx context.Context) error {
 		g.executed(replica.State{Entry: voteInterval - 1})

@@ -42,7 +42,7 @@ func (g *Gateway) Handler() http.Handler {
 // isReady returns true if queries can be answered.
 func (g *Gateway) isReady() bool {
 	r, _ := g.board.read()
-	return r != nil
+	return r != nil && !g.isStopping()
 }
 
 // silence returns for how long etcd has not said where the log ends. It is asked once a second.
@@ -66,6 +66,14 @@ func (g *Gateway) lag(entry uint64) uint64 {
 	return 0
 }
 
+// failing returns the line in which one replica after another ends, or nil.
+func (g *Gateway) failing(executed uint64) *failure {
+	if f := g.failure.Load(); f != nil && f.Times > 1 && f.Line.Entry > executed {
+		return f
+	}
+	return nil
+}
+
 // serveStatus answers with the status of the gateway as JSON: with 200 if it answers queries, otherwise with 503.
 func (g *Gateway) serveStatus(w http.ResponseWriter, _ *http.Request) {
 	r, state := g.board.read()
@@ -74,6 +82,7 @@ func (g *Gateway) serveStatus(w http.ResponseWriter, _ *http.Request) {
 		"name": g.options.Name, "program": g.options.Program, "ready": isReady, "disputed": g.isDisputed.Load(),
 		"entry": state.Entry, "place": state.Place, "sum": fmt.Sprintf("%x", state.Sum),
 		"head": g.head.Load(), "lag": g.lag(state.Entry), "silent": g.silence().Seconds(), "sessions": g.sessions.Load(), "etcd": g.members.Load(),
+		"stopping": g.isStopping(), "skipped": g.skips.Load(), "failing": g.failing(state.Entry),
 	}
 	w.Header().Set("Content-Type", "application/json")
 	if !isReady {
@@ -120,6 +129,21 @@ func (g *Gateway) serveMetrics(w http.ResponseWriter, _ *http.Request) {
 	p.Gauge(name+"commit_number", "The commit number of the book.", float64(state.Place))
 	p.Histogram(name+"replay_duration_seconds", "Times from the start of a replica until it was ready.", &g.replays)
 	p.Counter(name+"replicas_ended_total", "Replicas that ended and were replaced.", &g.replicasEnded)
+	failing, skips := 0.0, 0.0
+	if f := g.failing(state.Entry); f != nil {
+		failing = float64(f.Line.Entry)
+	}
+	if all := g.skips.Load(); all != nil {
+		skips = float64(len(*all))
+	}
+	p.Gauge(name+"failing_entry", "The entry with a line in which one replica after another ends, or 0.", failing)
+	p.Gauge(name+"lines_skipped", "Lines that operators have skipped.", skips)
+	if c := g.options.Callers; c != nil {
+		p.Gauge(name+"certificate_expiry_timestamp_seconds", "When the certificate for callers expires.", float64(c.Expiry().Unix()))
+	}
+	if c := g.options.Etcd; c != nil {
+		p.Gauge(name+"etcd_certificate_expiry_timestamp_seconds", "When the certificate for etcd expires.", float64(c.Expiry().Unix()))
+	}
 	p.Counter(name+"etcd_failures_total", "Requests that no member of etcd answered.", &g.log.Unanswered)
 	if members := g.members.Load(); members != nil {
 		addMembers(&p, name+"etcd_", *members)

@@ -33,6 +33,7 @@ func status(t *testing.T, g *Gateway) (int, map[string]any) {
 }
 
 func TestStatus(t *testing.T) {
+	t.Parallel()
 	s := newSite(t)
 	g, address, _ := s.gateway("a")
 	s.call(address, prune)
@@ -48,9 +49,13 @@ func TestStatus(t *testing.T) {
 	delete(values, "silent")
 	want := map[string]any{"name": "a", "program": "p", "ready": true, "disputed": true, "entry": float64(state.Entry), "place": 2.0,
 		"sum": fmt.Sprintf("%x", state.Sum), "head": 5.0, "lag": 3.0, "sessions": 1.0, "regd": float64(r.Pid()), "tokens": 1.0,
+		"stopping": false, "skipped": map[string]any{}, "failing": nil,
 		"etcd": []any{map[string]any{"url": s.store.URL, "bytes": 1048576.0, "used": 4096.0, "quota": 2097152.0}}}
 	if code != 200 || !reflect.DeepEqual(values, want) || silent > 5 {
 		t.Errorf("got %d, %v", code, values)
+	}
+	if lag := g.lag(9); lag != 0 {
+		t.Errorf("a gateway that is ahead lags by %d", lag)
 	}
 	code, values = status(t, New(s.log, Options{Limits: s.limits}))
 	if code != 503 || values["ready"] != false || values["disputed"] != false || values["silent"].(float64) > 1 || values["lag"] != 0.0 {
@@ -110,6 +115,7 @@ func samples(t *testing.T, g *Gateway) map[string]float64 {
 }
 
 func TestMetrics(t *testing.T) {
+	t.Parallel()
 	s := newSite(t)
 	s.limits.Members = 10 * time.Millisecond
 	g, address, _ := s.gateway("a")
@@ -129,7 +135,7 @@ func TestMetrics(t *testing.T) {
 		"change_duration_seconds_count": 3, "query_duration_seconds_count": 2, `refusals_total{code="L2"}`: 1, `refusals_total{code="O3"}`: 1,
 		"append_duration_seconds_count": float64(state.Entry), "changes_waiting": 0, "reply_bytes": 0, "changes_dropped_total": 0,
 		"log_entry": float64(state.Entry), "log_lag_entries": 4, "commit_number": 2,
-		"replay_duration_seconds_count": 1, "replicas_ended_total": 0,
+		"replay_duration_seconds_count": 1, "replicas_ended_total": 0, "failing_entry": 0, "lines_skipped": 0,
 		"etcd_failures_total": 0, "etcd_members": 1, "etcd_members_healthy": 1, "etcd_database_bytes": 1 << 20, "etcd_quota_bytes": 1 << 21,
 	} {
 		if value, ok := got["regd_gateway_"+name]; !ok || value != want {
@@ -149,6 +155,21 @@ func TestMetrics(t *testing.T) {
 	within(t, "no other replica", func() bool { return samples(t, g)["regd_gateway_replay_duration_seconds_count"] == 2 })
 	if got := samples(t, g); got["regd_gateway_replicas_ended_total"] != 1 || got["regd_gateway_ready"] != 1 {
 		t.Errorf("got %v", got)
+	}
+}
+
+// TestExpiry checks the metrics of certificates.
+func TestExpiry(t *testing.T) {
+	s, a := newSite(t), newAuthority(t)
+	a.leaf("server")
+	a.long = 9 * time.Hour
+	a.leaf("client")
+	got := samples(t, New(s.log, Options{Callers: a.load("server"), Etcd: a.load("client")}))
+	for name, hours := range map[string]float64{"": 1, "etcd_": 9} {
+		left := got["regd_gateway_"+name+"certificate_expiry_timestamp_seconds"] - float64(time.Now().Unix())
+		if left > hours*3600 || left < hours*3600-60 {
+			t.Errorf("%scertificate: it expires in %v seconds", name, left)
+		}
 	}
 }
 

@@ -33,9 +33,9 @@ func judge(own string, votes map[string]string) (isDisputed, isOutvoted bool) {
 
 // compare votes, and looks at the votes of the other gateways, until this one is outvoted or the context ends.
 //
-// A vote is the checksum of all replies up to an entry, stored under the names of the program, the entry and the gateway. Votes of different
-// programs are not compared, so that an upgrade, which may change replies, stops no gateway. Two votes that differ don't decide anything: both
-// gateways go on until a third one votes.
+// A vote is the checksum of all replies up to an entry, stored under the version of the replies, the entry and the gateway. Votes of different
+// versions are not compared, and neither are those of replicas that have left out different lines. Two votes that differ don't decide anything:
+// both gateways go on until a third one votes.
 func (g *Gateway) compare(ctx context.Context) error {
 	for last := []replica.State{}; ; {
 		select {
@@ -52,7 +52,7 @@ func (g *Gateway) compare(ctx context.Context) error {
 		}
 		isDisputed := false
 		for _, mark := range last {
-			votes, err := g.log.List(ctx, g.votesOn(mark.Entry))
+			votes, err := g.log.List(ctx, g.votesOn(mark))
 			if err != nil {
 				return err
 			}
@@ -71,16 +71,21 @@ func (g *Gateway) compare(ctx context.Context) error {
 	}
 }
 
-// votesOn returns the folder of the votes on an entry.
-func (g *Gateway) votesOn(entry uint64) string {
-	return fmt.Sprintf("sum/%s/%016x/", g.options.Program, entry)
+// votesOn returns the folder of the votes on the entry of a mark.
+func (g *Gateway) votesOn(mark replica.State) string {
+	version := g.options.Replies
+	if mark.Skipped > 0 {
+		version += fmt.Sprintf("+%d", mark.Skipped)
+	}
+	return fmt.Sprintf("sum/%s/%016x/", version, mark.Entry)
 }
 
 // vote stores a vote, and deletes an old one.
 func (g *Gateway) vote(ctx context.Context, mark replica.State) error {
-	err := g.log.Put(ctx, g.votesOn(mark.Entry)+g.options.Name, []byte(fmt.Sprintf("%x", mark.Sum)))
+	err := g.log.Put(ctx, g.votesOn(mark)+g.options.Name, []byte(fmt.Sprintf("%x", mark.Sum)))
 	if err == nil && mark.Entry > votesLeft*voteInterval {
-		old := g.votesOn(mark.Entry-votesLeft*voteInterval) + g.options.Name
+		mark.Entry -= votesLeft * voteInterval
+		old := g.votesOn(mark) + g.options.Name
 		err = g.log.Delete(ctx, old, old+"\x00")
 	}
 	return err

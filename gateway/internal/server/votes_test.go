@@ -40,7 +40,7 @@ func TestJudge(t *testing.T) {
 func TestLooks(t *testing.T) {
 	s := newSite(t)
 	s.limits.Votes = 20 * time.Millisecond
-	g := New(s.log, Options{Program: "p", Name: "a", Limits: s.limits})
+	g := New(s.log, Options{Replies: "p", Name: "a", Limits: s.limits})
 	ctx, stop := context.WithCancel(s.ctx)
 	ended := make(chan error, 1)
 	go func() { ended <- g.compare(ctx) }()
@@ -66,6 +66,16 @@ func TestLooks(t *testing.T) {
 	}
 }
 
+// TestVotesOn checks that replicas which have left out different entries are not compared.
+func TestVotesOn(t *testing.T) {
+	g := New(newSite(t).log, Options{Replies: "p"})
+	for skipped, want := range map[int]string{0: "sum/p/00000000000003e8/", 2: "sum/p+2/00000000000003e8/"} {
+		if got := g.votesOn(replica.State{Entry: voteInterval, Skipped: skipped}); got != want {
+			t.Errorf("got %s, want %s", got, want)
+		}
+	}
+}
+
 // TestVotes lets the gateway with the wrong checksum vote first. It stops as soon as two others agree, and they go on.
 func TestVotes(t *testing.T) {
 	s := newSite(t)
@@ -82,13 +92,13 @@ func TestVotes(t *testing.T) {
 		}
 	}
 	ended := map[string]chan error{}
-	start := func(program, name string, sum byte) *Gateway {
-		g, end := New(s.log, Options{Program: program, Name: name, Limits: s.limits}), make(chan error, 1)
+	start := func(replies, name string, sum byte) *Gateway {
+		g, end := New(s.log, Options{Replies: replies, Name: name, Limits: s.limits}), make(chan error, 1)
 		ended[name] = end
 		go func() { end <- g.compare(s.ctx) }()
 		mark(g, voteInterval, sum)
 		wait(name+" doesn't vote", func() bool {
-			votes, _ := s.log.List(s.ctx, "sum/"+program+"/00000000000003e8/")
+			votes, _ := s.log.List(s.ctx, "sum/"+replies+"/00000000000003e8/")
 			return votes[name] != ""
 		})
 		return g

@@ -60,6 +60,18 @@ func read(ctx context.Context, log *etcd.Log) (c content, err error) {
 	return c, err
 }
 
+// Skip makes all replicas leave out a line, which must not be in a snapshot. The id is one that no other call has.
+func Skip(ctx context.Context, log *etcd.Log, line etcd.Line, id string) error {
+	c, err := read(ctx, log)
+	if err != nil {
+		return err
+	}
+	if line.Entry <= c.Entry {
+		return fmt.Errorf("line %v is in the snapshot of entry %d", line, c.Entry)
+	}
+	return log.Skip(ctx, line, id)
+}
+
 // Load makes the newest snapshot in an empty replica, and returns the number of the first entry after it: 1 if there is no snapshot.
 func Load(ctx context.Context, log *etcd.Log, r *replica.Replica) (uint64, error) {
 	c, err := read(ctx, log)
@@ -90,8 +102,12 @@ func Make(ctx context.Context, log *etcd.Log, options replica.Options, keep uint
 		return err
 	}
 	last -= keep
+	skips, err := log.Skips(ctx)
+	if err != nil {
+		return err
+	}
 	names := names{}
-	c, err := build(ctx, options, names, func(r *replica.Replica) error { return replay(log, old, r, names, last) })
+	c, err := build(ctx, options, names, func(r *replica.Replica) error { return replay(log, old, r, names, last, skips) })
 	if err != nil {
 		return err
 	}
@@ -101,6 +117,9 @@ func Make(ctx context.Context, log *etcd.Log, options replica.Options, keep uint
 	}
 	if err := c.verify(ctx, options, names); err != nil {
 		return err
+	}
+	if now, err := log.Skips(ctx); err != nil || len(now) != len(skips) {
+		return fmt.Errorf("a line was skipped meanwhile: %v", err)
 	}
 	if err := c.publish(ctx, log); err != nil {
 		return err
@@ -127,8 +146,8 @@ func build(ctx context.Context, options replica.Options, names names, fill func(
 	return c, err
 }
 
-// replay makes a snapshot in an empty replica, and executes the entries after it up to the last one. It notes all names.
-func replay(log *etcd.Log, old content, r *replica.Replica, names names, last uint64) error {
+// replay makes a snapshot in an empty replica, and executes the entries after it up to the last one, but for skipped lines. It notes all names.
+func replay(log *etcd.Log, old content, r *replica.Replica, names names, last uint64, skips etcd.Skips) error {
 	for _, line := range old.Lines {
 		names.note([]byte(line))
 	}
@@ -145,7 +164,8 @@ func replay(log *etcd.Log, old content, r *replica.Replica, names names, last ui
 		for _, line := range lines {
 			names.note(line)
 		}
-		if r.Apply(number, lines, func(int, []byte) {}); number == last {
+		isSkipped := func(line int) bool { return skips[etcd.Line{Entry: number, Number: line + 1}] != "" }
+		if r.Apply(number, lines, isSkipped, func(int, []byte) {}); number == last {
 			stop()
 		}
 	})

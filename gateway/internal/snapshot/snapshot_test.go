@@ -107,10 +107,58 @@ func TestReplayEnds(t *testing.T) {
 		if last == 9 {
 			time.AfterFunc(300*time.Millisecond, r.Close)
 		}
-		err = replay(log, content{}, r, names{}, last)
+		err = replay(log, content{}, r, names{}, last, nil)
 		if (err == nil) != (last == 3) || err == nil && r.State().Place != 3 {
 			t.Errorf("up to %d: got %v, %v", last, err, r.State())
 		}
+	}
+}
+
+// TestReplaySkips checks that a snapshot leaves out the lines that are skipped, and that none of its own can be skipped.
+func TestReplaySkips(t *testing.T) {
+	ctx, cancel := context.WithTimeout(context.Background(), time.Minute)
+	defer cancel()
+	options, _, log := miniature(t, ctx, 9)
+	if err := Skip(ctx, log, etcd.Line{Entry: 2, Number: 1}, "a"); err != nil {
+		t.Fatal(err)
+	}
+	if err := Make(ctx, log, options, 5); err != nil {
+		t.Fatal(err)
+	}
+	c, err := read(ctx, log)
+	if want := (replica.State{Entry: 5, Place: 4, Sum: c.Sum, Skipped: 1}); err != nil || c.State != want {
+		t.Errorf("got %v, %v", c.State, err)
+	}
+	if err := Skip(ctx, log, etcd.Line{Entry: 5, Number: 1}, "b"); err == nil {
+		t.Error("a line of the snapshot was skipped")
+	}
+	if err := Skip(ctx, log, etcd.Line{Entry: 6, Number: 1}, "c"); err != nil {
+		t.Error(err)
+	}
+}
+
+// TestSkipMeanwhile checks that no snapshot is published if a line was skipped while it was made.
+func TestSkipMeanwhile(t *testing.T) {
+	ctx, cancel := context.WithTimeout(context.Background(), time.Minute)
+	defer cancel()
+	options, store, log := miniature(t, ctx, 9)
+	folder, program := t.TempDir(), options.Program
+	options.Program = filepath.Join(folder, "slow") // which waits when it is started for the second time
+	text := fmt.Sprintf("#!/bin/sh\nmkdir %[1]s/begun || while [ ! -e %[1]s/go ]; do sleep 0.01; done\nexec %[2]s \"$@\"\n", folder, program)
+	if err := os.WriteFile(options.Program, []byte(text), 0o700); err != nil {
+		t.Fatal(err)
+	}
+	go func() {
+		for _, err := os.Stat(folder + "/begun"); err != nil && ctx.Err() == nil; _, err = os.Stat(folder + "/begun") {
+			time.Sleep(time.Millisecond)
+		}
+		if err := log.Skip(ctx, etcd.Line{Entry: 2, Number: 1}, "a"); err != nil {
+			t.Error(err)
+		}
+		os.WriteFile(folder+"/go", nil, 0o600)
+	}()
+	if err := Make(ctx, log, options, 5); err == nil || strings.Contains(strings.Join(store.Keys(), " "), "snapshot") {
+		t.Errorf("got %v, %v", err, store.Keys())
 	}
 }
 
@@ -183,7 +231,7 @@ func site(t *testing.T, ctx context.Context) (*etcdtest.Server, *etcd.Log, *repl
 		}
 	}
 	r, names := started(t, ctx), names{}
-	if err := replay(log, content{}, r, names, 400); err != nil {
+	if err := replay(log, content{}, r, names, 400, nil); err != nil {
 		t.Fatal(err)
 	}
 	return store, log, r, names
@@ -214,7 +262,7 @@ func TestMake(t *testing.T) {
 		r, again := started(t, ctx), names{}
 		c, err := read(ctx, log)
 		if err == nil {
-			err = replay(log, c, r, again, 400)
+			err = replay(log, c, r, again, 400, nil)
 		}
 		if err != nil {
 			t.Fatal(err)

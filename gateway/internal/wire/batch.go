@@ -22,6 +22,7 @@ const (
 	TooMany    = "G4" // the caller has too many connections
 	Busy       = "G5" // too many lines wait, or replies take too much room
 	TooLong    = "G6" // the line is longer than this gateway accepts
+	Skipped    = "G7" // an operator has skipped the line
 )
 
 // changes has the names of regd's operations, and whether they change the book.

@@ -61,6 +61,8 @@ def faults(acknowledged, replayed, base=0):
     told = set()
     for line, reply in acknowledged:
         rest, place = plain.tail(reply), plain.place_of(reply)
+        if rest.startswith(b'{"code":"G'):  # a gateway refused it, so it has no effect
+            continue
         is_repeated = rest.endswith(b'"repeated"}')
         if is_repeated:
             rest = rest.removesuffix(b'repeated"}') + b'committed"}'

@@ -67,6 +67,9 @@ class Faults(unittest.TestCase):
         self.assertEqual(kinds([(change(1), b'{"call":7,' + refused)], replayed), [])
         self.assertEqual(kinds([(change(1), b'{"call":7,' + refused.replace(b"O3", b"O4"))], replayed), ["different"])
 
+    def test_own_codes(self):
+        self.assertEqual(kinds([(change(9), b'{"code":"G7","line":3}')], log(1)), [])
+
     def test_ids(self):
         sent = b'{"ops":[{"op":"create","parent":"p"}]}'
         logged = b'{"ops":[{"op":"create","parent":"p","id":"x"}]}'

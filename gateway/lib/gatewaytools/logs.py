@@ -53,16 +53,21 @@ class Store:
         revision = self.call("/v3/kv/range", {"key": self.key("head")})["header"]["revision"]
         self.call("/v3/kv/compaction", {"revision": revision})
 
+    def skips(self):
+        """Returns the lines that operators have skipped, as pairs of the number of an entry and of a line in it, from 1."""
+        pairs = self.call("/v3/kv/range", {"key": self.key("skip/"), "range_end": self.key("skip0"), "keys_only": True}).get("kvs", [])
+        return {tuple(map(int, base64.b64decode(pair["key"]).rsplit(b"/", 1)[1].split(b"."))) for pair in pairs}
+
     def entries(self):
-        """Yields the entries that are in the log."""
-        begin = self.key("log/")
+        """Yields the entries that are in the log, without the lines that are skipped."""
+        begin, skips = self.key("log/"), self.skips()
         while True:
             body = {"key": begin, "range_end": self.key("log0"), "limit": str(PAGE)}
             pairs = self.call("/v3/kv/range", body).get("kvs", [])
             for pair in pairs:
                 name, *lines = base64.b64decode(pair.get("value", "")).removesuffix(b"\n").split(b"\n")
                 number = int(base64.b64decode(pair["key"]).rsplit(b"/", 1)[1], 16)
-                yield Entry(number, name.decode(), lines)
+                yield Entry(number, name.decode(), [line for at, line in enumerate(lines, 1) if (number, at) not in skips])
             if len(pairs) < PAGE:
                 return
             begin = base64.b64encode(base64.b64decode(pairs[-1]["key"]) + b"\0").decode()

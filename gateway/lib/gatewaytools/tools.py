@@ -9,7 +9,7 @@ import sys
 TOP = next(top for top in pathlib.Path(__file__).resolve().parents if (top / "HANDLES").exists())
 SOURCES = TOP / "gateway"
 # the commands that are needed, by their Debian packages
-COMMANDS = {"go": "golang-go", "etcd": "etcd-server", "haproxy": "haproxy", "openssl": "openssl", "jq": "jq", "nc": "netcat-openbsd"}
+COMMANDS = {"go": "golang-go", "etcd": "etcd-server", "etcdctl": "etcd-client", "haproxy": "haproxy", "openssl": "openssl", "jq": "jq", "nc": "netcat-openbsd", "curl": "curl"}
 
 # how many lines of Go the gateway may have, without tests, comments and blank lines
 LINES = 3000

@@ -1,0 +1,76 @@
+package etcd
+
+import (
+	"context"
+	"fmt"
+	"time"
+)
+
+// A Line is a line of the log. The lines of an entry are numbered from 1.
+type Line struct {
+	Entry  uint64
+	Number int
+}
+
+// String returns the numbers of the entry and of the line, with a point between them.
+func (l Line) String() string { return fmt.Sprintf("%d.%d", l.Entry, l.Number) }
+
+// MarshalText returns String.
+func (l Line) MarshalText() ([]byte, error) { return []byte(l.String()), nil }
+
+// ParseLine reads what String returns. It returns false if the text is something else.
+func ParseLine(text string) (l Line, ok bool) {
+	_, err := fmt.Sscanf(text, "%d.%d", &l.Entry, &l.Number)
+	return l, err == nil && l.String() == text
+}
+
+// Skips are the lines that no replica executes, with the times when operators decided that.
+type Skips map[Line]string
+
+const (
+	skipFolder = "skip/"
+	skipPrefix = "skip " // of the name of an entry that records a skip; it precedes the line
+)
+
+// Skips returns all lines that are skipped.
+func (l *Log) Skips(ctx context.Context) (Skips, error) {
+	all, err := l.List(ctx, skipFolder)
+	skips := Skips{}
+	for name, when := range all {
+		if line, ok := ParseLine(name); ok {
+			skips[line] = when
+		}
+	}
+	return skips, err
+}
+
+// Skip makes all replicas leave out a line. It stores that under a key, which replicas read when they start, and appends an entry that records it, so
+// that a replica which has executed the line notices. The id is one that no other call has.
+func (l *Log) Skip(ctx context.Context, line Line, id string) error {
+	value, err := l.Get(ctx, EntryKey(line.Entry))
+	if err != nil {
+		return err
+	}
+	if _, lines := SplitEntry(value); value == nil || line.Number < 1 || line.Number > len(lines) {
+		return fmt.Errorf("the log has no line %v", line)
+	}
+	if err := l.Put(ctx, skipFolder+line.String(), []byte(time.Now().UTC().Format(time.RFC3339))); err != nil {
+		return err
+	}
+	last, err := l.Head(ctx)
+	if err != nil {
+		return err
+	}
+	record := fmt.Sprintf(`{"skip":"%v"}`, line) // which regd refuses
+	_, err = l.Append(ctx, last+1, JoinEntry(fmt.Sprintf("%s%v %s", skipPrefix, line, id), [][]byte{[]byte(record)}))
+	return err
+}
+
+// Skipped returns the line whose skip an entry records by its name, and whether it does.
+func Skipped(name string) (Line, bool) {
+	var text, id string
+	if _, err := fmt.Sscanf(name, skipPrefix+"%s %s", &text, &id); err != nil {
+		return Line{}, false
+	}
+	return ParseLine(text)
+}

@@ -1,0 +1,160 @@
+package server
+
+import (
+	"fmt"
+	"os"
+	"reflect"
+	"testing"
+	"time"
+
+	"regd/gateway/internal/etcd"
+	"regd/gateway/internal/replica"
+	"regd/gateway/internal/wire"
+)
+
+const kill = `{"ops":[{"op":"prune","hint":"KILL"}]}`
+
+// append makes entries of one line each.
+func (s *site) append(lines ...string) {
+	head, err := s.log.Head(s.ctx)
+	for i, line := range lines {
+		if err == nil {
+			_, err = s.log.Append(s.ctx, head+uint64(i)+1, etcd.JoinEntry(fmt.Sprint("e", head, ".", i), [][]byte{[]byte(line)}))
+		}
+	}
+	if err != nil {
+		s.t.Fatal(err)
+	}
+}
+
+// TestFailingLine appends a line that ends regd, in an entry with others. The status names it. When it is skipped, the gateway is ready, its caller gets
+// G7, and the other lines are executed.
+func TestFailingLine(t *testing.T) {
+	t.Parallel()
+	s := newSite(t)
+	g, address, _ := s.gateway("a")
+	s.expect("changes", s.call(address, prune, prune), committed(1, 1), committed(2, 2))
+	s.store.Refuse(1 << 30)
+	first := (&session{Gateway: g}).request([]byte(prune)) // the others wait until it is appended
+	g.changes <- first
+	within(t, "no append", func() (isUnderWay bool) {
+		g.flights.Range(func(any, any) bool { isUnderWay = true; return false })
+		return isUnderWay
+	})
+	conn, in := s.dial(address)
+	fmt.Fprintln(conn, prune+"\n"+kill+"\n"+prune)
+	within(t, "no changes", func() bool { return len(g.changes) == 3 })
+	s.store.Refuse(0)
+	failing := func() string {
+		_, values := status(t, g)
+		found, _ := values["failing"].(map[string]any)
+		line, _ := found["line"].(string)
+		return line
+	}
+	within(t, "no line fails", func() bool { return failing() != "" })
+	line, ok := etcd.ParseLine(failing())
+	if !ok || line.Number != 2 || samples(t, g)["regd_gateway_failing_entry"] != float64(line.Entry) {
+		t.Errorf("got %s", failing())
+	}
+	s.append(prune)
+	if err := s.log.Skip(s.ctx, line, "x"); err != nil {
+		t.Fatal(err)
+	}
+	for _, want := range []string{committed(1, 4), refusal(wire.Skipped, 2), committed(2, 5)} {
+		if got, err := in.ReadString('\n'); got != want+"\n" {
+			t.Errorf("got %s, %v, want %s", got, err, want)
+		}
+	}
+	s.expect("afterwards", s.call(address, prune), committed(1, 7))
+	_, values := status(t, g)
+	skipped, _ := values["skipped"].(map[string]any)
+	if len(skipped) != 1 || skipped[line.String()] == nil || values["failing"] != nil || samples(t, g)["regd_gateway_lines_skipped"] != 1 {
+		t.Errorf("got %v", values)
+	}
+	if got := samples(t, g)["regd_gateway_failing_entry"]; got != 0 {
+		t.Errorf("entry %v fails", got)
+	}
+}
+
+// TestFailingLineIsFound sends many entries to regd together, one of which has a line that ends it.
+func TestFailingLineIsFound(t *testing.T) {
+	t.Parallel()
+	s := newSite(t)
+	const bad = 42
+	for entry := 1; entry < bad; entry++ {
+		s.append(prune)
+	}
+	s.append(kill, prune, prune)
+	g := New(s.log, Options{Limits: s.limits, Replica: replica.Options{Program: os.Args[0], Domain: "ex.org", Workers: 2}})
+	go g.follow(s.ctx)
+	within(t, "no line fails", func() bool { f := g.failing(0); return f != nil && f.Line == etcd.Line{Entry: bad, Number: 1} })
+	if _, err := s.log.Append(s.ctx, bad+3, etcd.JoinEntry("x", [][]byte{[]byte(prune), []byte(prune), []byte(kill), []byte(prune)})); err != nil {
+		t.Fatal(err)
+	}
+	s.log.Skip(s.ctx, etcd.Line{Entry: bad, Number: 1}, "x")
+	within(t, "no other line fails", func() bool { f := g.failing(bad); return f != nil && f.Line == etcd.Line{Entry: bad + 3, Number: 3} })
+}
+
+// TestSkipExecuted skips a line that two gateways have executed: both make another replica, and agree.
+func TestSkipExecuted(t *testing.T) {
+	t.Parallel()
+	s := newSite(t)
+	first, address, _ := s.gateway("a")
+	second, _, fresh := s.gateway("b")
+	s.append(prune, prune, prune)
+	s.expect("before", s.call(fresh, show), answered(1, 3))
+	if err := s.log.Skip(s.ctx, etcd.Line{Entry: 2, Number: 1}, "x"); err != nil {
+		t.Fatal(err)
+	}
+	for _, g := range []*Gateway{first, second} {
+		within(t, "the line is not skipped", func() bool { r, state := g.board.read(); return r != nil && state.Entry == 4 && state.Place == 2 })
+	}
+	s.expect("afterwards", s.call(address, prune), committed(1, 3))
+	s.expect("elsewhere", s.call(fresh, show), answered(1, 3))
+	_, one := first.board.read()
+	_, two := second.board.read()
+	if one != two || one.Skipped != 1 {
+		t.Errorf("got %v and %v", one, two)
+	}
+	time.Sleep(3 * againTime)
+	if got := samples(t, second)["regd_gateway_replicas_ended_total"]; got != 1 {
+		t.Errorf("%v replicas ended", got)
+	}
+}
+
+// TestTurnedBack takes entries away, as the restoration of a backup does: the gateway makes a replica of what is left.
+func TestTurnedBack(t *testing.T) {
+	s := newSite(t)
+	g, address, _ := s.gateway("a")
+	s.append(prune, prune, prune)
+	within(t, "not all entries are executed", func() bool { _, state := g.board.read(); return state.Entry == 3 })
+	s.log.Put(s.ctx, "head", []byte("1"))
+	s.log.Delete(s.ctx, etcd.EntryKey(2), etcd.EntryKey(4))
+	s.store.TellWatches(`{"error":{"message":"x"}}`)
+	within(t, "the replica stays", func() bool { r, state := g.board.read(); return r != nil && state.Entry == 1 && state.Place == 1 })
+	s.expect("afterwards", s.call(address, prune), committed(1, 2))
+}
+
+func TestFailureAfter(t *testing.T) {
+	line := func(entry uint64, number int) etcd.Line { return etcd.Line{Entry: entry, Number: number} }
+	for _, c := range []struct {
+		name     string
+		before   *failure
+		executed uint64
+		at       etcd.Line
+		sent     uint64
+		want     *failure
+	}{
+		{"all was executed", nil, 7, etcd.Line{}, 7, nil},
+		{"all was executed, after a failure", &failure{line(8, 2), 3, 9}, 9, line(9, 1), 9, nil},
+		{"an entry ends a replica", nil, 7, etcd.Line{}, 12, &failure{line(8, 1), 1, 12}},
+		{"and then a line of it", &failure{line(8, 1), 1, 12}, 7, line(8, 3), 12, &failure{line(8, 3), 1, 12}},
+		{"again", &failure{line(8, 3), 1, 12}, 7, line(8, 3), 8, &failure{line(8, 3), 2, 12}},
+		{"another one", &failure{line(8, 3), 2, 12}, 9, line(10, 1), 13, &failure{line(10, 1), 1, 13}},
+		{"a later entry", &failure{line(8, 3), 2, 12}, 14, line(12, 1), 16, &failure{line(15, 1), 1, 16}},
+	} {
+		if got := c.before.after(c.executed, c.at, c.sent); !reflect.DeepEqual(got, c.want) {
+			t.Errorf("%s: got %v", c.name, got)
+		}
+	}
+}
