@@ -1,36 +1,21 @@
-"""HAProxy in front of the gateways."""
+"""HAProxy in front of the gateways, by deploy/haproxy.cfg."""
 import pathlib
+import re
 import socket
 import subprocess
 
-from gatewaytools import cluster
+from gatewaytools import cluster, tools
 
-CONFIGURATION = """\
-global
-    maxconn 8000
-defaults
-    mode tcp
-    timeout connect 2s
-    timeout client 10m
-    timeout server 10m
-    retries 5
-    option redispatch
-    option httpchk GET /status
-    default-server inter 500ms fall 2 rise 1 on-marked-down shutdown-sessions
-frontend agents
-    bind 127.0.0.1:{agents}
-    default_backend any
-frontend operators
-    bind 127.0.0.1:{operators}
-    default_backend first
-# queries: any gateway that is ready
-backend any
-    balance leastconn
-{any}
-# changes: one gateway, since those that append at the same time lose races; the others are its backups
-backend first
-{first}
-"""
+EXAMPLE = tools.TOP / "deploy/haproxy.cfg"
+LETTERS = "abc"
+
+
+def configuration(agents, operators, gateways):
+    """Returns the example with the addresses of three gateways, each a pair of ports: for callers and of its state."""
+    text = EXAMPLE.read_text().replace("bind :8471", f"bind 127.0.0.1:{agents}").replace("bind :8470", f"bind 127.0.0.1:{operators}")
+    for letter, (port, status) in zip(LETTERS, gateways):
+        text = re.sub(rf"{letter}\.example:8472 check port 8474", f"127.0.0.1:{port} check port {status}", text)
+    return text
 
 
 class Balancer:
@@ -38,10 +23,8 @@ class Balancer:
 
     def __init__(self, folder, gateways):
         self.agents, self.operators = cluster.free_port(), cluster.free_port()
-        servers = [f"    server g{gateway.number} 127.0.0.1:{gateway.port} check port {gateway.status_port}" for gateway in gateways]
         file = pathlib.Path(folder) / "haproxy.cfg"
-        file.write_text(CONFIGURATION.format(agents=self.agents, operators=self.operators, any="\n".join(servers),
-                                             first="\n".join([servers[0], *(f"{server} backup" for server in servers[1:])])))
+        file.write_text(configuration(self.agents, self.operators, [(gateway.port, gateway.status_port) for gateway in gateways]))
         self.process = subprocess.Popen(["haproxy", "-f", str(file)], stdout=subprocess.DEVNULL, stderr=subprocess.DEVNULL)
 
     def __enter__(self):
