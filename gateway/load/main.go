@@ -2,6 +2,10 @@
 //
 // Each caller sends one line at a time, or -depth lines together, and waits for the answers. When its connection is lost it connects to the next
 // address, and sends a line with a token again. At the end load prints the rates, the waiting times and what the callers saw as one JSON object.
+//
+// With -kind the callers are of another kind, and nothing is measured: silent ones; slow ones, which send and read a byte at a time; flood, which
+// send lines as fast as they can and read all answers; never, which do and read none; half, which end their side and then read; and malformed,
+// which send lines that are no requests.
 package main
 
 import (
@@ -13,6 +17,7 @@ import (
 	"errors"
 	"flag"
 	"fmt"
+	"io"
 	"math/rand"
 	"net"
 	"os"
@@ -36,6 +41,7 @@ var (
 	think       = flag.Duration("think", 0, "the pause before each line")
 	record      = flag.String("record", "", "a file for each answered change, and with -history for the times of all lines")
 	history     = flag.Bool("history", false, "also record queries")
+	kind        = flag.String("kind", "", "another kind of callers: silent, slow, flood, never, half or malformed")
 	resend      = flag.String("resend", "", "in place of random lines, send each change of this record again")
 	certificate = flag.String("certificate", "", "TLS: the certificate")
 	key         = flag.String("key", "", "TLS: its key")
@@ -59,6 +65,7 @@ type event struct {
 type seen struct {
 	reads, writes []float64 // seconds
 	lost          int       // connections
+	unconnected   int       // tries to connect
 	resent        int       // lines
 	repeated      int       // answers
 	refused       int       // changes
@@ -102,7 +109,11 @@ func main() {
 			stop := start.Add(time.Duration(*seconds * 1e9))
 			random := rand.New(rand.NewSource(start.UnixNano() + int64(j)))
 			c := caller{addresses: list, at: j, number: j, random: random, note: note, seen: &all[j], giveUp: stop.Add(patience)}
-			c.run(stop, next)
+			if *kind != "" {
+				c.misbehave(*kind, stop)
+			} else {
+				c.run(stop, next)
+			}
 		}(j)
 	}
 	group.Wait()
@@ -193,6 +204,7 @@ func (c *caller) connect() {
 			return
 		}
 		c.at++
+		c.seen.unconnected++
 		time.Sleep(20 * time.Millisecond)
 	}
 }
@@ -271,6 +283,61 @@ func (c *caller) run(stop time.Time, next func() (string, bool)) {
 	}
 }
 
+// misbehave plays a caller of another kind.
+func (c *caller) misbehave(kind string, stop time.Time) {
+	many := strings.Repeat(`{"ops":[{"op":"show","id":"`+entryID(c.number%*entries)+`"}]}`+"\n", 100)
+	for time.Now().Before(stop) {
+		c.connect()
+		c.conn.SetDeadline(stop)
+		switch kind {
+		case "silent":
+			c.in.ReadByte()
+		case "slow":
+			for at := 0; ; at = (at + 1) % len(many) {
+				time.Sleep(50 * time.Millisecond)
+				if _, err := c.conn.Write([]byte{many[at]}); err != nil {
+					break
+				}
+				if many[at] == '\n' {
+					if _, err := c.in.ReadByte(); err != nil {
+						break
+					}
+				}
+			}
+		case "flood":
+			go io.Copy(io.Discard, c.conn)
+			c.fill(many)
+		case "never":
+			c.fill(many)
+			c.in.ReadByte()
+		case "half":
+			fmt.Fprint(c.conn, many[:len(many)/10])
+			c.conn.(interface{ CloseWrite() error }).CloseWrite()
+			io.Copy(io.Discard, c.in)
+		case "malformed":
+			text := make([]byte, 1000)
+			c.random.Read(text)
+			if _, err := c.conn.Write(append(text, "\n{\n{\"ops\":[{}]}\n"...)); err == nil {
+				c.in.ReadBytes('\n')
+			}
+		default:
+			check(fmt.Errorf("no such kind: %s", kind))
+		}
+		c.conn.Close()
+		c.conn = nil
+		time.Sleep(500 * time.Millisecond)
+	}
+}
+
+// fill sends lines until the connection ends.
+func (c *caller) fill(many string) {
+	for {
+		if _, err := c.conn.Write([]byte(many)); err != nil {
+			return
+		}
+	}
+}
+
 // line returns a random line, whether it is a query, and whether it may be sent again.
 func (c *caller) line(count int) (line string, isRead, isAgain bool) {
 	k := c.random.Intn(*entries)
@@ -324,11 +391,12 @@ func report(all []seen, took float64) {
 	for _, s := range all {
 		t.reads, t.writes = append(t.reads, s.reads...), append(t.writes, s.writes...)
 		t.lost, t.resent, t.repeated, t.refused, t.back = t.lost+s.lost, t.resent+s.resent, t.repeated+s.repeated, t.refused+s.refused, t.back+s.back
+		t.unconnected += s.unconnected
 		if s.longest > t.longest {
 			t.longest = s.longest
 		}
 	}
-	out := map[string]any{"seconds": took, "lost": t.lost, "resent": t.resent, "repeated": t.repeated, "refused": t.refused, "back": t.back, "longest_s": t.longest}
+	out := map[string]any{"seconds": took, "unconnected": t.unconnected, "lost": t.lost, "resent": t.resent, "repeated": t.repeated, "refused": t.refused, "back": t.back, "longest_s": t.longest}
 	for name, times := range map[string][]float64{"reads": t.reads, "changes": t.writes} {
 		out[name], out[name+"_per_s"] = len(times), float64(len(times))/took
 		if sort.Float64s(times); len(times) > 0 {

@@ -81,6 +81,22 @@ class Etcd:
             self.members[number].kill()
         self.members[number].wait()
 
+    def restore(self, backup):
+        """Replaces the data of all members by a backup, and starts them again."""
+        for number in range(self.count):
+            self.kill(number)
+        cluster = ",".join(f"m{other}=http://127.0.0.1:{port}" for other, port in enumerate(self.peers))
+        for number in range(self.count):
+            data = self.folder / str(number)
+            shutil.rmtree(data)
+            subprocess.run(["etcdctl", "snapshot", "restore", str(backup), "--name", f"m{number}", "--data-dir", str(data), "--initial-cluster", cluster,
+                            "--initial-advertise-peer-urls", f"http://127.0.0.1:{self.peers[number]}", "--initial-cluster-token", "restored"],
+                           env={**os.environ, "ETCDCTL_API": "3"}, check=True, capture_output=True)
+        for number in range(self.count):
+            self.start(number)
+        for number in range(self.count):
+            self.wait(number)
+
     def signal(self, number, which):
         os.kill(self.members[number].pid, which)
 
@@ -139,6 +155,34 @@ class Gateway:
             self.process.kill()
         self.process.wait()
         self.process.stdout.close()
+
+    def stop(self, seconds=40):
+        """Sends SIGTERM, and returns the exit status."""
+        self.process.terminate()
+        status = self.process.wait(seconds)
+        self.process.stdout.close()
+        return status
+
+    def get(self, path):
+        """Returns the code and the text of an answer over HTTP."""
+        try:
+            with urllib.request.urlopen(f"http://127.0.0.1:{self.status_port}{path}", timeout=10) as answer:
+                return answer.status, answer.read().decode()
+        except urllib.error.HTTPError as error:
+            return error.code, error.read().decode()
+
+    def metric(self, name):
+        """Returns the value of a metric, or None."""
+        for line in self.get("/metrics")[1].splitlines():
+            key, _, value = line.rpartition(" ")
+            if key == f"regd_gateway_{name}":
+                return float(value)
+        return None
+
+    def memory(self):
+        """Returns the most bytes that the process has had in memory."""
+        status = pathlib.Path(f"/proc/{self.process.pid}/status").read_text()
+        return next(int(line.split()[1]) << 10 for line in status.splitlines() if line.startswith("VmHWM"))
 
     def status(self):
         try:

@@ -207,7 +207,7 @@ def checked(site, record="record"):
         if counts[fault.kind] == 1:
             found.append(f"{fault.kind}: {fault.line[:300]} {fault.reply[:300]}")
     found += [f"{count} changes {kind}" for kind, count in counts.items()]
-    site.notes.append(f"{len(acknowledged)} changes acknowledged, {sum(plain.place_of(reply) <= base for _, reply in acknowledged)} of them in a snapshot")
+    site.notes.append(f"{len(acknowledged)} changes acknowledged, {sum((plain.place_of(reply) or 0) <= base for _, reply in acknowledged)} of them in a snapshot")
     return found, acknowledged
 
 

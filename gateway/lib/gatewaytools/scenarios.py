@@ -235,7 +235,7 @@ def identity(programs, folder):
     make("etcd", "IP:127.0.0.1")
     for name, target in (("ca.pem", "ca.pem"), ("etcd.pem", "cert.pem"), ("etcd.key", "key.pem")):
         shutil.copy(keys / name, secure / target)
-    with SecureEtcd(pathlib.Path(folder) / "secure-etcd", keys) as etcd:
+    with SecureEtcd(pathlib.Path(folder) / "secure-etcd", secure) as etcd:
         with cluster.Gateway(programs.gateway, programs.regd, etcd, folder, 1, ["-etcd-files", str(secure)]) as gateway:
             expect(gateway.call(change.encode())[0].endswith(b'"committed"}'), True, "a change over an etcd with certificates")
         refused = subprocess.run([programs.gateway, "-domain", "ex.org", "-regd", programs.regd, "-etcd", etcd.urls[0], "-listen", "0.0.0.0:0"],
@@ -248,7 +248,7 @@ class SecureEtcd(cluster.Etcd):
     """One member that takes clients with certificates alone."""
 
     def __init__(self, folder, keys):
-        self.files = ["--cert-file", f"{keys}/etcd.pem", "--key-file", f"{keys}/etcd.key", "--client-cert-auth", "--trusted-ca-file", f"{keys}/ca.pem"]
+        self.files = ["--cert-file", f"{keys}/cert.pem", "--key-file", f"{keys}/key.pem", "--client-cert-auth", "--trusted-ca-file", f"{keys}/ca.pem"]
         super().__init__(folder, 1, self.files)
 
     @property
