@@ -66,6 +66,7 @@ type seen struct {
 	reads, writes []float64 // seconds
 	lost          int       // connections
 	unconnected   int       // tries to connect
+	reason        string    // of the last one
 	resent        int       // lines
 	repeated      int       // answers
 	refused       int       // changes
@@ -191,20 +192,21 @@ func (c *caller) connect() {
 		if time.Now().After(c.giveUp) {
 			check(errors.New("no address accepts connections"))
 		}
-		conn, err := net.DialTimeout("tcp", c.addresses[c.at%len(c.addresses)], 2*time.Second)
+		conn, err := net.DialTimeout("tcp", c.addresses[c.at%len(c.addresses)], 5*time.Second)
 		if err == nil && *certificate != "" {
 			secure := tls.Client(conn, secured())
-			secure.SetDeadline(time.Now().Add(10 * time.Second))
-			if err = secure.Handshake(); err == nil {
-				conn = secure
+			secure.SetDeadline(time.Now().Add(20 * time.Second))
+			if err = secure.Handshake(); err != nil {
+				conn.Close()
 			}
+			conn = secure
 		}
 		if err == nil {
 			c.conn, c.in, c.place = conn, bufio.NewReaderSize(conn, 1<<14), 0
 			return
 		}
 		c.at++
-		c.seen.unconnected++
+		c.seen.unconnected, c.seen.reason = c.seen.unconnected+1, err.Error()
 		time.Sleep(20 * time.Millisecond)
 	}
 }
@@ -391,12 +393,14 @@ func report(all []seen, took float64) {
 	for _, s := range all {
 		t.reads, t.writes = append(t.reads, s.reads...), append(t.writes, s.writes...)
 		t.lost, t.resent, t.repeated, t.refused, t.back = t.lost+s.lost, t.resent+s.resent, t.repeated+s.repeated, t.refused+s.refused, t.back+s.back
-		t.unconnected += s.unconnected
+		if t.unconnected += s.unconnected; s.reason != "" {
+			t.reason = s.reason
+		}
 		if s.longest > t.longest {
 			t.longest = s.longest
 		}
 	}
-	out := map[string]any{"seconds": took, "unconnected": t.unconnected, "lost": t.lost, "resent": t.resent, "repeated": t.repeated, "refused": t.refused, "back": t.back, "longest_s": t.longest}
+	out := map[string]any{"seconds": took, "unconnected": t.unconnected, "reason": t.reason, "lost": t.lost, "resent": t.resent, "repeated": t.repeated, "refused": t.refused, "back": t.back, "longest_s": t.longest}
 	for name, times := range map[string][]float64{"reads": t.reads, "changes": t.writes} {
 		out[name], out[name+"_per_s"] = len(times), float64(len(times))/took
 		if sort.Float64s(times); len(times) > 0 {

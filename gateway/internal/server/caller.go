@@ -47,6 +47,37 @@ func (c *crowd) leave(id string) {
 	}
 }
 
+// A paced connection has a turn while its handshake is computed, but not while it waits for the caller. So those of many callers don't hold up the
+// lines of others.
+type paced struct {
+	net.Conn
+	turns   chan struct{} // nil after the handshake
+	hasTurn bool
+}
+
+func (p *paced) Read(to []byte) (int, error) {
+	p.free()
+	count, err := p.Conn.Read(to)
+	if p.turns != nil {
+		p.turns <- struct{}{}
+		p.hasTurn = true
+	}
+	return count, err
+}
+
+func (p *paced) free() {
+	if p.hasTurn {
+		<-p.turns
+		p.hasTurn = false
+	}
+}
+
+// done ends the handshake.
+func (p *paced) done() {
+	p.free()
+	p.turns = nil
+}
+
 // what a caller may still send after the gateway has ended its side of a connection
 const (
 	partTime  = time.Second
@@ -69,6 +100,9 @@ func part(conn net.Conn) {
 func isReset(conn net.Conn) bool {
 	if secure, ok := conn.(*tls.Conn); ok {
 		conn = secure.NetConn()
+	}
+	if turned, ok := conn.(*paced); ok {
+		conn = turned.Conn
 	}
 	tcp, ok := conn.(*net.TCPConn)
 	if !ok {

@@ -135,6 +135,23 @@ func TestTurnedBack(t *testing.T) {
 	s.expect("afterwards", s.call(address, prune), committed(1, 2))
 }
 
+// TestFailing checks when the status has a failing line.
+func TestFailing(t *testing.T) {
+	g := New(newSite(t).log, Options{})
+	for _, c := range []struct {
+		failure  *failure
+		executed uint64
+		want     bool
+	}{
+		{nil, 7, false}, {&failure{etcd.Line{Entry: 8, Number: 1}, 1, 9}, 7, false}, {&failure{etcd.Line{Entry: 8, Number: 1}, 2, 9}, 7, true},
+		{&failure{etcd.Line{Entry: 8, Number: 1}, 2, 9}, 8, false},
+	} {
+		if g.failure.Store(c.failure); (g.failing(c.executed) != nil) != c.want {
+			t.Errorf("%v at entry %d: got %v", c.failure, c.executed, !c.want)
+		}
+	}
+}
+
 func TestFailureAfter(t *testing.T) {
 	line := func(entry uint64, number int) etcd.Line { return etcd.Line{Entry: entry, Number: number} }
 	for _, c := range []struct {

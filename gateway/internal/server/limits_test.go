@@ -133,6 +133,53 @@ func TestCallerConnections(t *testing.T) {
 	served(dial(n2))
 }
 
+// TestHandshakeTurns checks that a handshake is computed when it has a turn, and that one which waits for its caller has none.
+func TestHandshakeTurns(t *testing.T) {
+	s := newSite(t)
+	s.limits.Handshake = 20 * time.Second
+	g, dial := s.secured(n2)
+	all := cap(g.handshakes)
+	for i := 0; i < all; i++ {
+		g.handshakes <- struct{}{}
+	}
+	served, again := make(chan error), make(chan struct{})
+	go func() {
+		conn, in := dial(n2)
+		for {
+			fmt.Fprintln(conn, show)
+			_, err := in.ReadString('\n')
+			served <- err
+			<-again
+		}
+	}()
+	within(t, "no connection", func() bool { return g.sessions.Load() == 1 })
+	select {
+	case err := <-served:
+		t.Errorf("without a turn: %v", err)
+	case <-time.After(200 * time.Millisecond):
+	}
+	for i := 1; i < all; i++ {
+		<-g.handshakes
+	}
+	within(t, "it keeps its turn", func() bool { return len(g.handshakes) == 1 })
+	<-g.handshakes
+	if err := <-served; err != nil {
+		t.Error(err)
+	}
+	for i := 0; i < all; i++ { // of which a connection needs none afterwards
+		g.handshakes <- struct{}{}
+	}
+	again <- struct{}{}
+	select {
+	case err := <-served:
+		if err != nil {
+			t.Error(err)
+		}
+	case <-time.After(10 * time.Second):
+		t.Error("a line waits for a turn")
+	}
+}
+
 // TestLineBytes checks the limit of a line.
 func TestLineBytes(t *testing.T) {
 	s := newSite(t)
@@ -302,35 +349,44 @@ func TestTurns(t *testing.T) {
 	}
 }
 
-// TestManyWait checks that callers who send many queries together wait longer if many of them wait.
-func TestManyWait(t *testing.T) {
-	made, _ := rowOf(newSite(t))
-	made.turns = []chan struct{}{make(chan struct{})}
-	take := func() (bool, time.Duration) {
+// TestFlood checks that callers who send many queries together pause if there are many of them.
+func TestFlood(t *testing.T) {
+	made, conn := rowOf(newSite(t))
+	for others, want := range map[int64]time.Duration{0: 0, manyFlood - 1: 0, manyFlood + 49: 50 * floodPause} {
+		made.flooding.Store(others)
 		made.streak = fewLines
-		ctx, cancel := context.WithTimeout(context.Background(), 200*longerWait)
-		defer cancel()
+		reply := made.add(made.request(nil))
+		reply.answer([]byte(committed(7, 1)))
+		conn.text = ""
 		begin := time.Now()
-		turns := made.turns[0]
-		go func() {
-			select {
-			case <-turns:
-			case <-ctx.Done():
-			}
-		}()
-		isTaken := made.takeTurn(ctx)
-		made.hasTurn = false
-		return isTaken, time.Since(begin)
-	}
-	for others, want := range map[int64]time.Duration{0: 0, manyWait - 1: 0, manyWait + 49: 50 * longerWait} {
-		made.waiting.Store(others)
-		if isTaken, took := take(); !isTaken || took < want || want == 0 && took > 45*longerWait || made.waiting.Load() != others {
-			t.Errorf("while %d others wait: got %v after %v", others, isTaken, took)
+		isTaken := made.takeTurn(context.Background())
+		if took := time.Since(begin); !isTaken || took < want || want == 0 && took > 45*floodPause {
+			t.Errorf("with %d others: got %v after %v", others, isTaken, took)
 		}
+		if isWritten := conn.text != ""; isWritten != (want > 0) {
+			t.Errorf("with %d others: wrote %s", others, conn.text)
+		}
+		if made.flooding.Load() != others+1 {
+			t.Errorf("with %d others there are %d", others, made.flooding.Load())
+		}
+		made.takeTurn(context.Background())
+		if made.freeTurn(); !made.takeTurn(context.Background()) || made.flooding.Load() != others+1 {
+			t.Errorf("with %d others there are %d", others, made.flooding.Load())
+		}
+		made.freeTurn()
+		made.endStreak()
+		if made.endStreak(); made.flooding.Load() != others {
+			t.Errorf("after %d others there are %d", others, made.flooding.Load())
+		}
+		made.writeAnswers(context.Background(), 0)
 	}
-	made.waiting.Store(1 << 20)
-	if isTaken, took := take(); isTaken && took < 100*longerWait || took > 20*time.Second {
-		t.Errorf("got %v after %v", isTaken, took)
+	made.flooding.Store(1 << 20)
+	made.streak = fewLines
+	ctx, cancel := context.WithTimeout(context.Background(), 10*time.Millisecond)
+	defer cancel()
+	made.turns[0] = make(chan struct{})
+	if made.takeTurn(ctx) {
+		t.Error("it took a turn after the end")
 	}
 }
 
@@ -338,7 +394,7 @@ func TestManyWait(t *testing.T) {
 func TestTurnsEnd(t *testing.T) {
 	made, conn := rowOf(newSite(t), []byte(committed(7, 1)))
 	take := func() {
-		for made.streak = fewLines; !made.hasTurn; {
+		for !made.hasTurn {
 			made.takeTurn(context.Background())
 		}
 	}
@@ -350,8 +406,8 @@ func TestTurnsEnd(t *testing.T) {
 	}
 	made.writeAnswers(context.Background(), 0)
 	take()
-	if made.leave(); len(made.turns[0]) != 0 {
-		t.Error("a caller that has left has a turn")
+	if made.leave(); len(made.turns[0]) != 0 || made.flooding.Load() != 0 {
+		t.Error("a caller that has left has a turn, or counts")
 	}
 }
 
@@ -499,7 +555,7 @@ func TestReset(t *testing.T) {
 	defer inner.Close()
 	g := New(s.log, Options{Limits: s.limits})
 	queued := func() *request {
-		q := (&session{Gateway: g, conn: tls.Server(inner, nil)}).request([]byte(prune))
+		q := (&session{Gateway: g, conn: tls.Server(&paced{Conn: inner}, nil)}).request([]byte(prune))
 		g.changes <- q
 		return q
 	}

@@ -7,6 +7,7 @@ import (
 	"context"
 	"crypto/tls"
 	"net"
+	"runtime"
 	"sync"
 	"sync/atomic"
 	"time"
@@ -74,22 +75,23 @@ type Options struct {
 
 // A Gateway serves callers.
 type Gateway struct {
-	log     *etcd.Log
-	options Options
-	run     string // no other gateway, and no other run of this one, has it
-	board   board
-	flights sync.Map // from the names of this gateway's entries that are not yet answered to their changes
-	changes chan *request
-	long    chan struct{}   // one for each long line that is under way
-	turns   []chan struct{} // for each worker of regd, of callers that send many queries together
-	waiting atomic.Int64    // callers that wait for a turn
-	held    atomic.Int64    // bytes of replies that are not yet sent
-	active  atomic.Int64    // connections with lines that are under way
-	stop    chan struct{}   // closed when the gateway shuts down
-	open    sync.Map        // connections of sessions
-	crowd   crowd
-	fresh   fresh
-	marks   chan replica.State // checksums to vote for
+	log        *etcd.Log
+	options    Options
+	run        string // no other gateway, and no other run of this one, has it
+	board      board
+	flights    sync.Map // from the names of this gateway's entries that are not yet answered to their changes
+	changes    chan *request
+	long       chan struct{}   // one for each long line that is under way
+	turns      []chan struct{} // for each worker of regd, of callers that send many queries together
+	flooding   atomic.Int64    // callers that send many queries together
+	handshakes chan struct{}   // one for each that is computed
+	held       atomic.Int64    // bytes of replies that are not yet sent
+	active     atomic.Int64    // connections with lines that are under way
+	stop       chan struct{}   // closed when the gateway shuts down
+	open       sync.Map        // connections of sessions
+	crowd      crowd
+	fresh      fresh
+	marks      chan replica.State // checksums to vote for
 
 	isDisputed atomic.Bool
 	sessions   atomic.Int64  // open ones
@@ -108,7 +110,8 @@ func New(log *etcd.Log, options Options) *Gateway {
 	g := &Gateway{
 		log: log, options: options, run: wire.NewID(), board: board{changed: make(chan struct{})},
 		changes: make(chan *request, options.Limits.Changes), long: make(chan struct{}, options.Limits.LongLines),
-		stop: make(chan struct{}), crowd: crowd{counts: map[string]int{}}, marks: make(chan replica.State, votesLeft),
+		handshakes: make(chan struct{}, runtime.GOMAXPROCS(0)),
+		stop:       make(chan struct{}), crowd: crowd{counts: map[string]int{}}, marks: make(chan replica.State, votesLeft),
 	}
 	for len(g.turns) == 0 || len(g.turns) < options.Replica.Workers-1 {
 		g.turns = append(g.turns, make(chan struct{}, mostTurns))
@@ -204,9 +207,11 @@ func (g *Gateway) receive(ctx context.Context, conn net.Conn, isFresh bool) {
 	s := &session{Gateway: g, conn: conn, isOperator: true, isFresh: isFresh, number: int(g.accepted.Add(1))}
 	isAdmitted := true
 	if g.options.Callers != nil {
-		secure := tls.Server(conn, g.options.Callers.Server())
+		turned := &paced{Conn: conn, turns: g.handshakes}
+		secure := tls.Server(turned, g.options.Callers.Server())
 		conn.SetDeadline(time.Now().Add(limits.Handshake))
-		if secure.HandshakeContext(ctx) != nil {
+		err := secure.HandshakeContext(ctx)
+		if turned.done(); err != nil {
 			g.ended.Inc("handshake")
 			return
 		}

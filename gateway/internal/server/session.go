@@ -21,11 +21,11 @@ const (
 	readBuffer = 1 << 13
 	replyRoom  = 1 << 18 // for replies to the lines of a connection that are under way, if these are as long as the last ones were
 	// lines that are under way of all connections together, if each has more than one
-	queryRoom, changeRoom = 128, 1024
+	queryRoom, changeRoom = 256, 1024
 	fewLines              = 4                    // queries that a caller may send together without a turn
-	mostTurns             = 2                    // for each worker of regd
-	manyWait              = 64                   // callers that wait for a turn, before they wait longer
-	longerWait            = 4 * time.Millisecond // for each of them beyond that
+	mostTurns             = 4                    // for each worker of regd
+	manyFlood             = 128                  // callers that send more together, before they have to pause
+	floodPause            = 4 * time.Millisecond // for each of them beyond that
 )
 
 // A session is a connection of a caller. One goroutine reads lines, forwards each, and writes the answers in the order of the lines.
@@ -119,7 +119,7 @@ func (s *session) waitForLine() bool {
 		s.noteLate(err, "idle")
 		return false
 	}
-	s.streak = 0
+	s.endStreak()
 	runtime.Gosched() // a caller that always has lines doesn't keep a processor
 	return s.readFor(s.options.Limits.Line)
 }
@@ -170,6 +170,7 @@ func (s *session) leave() {
 	s.held.Add(-s.unsent)
 	s.freeSlot()
 	s.freeTurn()
+	s.endStreak()
 }
 
 // request returns a request with a line.
@@ -212,32 +213,44 @@ func (s *session) change(ctx context.Context, line []byte) bool {
 	return true
 }
 
-// takeTurn waits until it is the turn of a caller that sends many queries together. So there are few of their lines in front of those of other
-// callers, which wait for each answer and need no turn. It returns false if the session ends.
+// takeTurn waits until it is the turn of a caller that sends many queries together, and longer if there are many such callers. So there are few of
+// their lines in front of those of other callers, which wait for each answer and need no turn. It returns false if the session ends.
 func (s *session) takeTurn(ctx context.Context) bool {
 	if s.streak++; s.hasTurn || s.streak <= fewLines {
 		return true
 	}
-	turns := s.turns[s.number%len(s.turns)]
-	select {
-	case turns <- struct{}{}:
-	default:
-		if !s.writeAnswers(ctx, 0) {
-			return false
-		}
-		over := s.waiting.Add(1) - manyWait
-		defer s.waiting.Add(-1)
-		if over > 0 {
-			etcd.Pause(ctx, time.Duration(over)*longerWait)
-		}
+	if s.streak == fewLines+1 {
+		s.flooding.Add(1)
+	}
+	over, turns := s.flooding.Load()-manyFlood, s.turns[s.number%len(s.turns)]
+	if over <= 0 {
 		select {
 		case turns <- struct{}{}:
-		case <-ctx.Done():
-			return false
+			s.hasTurn = true
+			return true
+		default:
 		}
 	}
-	s.hasTurn = true
-	return true
+	if !s.writeAnswers(ctx, 0) {
+		return false
+	}
+	if over > 0 {
+		etcd.Pause(ctx, time.Duration(over)*floodPause)
+	}
+	select {
+	case turns <- struct{}{}:
+		s.hasTurn = true
+	case <-ctx.Done():
+	}
+	return s.hasTurn
+}
+
+// endStreak notes that no further line has arrived together with the last one.
+func (s *session) endStreak() {
+	if s.streak > fewLines {
+		s.flooding.Add(-1)
+	}
+	s.streak = 0
 }
 
 // freeTurn ends the turn, before something is waited for that may take long.

