@@ -308,7 +308,7 @@ func TestShares(t *testing.T) {
 func TestTurns(t *testing.T) {
 	t.Parallel()
 	s := newSite(t)
-	g, address, _ := s.gateway("a")
+	g, address, fresh := s.gateway("a")
 	if len(g.turns) != 2 {
 		t.Fatalf("there are turns for %d workers", len(g.turns))
 	}
@@ -336,6 +336,9 @@ func TestTurns(t *testing.T) {
 		t.Errorf("without a turn: got %s", got)
 	}
 	s.expect("others meanwhile", s.call(address, show, show), answered(1, 0), answered(2, 0))
+	if answers := s.call(fresh, strings.Split(strings.Repeat(show+"\n", 3*fewLines), "\n")[:3*fewLines]...); len(answers) != 3*fewLines {
+		t.Errorf("fresh queries meanwhile: got %q", answers)
+	}
 	conn.SetReadDeadline(time.Now().Add(20 * time.Second))
 	for _, turns := range g.turns {
 		<-turns
@@ -405,6 +408,12 @@ func TestTurnsEnd(t *testing.T) {
 		}
 	}
 	made.writeAnswers(context.Background(), 0)
+	take()
+	short, cancel := context.WithTimeout(context.Background(), 10*time.Millisecond)
+	defer cancel()
+	if made.query(short, []byte(`{"ops":[],"after":99}`)); len(made.turns[0]) != 0 {
+		t.Error("a caller that waits for a commit has a turn")
+	}
 	take()
 	if made.leave(); len(made.turns[0]) != 0 || made.flooding.Load() != 0 {
 		t.Error("a caller that has left has a turn, or counts")

@@ -127,7 +127,11 @@ func (s *session) waitForLine() bool {
 // readFor limits the time for reading. It returns false if nothing is to be read, because the gateway shuts down.
 func (s *session) readFor(long time.Duration) bool {
 	s.conn.SetReadDeadline(time.Now().Add(long))
-	return !s.isStopping() // asked last, since Shutdown ends the time of those that were not stopping before
+	if !s.isStopping() { // asked last, since Shutdown ends the time of those that were not stopping before
+		return true
+	}
+	s.conn.SetReadDeadline(time.Now())
+	return false
 }
 
 // noteLate counts a connection that ends because a time limit is over.
@@ -263,7 +267,7 @@ func (s *session) freeTurn() {
 
 // query sends a line to the replica. It returns false if the session ends.
 func (s *session) query(ctx context.Context, line []byte) bool {
-	if !s.takeTurn(ctx) {
+	if !s.isFresh && !s.takeTurn(ctx) { // fresh ones are asked one at a time
 		return false
 	}
 	if s.isFresh {
@@ -278,6 +282,7 @@ func (s *session) query(ctx context.Context, line []byte) bool {
 		if !s.writeAnswers(ctx, 0) {
 			return false
 		}
+		s.freeTurn()
 		late, cancel := context.WithTimeout(ctx, s.options.Limits.After)
 		defer cancel()
 		s.board.wait(late, 0, after) // if it is still too early, regd says W1

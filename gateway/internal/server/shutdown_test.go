@@ -2,9 +2,11 @@ package server
 
 import (
 	"context"
+	"errors"
 	"fmt"
 	"io"
 	"net"
+	"os"
 	"strings"
 	"testing"
 	"time"
@@ -138,7 +140,11 @@ func TestShutdownRead(t *testing.T) {
 	if g.Shutdown(s.ctx); time.Since(begin) > 10*time.Second {
 		t.Error("it takes too long")
 	}
+	made.conn, _ = net.Pipe()
 	if made.readFor(time.Hour) {
 		t.Error("more is to be read")
+	}
+	if _, err := made.conn.Read(make([]byte, 1)); !errors.Is(err, os.ErrDeadlineExceeded) {
+		t.Errorf("reading: got %v", err)
 	}
 }

@@ -114,6 +114,8 @@ FEATURES = [
     ("once", SESSION, "if s.streak == fewLines+1 {", "if s.streak > fewLines {", "TestFlood"),
     ("while they do", SESSION, "\t\ts.flooding.Add(-1)\n", "", "TestFlood"),
     ("not when they have left", SESSION, "\ts.freeTurn()\n\ts.endStreak()\n", "\ts.freeTurn()\n", "TestTurnsEnd"),
+    ("not fresh ones", SESSION, "!s.isFresh && !s.takeTurn(ctx)", "!s.takeTurn(ctx)", "TestTurns"),
+    ("a turn ends before a commit is waited for", SESSION, "\t\ts.freeTurn()\n\t\tlate", "\t\tlate", "TestTurnsEnd"),
     ("each worker has turns", SERVER, "len(g.turns) < options.Replica.Workers-1 {", "len(g.turns) < 1 {", "TestTurns"),
     ("a turn ends before a caller is waited for", SESSION, "\ts.freeTurn()\n\tlong", "\tlong", "TestTurnsEnd"),
     ("and when it has left", SESSION, "\ts.freeSlot()\n\ts.freeTurn()\n\ts.endStreak()", "\ts.freeSlot()\n\ts.endStreak()", "TestTurnsEnd"),
@@ -310,7 +312,8 @@ FEATURES = [
     ("it waits for lines that are under way", SERVER, "g.sessions.Load() > 0 && ctx.Err() == nil {", "g.sessions.Load() < 0 && ctx.Err() == nil {", "TestShutdown"),
     ("not for ever", SERVER, "g.sessions.Load() > 0 && ctx.Err() == nil {", "g.sessions.Load() > 0 {", "TestShutdownLimit"),
     ("it reads no more lines", SESSION, "\tfor !s.isStopping() {\n", "\tfor s != nil {\n", "TestShutdownRow"),
-    ("it waits for no more lines", SESSION, "return !s.isStopping() // asked last", "return true // asked last", "TestShutdownRead"),
+    ("it waits for no more lines", SESSION, "\tif !s.isStopping() { // asked last", "\tif true { // asked last", "TestShutdownRead"),
+    ("nor for the rest of one", SESSION, "\ts.conn.SetReadDeadline(time.Now())\n\treturn false", "\treturn false", "TestShutdownRead"),
     ("lines that were read are answered", SESSION, "\t}\n\ts.writeAnswers(ctx, 0)\n}\n", "\t}\n}\n", "TestShutdownRow"),
     ("the ends of silent callers are not counted as late", SESSION, " && !s.isStopping() {\n\t\ts.ended", " {\n\t\ts.ended", "TestShutdown"),
     # lines that are skipped
