@@ -79,7 +79,7 @@ func (g *Gateway) runReplica(ctx context.Context) error {
 		}
 		isSkipped := func(i int) bool {
 			line := etcd.Line{Entry: number, Number: i + 1}
-			if before != nil && number <= before.sent { // one at a time, to find the one that ends replicas
+			if before.concerns(number) { // one at a time, to find the one that ends replicas
 				if r.Settle(); !r.HasEnded() {
 					at = line
 				}
@@ -103,6 +103,11 @@ func (g *Gateway) runReplica(ctx context.Context) error {
 		logline.Error("reading the log again", "next", next, "error", err)
 		etcd.Pause(ctx, againTime)
 	}
+}
+
+// concerns returns true if a line of an entry may be the one that ends replicas.
+func (f *failure) concerns(entry uint64) bool {
+	return f != nil && f.Line.Entry <= entry && entry <= f.sent
 }
 
 // after returns the failure after a replica has ended which had executed one entry and got another one, or nil if it had executed all. If the lines

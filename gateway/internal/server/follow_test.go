@@ -152,6 +152,19 @@ func TestFailing(t *testing.T) {
 	}
 }
 
+// TestConcerns checks which entries are executed one line at a time: not those that replicas have executed.
+func TestConcerns(t *testing.T) {
+	f := &failure{etcd.Line{Entry: 8, Number: 1}, 1, 12}
+	for entry, want := range map[uint64]bool{7: false, 8: true, 12: true, 13: false} {
+		if f.concerns(entry) != want {
+			t.Errorf("entry %d: got %v", entry, !want)
+		}
+	}
+	if f = nil; f.concerns(8) {
+		t.Error("an entry is concerned without a failure")
+	}
+}
+
 func TestFailureAfter(t *testing.T) {
 	line := func(entry uint64, number int) etcd.Line { return etcd.Line{Entry: entry, Number: number} }
 	for _, c := range []struct {
