@@ -467,6 +467,14 @@ def one_machine(programs, folder):
         machine.run(install)
         committed(machine.run(use))
         machine.run("systemctl start regd-snapshot", "systemctl restart regd-gateway", READY.format(1))
+        # and then three
+        second, third = page.machine(2), page.machine(3)
+        announce, join, announce_third, join_third, finish = page.blocks["From one machine to three"]
+        for one, commands in ((machine, announce), (second, join), (machine, announce_third), (third, join_third), (machine, finish), (second, finish)):
+            one.run(commands)
+        committed(machine.run(page.blocks["Three machines"][2]))
+        members = json.loads(machine.run("curl --silent --fail http://10.0.0.2:8474/status"))["etcd"]
+        expect([member.get("error") for member in members], [None] * 3, "errors of members")
 
 
 def three_machines(programs, folder):
@@ -510,7 +518,7 @@ def pages(programs, folder):
     folder = pathlib.Path(folder)
     one_machine(programs, folder / "one")
     three_machines(programs, folder / "three")
-    return "one machine, three machines, the loss of one, a skipped line, a restored backup"
+    return "one machine, then three; three machines, the loss of one, a skipped line, a restored backup"
 
 
 OPERATIONS = {"crowd": crowd, "handshakes": handshakes, "stop": stop, "certificates": certificates, "upgrade": upgrade, "skip": skip, "restore": restore,
