@@ -209,13 +209,12 @@ func (g *Gateway) receive(ctx context.Context, conn net.Conn, isFresh bool) {
 	if g.options.Callers != nil {
 		turned := &paced{Conn: conn, turns: g.handshakes}
 		secure := tls.Server(turned, g.options.Callers.Server())
-		conn.SetDeadline(time.Now().Add(limits.Handshake))
+		conn.SetDeadline(time.Now().Add(limits.Handshake)) // a session sets it again before it reads and writes
 		err := secure.HandshakeContext(ctx)
 		if turned.done(); err != nil {
 			g.ended.Inc("handshake")
 			return
 		}
-		conn.SetDeadline(time.Time{})
 		conn, s.conn = secure, secure
 		s.agent, s.isOperator = callerOf(secure.ConnectionState().PeerCertificates[0], g.options.Operators) // the handshake requires one
 		defer g.crowd.leave(s.agent)
