@@ -166,7 +166,7 @@ FEATURES = [
     ("a fresh query has a time limit", SESSION, "late, cancel := context.WithTimeout(ctx, s.options.Limits.Answer)", "late, cancel := context.WithCancel(ctx)", "TestNoAnswer"),
     ("a query with after waits for the commit", SESSION, "\t\ts.board.wait(late, 0, after)", "\t\t_ = late", "TestGateways"),
     ("it doesn't wait for ever", SESSION, "context.WithTimeout(ctx, s.options.Limits.After)", "context.WithCancel(ctx)", "TestGateways"),
-    ("answers are sent before it waits", SESSION, "\t\tif !s.writeAnswers(ctx, 0) {\n\t\t\treturn false\n\t\t}\n\t\tlate", "\t\tlate", "TestAnswersDoNotWait"),
+    ("answers are sent before it waits", SESSION, "\t\tif !s.writeAnswers(ctx, 0) {\n\t\t\treturn false\n\t\t}\n\t\ts.freeTurn()", "\t\ts.freeTurn()", "TestAnswersDoNotWait"),
     ("it waits for nothing if the commit is there", SESSION, "after > state.Place {", "after > 0 || after > state.Place {", "TestPastAfter"),
     ("a query is kept while there is no replica", SESSION, "\tif r == nil {\n\t\tq.answer(nil)\n", "\tif r == nil {\n", "TestQueriesOutliveRegd"),
     ("a fresh query has the place of the replica", SESSION, "q.place = state.Place", "q.place = 0 * state.Place", "TestLateWorkers"),
