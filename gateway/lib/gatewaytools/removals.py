@@ -216,7 +216,7 @@ FEATURES = [
     ("a log that was cut makes another replica", FOLLOW, "errors.Is(err, etcd.ErrCut) || ", "", "TestCutLog"),
     ("a replica whose regd has ended ends", FOLLOW, '\t\tcase ctx.Err() != nil:\n\t\t\treturn errors.New("regd ended")\n', '\t\tcase ctx.Err() != nil && errors.New("") == nil:\n', "TestReplicaEnds"),
     ("the log is read again after an error", FOLLOW, '"next", next, "error", err)\n', '"next", next, "error", err)\n\t\treturn err\n', "TestSilentWatch"),
-    ("after a pause too", FOLLOW, "\t\tetcd.Pause(ctx, againTime)\n\t}\n}\n\n// after", "\t}\n}\n\n// after", "TestPausesOfReplicas"),
+    ("after a pause too", FOLLOW, "\t\tetcd.Pause(ctx, againTime)\n\t}\n}\n\n// concerns", "\t}\n}\n\n// concerns", "TestPausesOfReplicas"),
     ("the board follows the replica", FOLLOW, "g.board.update(func() { g.board.state = state })", "g.board.update(func() {})", "TestGateways"),
     ("a gateway votes", FOLLOW, "case g.marks <- state:", "case make(chan replica.State) <- state:", "TestMarks"),
     ("every 1,000 entries", FOLLOW, "if state.Entry%voteInterval == 0 {", "{", "TestMarks"),
