@@ -20,7 +20,7 @@ import (
 // Errors of the log.
 var (
 	ErrCut        = errors.New("the next entry was cut off: a snapshot stands for it")
-	ErrTurnedBack = errors.New("the log ends before the last entry that was read: etcd was restored from a backup")
+	ErrTurnedBack = errors.New("the log no longer has the last entry that was read: etcd was restored from a backup")
 	ErrUnknown    = errors.New("it is not known whether an entry was made: the one of its number was cut off")
 )
 
@@ -118,8 +118,8 @@ func (t transaction) read() (entries []pair, last uint64, err error) {
 
 // Append makes the value an entry, exactly once: the one of a number or, if that is taken, the first one after the log's end. It returns the
 // number of the last entry. Without an answer of etcd it sends the same again, which finds out whether the entry was made, because no two values
-// are equal. With ErrUnknown the entry may have been made.
-func (l *Log) Append(ctx context.Context, number uint64, value []byte) (last uint64, err error) {
+// are equal. With ErrUnknown the entry may have been made. What else is written belongs to the same transaction.
+func (l *Log) Append(ctx context.Context, number uint64, value []byte, also ...object) (last uint64, err error) {
 	decimal := func(n uint64) []byte { return []byte(strconv.FormatUint(n, 10)) }
 	for isOpen := false; ; {
 		var had []pair
@@ -127,7 +127,7 @@ func (l *Log) Append(ctx context.Context, number uint64, value []byte) (last uin
 		// the answer may have a value of another gateway, which is about as large
 		err := l.call(ctx, timeFor(len(value)), txnPath, object{
 			"compare": []object{{"target": "VALUE", "key": l.key("head"), "value": decimal(number - 1)}},
-			"success": []object{l.writing(EntryKey(number), value), l.writing("head", decimal(number))},
+			"success": append([]object{l.writing(EntryKey(number), value), l.writing("head", decimal(number))}, also...),
 			"failure": []object{l.reading(EntryKey(number)), l.reading("head")},
 		}, &done)
 		if err == nil {
@@ -157,8 +157,9 @@ func (l *Log) Append(ctx context.Context, number uint64, value []byte) (last uin
 }
 
 // Follow passes all entries from a number on to take, in order and without a gap: first those that exist, then, after a call of caughtUp, new
-// ones. It ends with an error: ErrCut, ErrTurnedBack, or one of etcd or the context. It also returns the number of the entry that is due next.
-func (l *Log) Follow(ctx context.Context, next uint64, caughtUp func(last uint64), take func(number uint64, value []byte)) (uint64, error) {
+// ones. The entry before the first one has to have the given name, unless that is "" or the entry was cut off. Follow ends with an error: ErrCut,
+// ErrTurnedBack, or one of etcd or the context. It also returns the number of the entry that is due next.
+func (l *Log) Follow(ctx context.Context, next uint64, before string, caughtUp func(last uint64), take func(number uint64, value []byte)) (uint64, error) {
 	pass := func(entries ...pair) error {
 		for _, one := range entries {
 			if string(one.Key) != l.prefix+EntryKey(next) {
@@ -173,13 +174,20 @@ func (l *Log) Follow(ctx context.Context, next uint64, caughtUp func(last uint64
 		var page transaction
 		err := l.call(ctx, pageTime, txnPath, object{"success": []object{
 			// bounded by keys: given a limit, etcd also counts all keys after the page
-			{"request_range": object{"key": l.key(EntryKey(next)), "range_end": l.key(EntryKey(next + pageSize))}},
+			{"request_range": object{"key": l.key(EntryKey(next - 1)), "range_end": l.key(EntryKey(next + pageSize))}},
 			l.reading("head"),
 		}}, &page)
 		if err != nil {
 			return next, err
 		}
 		entries, last, err := page.read()
+		if len(entries) > 0 && string(entries[0].Key) == l.prefix+EntryKey(next-1) {
+			if name, _ := SplitEntry(entries[0].Value); before != "" && name != before {
+				return next, ErrTurnedBack
+			}
+			entries = entries[1:]
+		}
+		before = ""
 		if err == nil && len(entries) == 0 && last >= next {
 			err = ErrCut
 		} else if err == nil && last+1 < next {

@@ -95,7 +95,7 @@ func TestFollow(t *testing.T) {
 	reading, stop := context.WithCancel(ctx)
 	defer stop()
 	caught, taken := uint64(0), uint64(0)
-	next, err := log.Follow(reading, 1, func(last uint64) {
+	next, err := log.Follow(reading, 1, "", func(last uint64) {
 		caught = last
 		go func() {
 			log.Cut(ctx, 3) // of which the watch says nothing
@@ -115,14 +115,21 @@ func TestFollow(t *testing.T) {
 		t.Errorf("caught up at %d, ended at %d, next %d, %v", caught, taken, next, err)
 	}
 	log.Cut(ctx, 100)
-	if _, err := log.Follow(ctx, 50, func(uint64) {}, func(uint64, []byte) {}); !errors.Is(err, etcd.ErrCut) {
+	if _, err := log.Follow(ctx, 50, "", func(uint64) {}, func(uint64, []byte) {}); !errors.Is(err, etcd.ErrCut) {
 		t.Errorf("cut off in front: got %v", err)
 	}
-	if _, err := log.Follow(ctx, before+7, func(uint64) {}, func(uint64, []byte) {}); !errors.Is(err, etcd.ErrTurnedBack) {
+	if _, err := log.Follow(ctx, before+7, "", func(uint64) {}, func(uint64, []byte) {}); !errors.Is(err, etcd.ErrTurnedBack) {
 		t.Errorf("behind the end: got %v", err)
 	}
+	for name, want := range map[string]error{fmt.Sprint(before): context.Canceled, "other": etcd.ErrTurnedBack} {
+		reading, stop := context.WithCancel(ctx)
+		if _, err := log.Follow(reading, before+1, name, func(uint64) { stop() }, func(uint64, []byte) {}); !errors.Is(err, want) {
+			t.Errorf("after the entry %s: got %v", name, err)
+		}
+		stop()
+	}
 	log.Cut(ctx, before+5)
-	if _, err := log.Follow(ctx, 50, func(uint64) {}, func(uint64, []byte) {}); !errors.Is(err, etcd.ErrCut) {
+	if _, err := log.Follow(ctx, 50, "", func(uint64) {}, func(uint64, []byte) {}); !errors.Is(err, etcd.ErrCut) {
 		t.Errorf("all cut off: got %v", err)
 	}
 }
@@ -168,7 +175,7 @@ func TestEntry(t *testing.T) {
 
 // TestSkip checks what the log has of a skipped line.
 func TestSkip(t *testing.T) {
-	_, log, ctx := open(t)
+	server, log, ctx := open(t)
 	for number := uint64(1); number <= 20; number++ {
 		if _, err := log.Append(ctx, number, etcd.JoinEntry(fmt.Sprint(number), [][]byte{[]byte("a"), []byte("b")})); err != nil {
 			t.Fatal(err)
@@ -182,6 +189,11 @@ func TestSkip(t *testing.T) {
 	if skips, err := log.Skips(ctx); len(skips) != 0 || err != nil {
 		t.Errorf("got %v, %v", skips, err)
 	}
+	server.Before(2, func() { // the first one finds out where the log ends
+		if skips, _ := log.Skips(ctx); len(skips) != 0 {
+			t.Errorf("%v is there before its record", skips)
+		}
+	})
 	second := etcd.Line{Entry: 17, Number: 2}
 	for _, id := range []string{"x", "y"} { // such as again, when the first one was not answered
 		if err := log.Skip(ctx, second, id); err != nil {

@@ -87,7 +87,7 @@ func TestSlowPage(t *testing.T) {
 	defer slow.Close()
 	log := New([]string{slow.URL}, "r/", nil)
 	_, _, ctx := openLog(t)
-	if _, err := log.Follow(ctx, 1, func(uint64) {}, func(uint64, []byte) {}); !errors.Is(err, ErrCut) {
+	if _, err := log.Follow(ctx, 1, "", func(uint64) {}, func(uint64, []byte) {}); !errors.Is(err, ErrCut) {
 		t.Errorf("a slow page: got %v", err)
 	}
 	if err := log.call(ctx, callTime, "/", object{}, &found{}); !errors.Is(err, context.DeadlineExceeded) {
@@ -217,8 +217,8 @@ func TestBounds(t *testing.T) {
 	}
 	server.Recount()
 	reading, stop := context.WithCancel(ctx)
-	log.Follow(reading, 1, func(uint64) { stop() }, func(uint64, []byte) {})
-	if counts := server.Counts(); counts.Pairs != pageSize || counts.Requests != (last+pageSize-1)/pageSize {
+	log.Follow(reading, 1, "", func(uint64) { stop() }, func(uint64, []byte) {})
+	if counts := server.Counts(); counts.Pairs != pageSize+1 || counts.Requests != (last+pageSize-1)/pageSize {
 		t.Errorf("reading: got %v", counts)
 	}
 	server.Recount()
@@ -235,7 +235,7 @@ func TestEndedWatch(t *testing.T) {
 	for _, line := range []string{`{"result":{"canceled":true}}`, `{"error":{"message":"x"}}`, `{`} {
 		server, log, ctx := openLog(t)
 		seen := make(chan struct{}, 1)
-		next, err := log.Follow(ctx, 1, func(uint64) {
+		next, err := log.Follow(ctx, 1, "", func(uint64) {
 			go func() {
 				for server.Counts().Watches == 0 {
 					time.Sleep(time.Millisecond)

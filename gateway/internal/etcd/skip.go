@@ -44,8 +44,9 @@ func (l *Log) Skips(ctx context.Context) (Skips, error) {
 	return skips, err
 }
 
-// Skip makes all replicas leave out a line. It stores that under a key, which replicas read when they start, and appends an entry that records it, so
-// that a replica which has executed the line notices. The id is one that no other call has.
+// Skip makes all replicas leave out a line. In one transaction it stores that under a key, which replicas read when they start, and appends an entry that
+// records it, at which a replica that has executed the line ends. So a replica that has executed the record has left out the line, and one that is ready
+// without the record has not. The id is one that no other call has.
 func (l *Log) Skip(ctx context.Context, line Line, id string) error {
 	value, err := l.Get(ctx, EntryKey(line.Entry))
 	if err != nil {
@@ -54,15 +55,9 @@ func (l *Log) Skip(ctx context.Context, line Line, id string) error {
 	if _, lines := SplitEntry(value); value == nil || line.Number < 1 || line.Number > len(lines) {
 		return fmt.Errorf("the log has no line %v", line)
 	}
-	if err := l.Put(ctx, skipFolder+line.String(), []byte(time.Now().UTC().Format(time.RFC3339))); err != nil {
-		return err
-	}
-	last, err := l.Head(ctx)
-	if err != nil {
-		return err
-	}
+	when := l.writing(skipFolder+line.String(), []byte(time.Now().UTC().Format(time.RFC3339)))
 	record := fmt.Sprintf(`{"skip":"%v"}`, line) // which regd refuses
-	_, err = l.Append(ctx, last+1, JoinEntry(fmt.Sprintf("%s%v %s", skipPrefix, line, id), [][]byte{[]byte(record)}))
+	_, err = l.Append(ctx, line.Entry+1, JoinEntry(fmt.Sprintf("%s%v %s", skipPrefix, line, id), [][]byte{[]byte(record)}), when)
 	return err
 }
 

@@ -25,16 +25,18 @@ func (c *Counter) Inc() { c.Add(1) }
 type Vector struct{ counters sync.Map } // from values to *Counter
 
 // Inc adds 1 to the counter of a value. The values have to be few.
-func (v *Vector) Inc(value string) {
+func (v *Vector) Inc(value string) { v.counter(value).Inc() }
+
+func (v *Vector) counter(value string) *Counter {
 	counter, ok := v.counters.Load(value)
 	if !ok {
 		counter, _ = v.counters.LoadOrStore(value, new(Counter))
 	}
-	counter.(*Counter).Inc()
+	return counter.(*Counter)
 }
 
 // bounds has the upper bounds of the buckets of a histogram, in seconds.
-var bounds = [...]float64{.0001, .00025, .0005, .001, .0025, .005, .01, .025, .05, .1, .25, .5, 1, 2.5, 5, 10, 20}
+var bounds = [...]float64{.0001, .00025, .0005, .001, .0025, .005, .01, .025, .05, .1, .25, .5, 1, 2.5, 5, 10, 20, 60, 300}
 
 // A Histogram counts durations.
 type Histogram struct {
@@ -81,9 +83,12 @@ func (p *Page) Counter(name, help string, c *Counter) {
 	p.sample(name, float64(c.Load()))
 }
 
-// Vector adds the counters of all values of a label.
-func (p *Page) Vector(name, help, label string, v *Vector) {
+// Vector adds the counters of all values of a label. The known ones are there from the beginning, so that their first increase is seen.
+func (p *Page) Vector(name, help, label string, v *Vector, known ...string) {
 	p.begin("counter", name, help)
+	for _, value := range known {
+		v.counter(value)
+	}
 	var samples []string
 	v.counters.Range(func(value, counter any) bool {
 		samples = append(samples, fmt.Sprintf("%s{%s=%q} %d\n", name, label, value, counter.(*Counter).Load()))

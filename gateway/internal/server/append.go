@@ -28,6 +28,9 @@ func (g *Gateway) appendChanges(ctx context.Context) error {
 	next := uint64(1)
 	for count := 1; ; count++ {
 		changes, lines := g.collect(ctx)
+		if !g.board.wait(ctx, 0, 0) { // a gateway without a replica can't answer, and would only make the log longer
+			return ctx.Err()
+		}
 		name := fmt.Sprintf("%s.%d", g.run, count)
 		g.flights.Store(name, changes)
 		began := time.Now()

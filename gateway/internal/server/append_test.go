@@ -3,9 +3,28 @@ package server
 import (
 	"sync"
 	"testing"
+	"time"
 
 	"regd/gateway/internal/etcd"
+	"regd/gateway/internal/replica"
 )
+
+// standIn puts a replica on the board that does nothing, so that changes are appended.
+func standIn(g *Gateway) { g.board.update(func() { g.board.replica = &replica.Replica{} }) }
+
+// TestNoAppendWithoutReplica checks that a gateway appends nothing while it has no replica, which would answer.
+func TestNoAppendWithoutReplica(t *testing.T) {
+	s := newSite(t)
+	g := New(s.log, Options{Limits: s.limits})
+	go g.appendChanges(s.ctx)
+	g.changes <- (&session{Gateway: g}).request([]byte(prune))
+	time.Sleep(200 * time.Millisecond)
+	if head, err := s.log.Head(s.ctx); head != 0 || err != nil {
+		t.Errorf("the log has %d entries, %v", head, err)
+	}
+	standIn(g)
+	within(t, "no entry", func() bool { head, _ := s.log.Head(s.ctx); return head == 1 })
+}
 
 // TestCollect checks the bounds of an entry.
 func TestCollect(t *testing.T) {

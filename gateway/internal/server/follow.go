@@ -70,9 +70,10 @@ func (g *Gateway) runReplica(ctx context.Context) error {
 			}
 		}
 	}
-	before, at := g.failure.Load(), etcd.Line{}
+	before, at, last := g.failure.Load(), etcd.Line{}, ""
 	take := func(number uint64, value []byte) {
 		name, lines := etcd.SplitEntry(value)
+		last = name
 		if line, isRecord := etcd.Skipped(name); isRecord && skips[line] == "" {
 			logline.Info("a line is skipped of which the replica did not know", "line", line)
 			r.Close()
@@ -92,7 +93,7 @@ func (g *Gateway) runReplica(ctx context.Context) error {
 	for {
 		reading, cut := context.WithCancel(ctx)
 		go g.guard(reading, cut, r)
-		next, err = g.log.Follow(reading, next, caughtUp, take)
+		next, err = g.log.Follow(reading, next, last, caughtUp, take)
 		cut()
 		switch {
 		case ctx.Err() != nil:
@@ -136,18 +137,13 @@ func (g *Gateway) executed(state replica.State) {
 	}
 }
 
-// guard asks every second where the log ends. It cuts the reading of the log when that brings nothing although the log has grown.
+// guard cuts the reading of the log when that brings nothing although the log has grown.
 func (g *Gateway) guard(ctx context.Context, cut func(), r *replica.Replica) {
 	defer cut()
 	entry, moved := r.State().Entry, time.Now()
-	for time.Since(moved) < silentTime {
+	for ctx.Err() == nil && time.Since(moved) < silentTime {
 		etcd.Pause(ctx, time.Second)
-		head, err := g.log.Head(ctx)
-		if err != nil {
-			return
-		}
-		g.heard(head)
-		if now := r.State().Entry; now != entry || now >= head {
+		if now := r.State().Entry; now != entry || now >= g.head.Load() {
 			entry, moved = now, time.Now()
 		}
 	}

@@ -57,6 +57,7 @@ func TestFailingLine(t *testing.T) {
 		t.Errorf("got %s", failing())
 	}
 	s.append(prune)
+	within(t, "the end of the log is not known", func() bool { _, values := status(t, g); return values["head"] == float64(line.Entry+1) })
 	if err := s.log.Skip(s.ctx, line, "x"); err != nil {
 		t.Fatal(err)
 	}
@@ -132,6 +133,22 @@ func TestTurnedBack(t *testing.T) {
 	s.log.Delete(s.ctx, etcd.EntryKey(2), etcd.EntryKey(4))
 	s.store.TellWatches(`{"error":{"message":"x"}}`)
 	within(t, "the replica stays", func() bool { r, state := g.board.read(); return r != nil && state.Entry == 1 && state.Place == 1 })
+	s.expect("afterwards", s.call(address, prune), committed(1, 2))
+}
+
+// TestReplacedEntries replaces entries by others, as if a backup was restored and another gateway had appended more before this one noticed.
+func TestReplacedEntries(t *testing.T) {
+	t.Parallel()
+	s := newSite(t)
+	g, address, _ := s.gateway("a")
+	s.append(prune, prune, prune)
+	within(t, "not all entries are executed", func() bool { _, state := g.board.read(); return state.Entry == 3 })
+	s.store.HoldWatch()
+	s.log.Put(s.ctx, "head", []byte("1"))
+	s.log.Delete(s.ctx, etcd.EntryKey(2), etcd.EntryKey(4))
+	s.append("{", "{", "{")
+	s.store.TellWatches(`{"error":{"message":"x"}}`)
+	within(t, "the replica stays", func() bool { r, state := g.board.read(); return r != nil && state.Entry == 4 && state.Place == 1 })
 	s.expect("afterwards", s.call(address, prune), committed(1, 2))
 }
 

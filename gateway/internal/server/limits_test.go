@@ -496,6 +496,19 @@ func TestLateReply(t *testing.T) {
 	}
 }
 
+// TestAnswerAgain checks that a reply takes no room if another one was written. Replies come again if a replica ends within an entry.
+func TestAnswerAgain(t *testing.T) {
+	reply := []byte(committed(7, 1))
+	made, conn := rowOf(newSite(t), reply)
+	q := made.row[0]
+	if !made.writeAnswers(context.Background(), 0) || conn.text != committed(1, 1)+"\n" {
+		t.Errorf("wrote %s", conn.text)
+	}
+	if q.answer(reply); made.held.Load() != 0 {
+		t.Errorf("%d bytes are held", made.held.Load())
+	}
+}
+
 // TestUnsent checks that replies are held until they are written.
 func TestUnsent(t *testing.T) {
 	reply := []byte(committed(7, 1))

@@ -48,13 +48,10 @@ var UsualLimits = Limits{
 
 // IsValid returns true if all limits are above 0, and lines are not longer than regd accepts them.
 func (l Limits) IsValid() bool {
-	for _, long := range []time.Duration{l.Answer, l.After, l.Handshake, l.Idle, l.Line, l.Write, l.Stop, l.Votes, l.Members} {
-		if long <= 0 {
-			return false
-		}
-	}
-	for _, count := range []int{l.LineBytes, l.Lines, l.LongLines, l.Changes, int(l.ReplyBytes), l.Connections, l.CallerConnections} {
-		if count <= 0 {
+	for _, limit := range []int64{int64(l.Answer), int64(l.After), int64(l.Handshake), int64(l.Idle), int64(l.Line), int64(l.Write), int64(l.Stop),
+		int64(l.Votes), int64(l.Members), int64(l.LineBytes), int64(l.Lines), int64(l.LongLines), int64(l.Changes), l.ReplyBytes,
+		int64(l.Connections), int64(l.CallerConnections)} {
+		if limit <= 0 {
 			return false
 		}
 	}
@@ -87,7 +84,8 @@ type Gateway struct {
 	handshakes chan struct{}   // one for each that is computed
 	held       atomic.Int64    // bytes of replies that are not yet sent
 	active     atomic.Int64    // connections with lines that are under way
-	stop       chan struct{}   // closed when the gateway shuts down
+	isStopping atomic.Bool     // the gateway shuts down
+	stop       chan struct{}   // closed then
 	open       sync.Map        // connections of sessions
 	crowd      crowd
 	fresh      fresh
@@ -102,7 +100,7 @@ type Gateway struct {
 	failure    atomic.Pointer[failure]
 	stats
 
-	acceptFails, crowded, busy logline.Rare
+	acceptFails, crowded, callerCrowded, changesWait, longWait, noRoom logline.Rare
 }
 
 // New returns a gateway of a log.
@@ -116,6 +114,7 @@ func New(log *etcd.Log, options Options) *Gateway {
 	for len(g.turns) == 0 || len(g.turns) < options.Replica.Workers-1 {
 		g.turns = append(g.turns, make(chan struct{}, mostTurns))
 	}
+	g.skips.Store(&etcd.Skips{})
 	g.heard(0)
 	return g
 }
@@ -130,7 +129,7 @@ func (g *Gateway) heard(head uint64) {
 func (g *Gateway) Run(ctx context.Context, serve func(context.Context) error) error {
 	ctx, stop := context.WithCancel(ctx)
 	defer stop()
-	parts := []func(context.Context) error{g.follow, g.appendChanges, g.compare, g.askMembers, func(ctx context.Context) error {
+	parts := []func(context.Context) error{g.follow, g.appendChanges, g.compare, g.askHead, g.askMembers, func(ctx context.Context) error {
 		if !g.board.wait(ctx, 0, 0) {
 			return ctx.Err()
 		}
@@ -151,6 +150,7 @@ func (g *Gateway) Run(ctx context.Context, serve func(context.Context) error) er
 // Shutdown accepts no more callers, reads no more lines, and ends each connection when its lines are answered. It returns when no connection is left,
 // or the context ends. It may be called once.
 func (g *Gateway) Shutdown(ctx context.Context) {
+	g.isStopping.Store(true)
 	close(g.stop)
 	g.open.Range(func(conn, _ any) bool {
 		conn.(net.Conn).SetReadDeadline(time.Now())
@@ -158,15 +158,6 @@ func (g *Gateway) Shutdown(ctx context.Context) {
 	})
 	for g.sessions.Load() > 0 && ctx.Err() == nil {
 		etcd.Pause(ctx, 10*time.Millisecond)
-	}
-}
-
-func (g *Gateway) isStopping() bool {
-	select {
-	case <-g.stop:
-		return true
-	default:
-		return false
 	}
 }
 
@@ -184,7 +175,7 @@ func (g *Gateway) Serve(ctx context.Context, on net.Listener, isFresh bool) erro
 		switch {
 		case err == nil:
 			go g.receive(ctx, conn, isFresh)
-		case ctx.Err() != nil || g.isStopping():
+		case ctx.Err() != nil || g.isStopping.Load():
 			<-ctx.Done() // for which connections go on
 			return ctx.Err()
 		default: // such as: no free descriptor
@@ -225,7 +216,7 @@ func (g *Gateway) receive(ctx context.Context, conn net.Conn, isFresh bool) {
 		s.serve(ctx)
 	} else {
 		g.ended.Inc("caller")
-		g.crowded.Error("too many connections of a caller", "limit", limits.CallerConnections, "caller", s.agent)
+		g.callerCrowded.Error("too many connections of a caller", "limit", limits.CallerConnections, "caller", s.agent)
 		s.add(s.request(nil)).answer(wire.Refusal(wire.TooMany))
 		s.writeAnswers(ctx, 0)
 	}

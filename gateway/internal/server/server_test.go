@@ -193,7 +193,7 @@ func TestIDs(t *testing.T) {
 func TestGateways(t *testing.T) {
 	t.Parallel()
 	s := newSite(t)
-	_, first, _ := s.gateway("a")
+	g, first, _ := s.gateway("a")
 	_, second, fresh := s.gateway("b")
 	for place := 1; place < 40; place += 2 {
 		s.expect("a change", s.call(first, prune), committed(1, place))
@@ -205,6 +205,9 @@ func TestGateways(t *testing.T) {
 	s.expect("a query that is too early", s.call(first, `{"ops":[{"op":"show"}],"after":99}`), `{"call":1,"code":"W1","place":40,"result":"refused"}`)
 	if took := time.Since(begin); took < s.limits.After {
 		t.Errorf("it waited for %v", took)
+	}
+	if sum := samples(t, g)["regd_gateway_query_duration_seconds_sum"]; sum < s.limits.After.Seconds() {
+		t.Errorf("all queries together took %v s", sum)
 	}
 	_, third, _ := s.gateway("c")
 	s.expect("a gateway that comes later", s.call(third, show), answered(1, 40))
@@ -284,6 +287,7 @@ func TestUnknownAppend(t *testing.T) {
 	s.log.Append(s.ctx, 1, []byte("a"))
 	s.log.Cut(s.ctx, 1)
 	g := New(s.log, Options{Limits: s.limits})
+	standIn(g)
 	go g.appendChanges(s.ctx)
 	first := (&session{Gateway: g}).request([]byte(prune))
 	s.store.LoseAnswers(1)

@@ -52,7 +52,7 @@ type session struct {
 	isBroken     bool       // nothing more can be written
 	lines, calls int        // how many were answered
 	place        uint64     // the newest commit number that the caller has seen
-	answered     time.Time  // when the last answer came
+	progress     time.Time  // when the last answer came, or the last query was sent
 }
 
 // serve serves a connection to its end.
@@ -60,7 +60,7 @@ func (s *session) serve(ctx context.Context) {
 	defer s.leave()
 	s.open.Store(s.conn, true)
 	defer s.open.Delete(s.conn)
-	for !s.isStopping() {
+	for !s.isStopping.Load() {
 		if s.isFull() && !s.writeAnswers(ctx, len(s.row)/2) || !s.hasLine() && !(s.writeAnswers(ctx, 0) && s.waitForLine()) {
 			return
 		}
@@ -127,7 +127,7 @@ func (s *session) waitForLine() bool {
 // readFor limits the time for reading. It returns false if nothing is to be read, because the gateway shuts down.
 func (s *session) readFor(long time.Duration) bool {
 	s.conn.SetReadDeadline(time.Now().Add(long))
-	if !s.isStopping() { // asked last, since Shutdown ends the time of those that were not stopping before
+	if !s.isStopping.Load() { // asked last, since Shutdown ends the time of those that were not stopping before
 		return true
 	}
 	s.conn.SetReadDeadline(time.Now())
@@ -136,7 +136,7 @@ func (s *session) readFor(long time.Duration) bool {
 
 // noteLate counts a connection that ends because a time limit is over.
 func (s *session) noteLate(err error, reason string) {
-	if errors.Is(err, os.ErrDeadlineExceeded) && !s.isStopping() {
+	if errors.Is(err, os.ErrDeadlineExceeded) && !s.isStopping.Load() {
 		s.ended.Inc(reason)
 	}
 }
@@ -150,7 +150,7 @@ func (s *session) takeSlot(ctx context.Context) bool {
 		s.isLong = true
 		return s.readFor(s.options.Limits.Line)
 	case <-late.C:
-		s.busy.Error("too many long lines wait", "limit", cap(s.long))
+		s.longWait.Error("too many long lines wait", "limit", cap(s.long))
 	case <-ctx.Done():
 	}
 	return false
@@ -208,7 +208,7 @@ func (s *session) change(ctx context.Context, line []byte) bool {
 	select {
 	case s.changes <- q:
 	case <-late.C:
-		s.busy.Error("too many changes wait", "limit", cap(s.changes))
+		s.changesWait.Error("too many changes wait", "limit", cap(s.changes))
 		q.answer(wire.Refusal(wire.Busy))
 	case <-ctx.Done():
 		return false
@@ -267,6 +267,8 @@ func (s *session) freeTurn() {
 
 // query sends a line to the replica. It returns false if the session ends.
 func (s *session) query(ctx context.Context, line []byte) bool {
+	q := s.request(line)
+	q.isQuery = true
 	if !s.isFresh && !s.takeTurn(ctx) { // fresh ones are asked one at a time
 		return false
 	}
@@ -287,8 +289,7 @@ func (s *session) query(ctx context.Context, line []byte) bool {
 		defer cancel()
 		s.board.wait(late, 0, after) // if it is still too early, regd says W1
 	}
-	q := s.request(line)
-	q.isQuery = true
+	s.progress = time.Now() // the time for the answer doesn't begin before
 	s.ask(s.add(q))
 	return true
 }
@@ -316,7 +317,8 @@ func (s *session) writeAnswers(ctx context.Context, most int) bool {
 			s.flush()
 			return false
 		}
-		s.row, s.answered = s.row[1:], time.Now()
+		s.row, s.progress = s.row[1:], time.Now()
+		q.leave() // such as a reply of another replica, which executes all of an entry
 		if len(s.row) == 0 {
 			s.freeSlot()
 			s.active.Add(-1)
@@ -341,7 +343,7 @@ func (s *session) note(q *request, reply []byte) {
 	if s.isChanging {
 		kind = &s.changed
 	}
-	kind.Observe(s.answered.Sub(q.began))
+	kind.Observe(s.progress.Sub(q.began))
 	if code := wire.Code(reply); code != "" {
 		s.refusals.Inc(code)
 	}
@@ -357,8 +359,8 @@ func (s *session) await(ctx context.Context, q *request) []byte {
 		return nil
 	}
 	begin := q.began
-	if s.answered.After(begin) {
-		begin = s.answered
+	if s.progress.After(begin) {
+		begin = s.progress
 	}
 	late := time.NewTimer(time.Until(begin.Add(s.options.Limits.Answer))) // a context for each line would make all connections wait for one lock
 	defer late.Stop()
@@ -433,7 +435,8 @@ func (q *request) take() bool {
 	return !isReset(q.session.conn) && q.isTaken.CompareAndSwap(false, true)
 }
 
-// leave takes a request back: a change that is not yet taken will not be appended, and its line takes no more memory.
+// leave ends what a session does for a request. A change that is not yet taken will not be appended, and its line takes no more memory. A reply that still
+// comes takes no room.
 func (q *request) leave() {
 	if !q.isQuery && q.isTaken.CompareAndSwap(false, true) {
 		q.line = nil
@@ -456,7 +459,7 @@ func (q *request) answer(reply []byte) {
 	held := &q.session.held
 	if held.Add(int64(len(reply))) > q.session.options.Limits.ReplyBytes && q.isQuery {
 		held.Add(-int64(len(reply)))
-		q.session.busy.Error("replies take too much room", "limit", q.session.options.Limits.ReplyBytes)
+		q.session.noRoom.Error("replies take too much room", "limit", q.session.options.Limits.ReplyBytes)
 		reply = wire.Refusal(wire.Busy)
 		held.Add(int64(len(reply)))
 	}

@@ -246,6 +246,15 @@ func TestLateAnswer(t *testing.T) {
 	}
 }
 
+// TestLateQuery checks that the time for an answer begins when a query is asked, and not while it waits for a commit.
+func TestLateQuery(t *testing.T) {
+	t.Parallel()
+	s := newSite(t)
+	s.limits.Answer, s.limits.After = time.Second, 2*time.Second
+	_, address, _ := s.gateway("a")
+	s.expect("an early query", s.call(address, `{"ops":[{"op":"show","hint":"SLOW"}],"after":99}`), `{"call":1,"code":"W1","place":0,"result":"refused"}`)
+}
+
 // TestPastAfter checks that a query with the number of a commit that is there doesn't wait for the lines before it.
 func TestPastAfter(t *testing.T) {
 	s := newSite(t)

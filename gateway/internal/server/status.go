@@ -9,6 +9,7 @@ import (
 
 	"regd/gateway/internal/etcd"
 	"regd/gateway/internal/metrics"
+	"regd/gateway/internal/wire"
 )
 
 // silentLimit is how long etcd may be silent before a balancer should send changes to another gateway.
@@ -42,7 +43,7 @@ func (g *Gateway) Handler() http.Handler {
 // isReady returns true if queries can be answered.
 func (g *Gateway) isReady() bool {
 	r, _ := g.board.read()
-	return r != nil && !g.isStopping()
+	return r != nil && !g.isStopping.Load()
 }
 
 // silence returns for how long etcd has not said where the log ends. It is asked once a second.
@@ -82,7 +83,7 @@ func (g *Gateway) serveStatus(w http.ResponseWriter, _ *http.Request) {
 		"name": g.options.Name, "program": g.options.Program, "ready": isReady, "disputed": g.isDisputed.Load(),
 		"entry": state.Entry, "place": state.Place, "sum": fmt.Sprintf("%x", state.Sum),
 		"head": g.head.Load(), "lag": g.lag(state.Entry), "silent": g.silence().Seconds(), "sessions": g.sessions.Load(), "etcd": g.members.Load(),
-		"stopping": g.isStopping(), "skipped": g.skips.Load(), "failing": g.failing(state.Entry),
+		"stopping": g.isStopping.Load(), "skipped": g.skips.Load(), "failing": g.failing(state.Entry),
 	}
 	w.Header().Set("Content-Type", "application/json")
 	if !isReady {
@@ -92,6 +93,17 @@ func (g *Gateway) serveStatus(w http.ResponseWriter, _ *http.Request) {
 		status["regd"], status["tokens"] = r.Pid(), len(r.Tokens())
 	}
 	json.NewEncoder(w).Encode(status)
+}
+
+// askHead keeps the end of the log, until the context ends.
+func (g *Gateway) askHead(ctx context.Context) error {
+	for ctx.Err() == nil {
+		if head, err := g.log.Head(ctx); err == nil {
+			g.heard(head)
+		}
+		etcd.Pause(ctx, time.Second)
+	}
+	return ctx.Err()
 }
 
 // askMembers keeps the states of etcd's members, until the context ends.
@@ -115,10 +127,12 @@ func (g *Gateway) serveMetrics(w http.ResponseWriter, _ *http.Request) {
 	p.Gauge(name+"disputed", "1 if another gateway has another checksum.", is[g.isDisputed.Load()])
 	p.Gauge(name+"connections", "Open connections of callers.", float64(g.sessions.Load()))
 	p.Counter(name+"connections_total", "Connections of callers.", &g.accepted)
-	p.Vector(name+"connections_ended_total", "Connections that the gateway ended, by reason.", "reason", &g.ended)
+	p.Vector(name+"connections_ended_total", "Connections that the gateway ended, by reason.", "reason", &g.ended,
+		"answer", "caller", "connections", "handshake", "idle", "line", "write")
 	p.Histogram(name+"change_duration_seconds", "Times from a line that may be a change to its answer.", &g.changed)
 	p.Histogram(name+"query_duration_seconds", "Times from any other line to its answer.", &g.queries)
-	p.Vector(name+"refusals_total", "Answers with a code, by code.", "code", &g.refusals)
+	p.Vector(name+"refusals_total", "Answers with a code, by code.", "code", &g.refusals,
+		wire.NotAllowed, wire.TooMixed, wire.NoRoom, wire.TooMany, wire.Busy, wire.TooLong, wire.Skipped)
 	p.Histogram(name+"append_duration_seconds", "Times in which etcd accepted an entry of this gateway.", &g.appends)
 	p.Gauge(name+"reply_bytes", "Bytes of replies that are not yet sent.", float64(g.held.Load()))
 	p.Gauge(name+"changes_waiting", "Changes that wait to be appended.", float64(len(g.changes)))
@@ -129,15 +143,12 @@ func (g *Gateway) serveMetrics(w http.ResponseWriter, _ *http.Request) {
 	p.Gauge(name+"commit_number", "The commit number of the book.", float64(state.Place))
 	p.Histogram(name+"replay_duration_seconds", "Times from the start of a replica until it was ready.", &g.replays)
 	p.Counter(name+"replicas_ended_total", "Replicas that ended and were replaced.", &g.replicasEnded)
-	failing, skips := 0.0, 0.0
+	failing := 0.0
 	if f := g.failing(state.Entry); f != nil {
 		failing = float64(f.Line.Entry)
 	}
-	if all := g.skips.Load(); all != nil {
-		skips = float64(len(*all))
-	}
 	p.Gauge(name+"failing_entry", "The entry with a line in which one replica after another ends, or 0.", failing)
-	p.Gauge(name+"lines_skipped", "Lines that operators have skipped.", skips)
+	p.Gauge(name+"lines_skipped", "Lines that operators have skipped.", float64(len(*g.skips.Load())))
 	if c := g.options.Callers; c != nil {
 		p.Gauge(name+"certificate_expiry_timestamp_seconds", "When the certificate for callers expires.", float64(c.Expiry().Unix()))
 	}

@@ -103,6 +103,9 @@ func samples(t *testing.T, g *Gateway) map[string]float64 {
 	}
 	all := map[string]float64{}
 	for _, line := range strings.Split(strings.TrimSpace(answer.Body.String()), "\n") {
+		if words := strings.Fields(line); words[1] == "TYPE" && (words[3] == "counter") != strings.HasSuffix(words[2], "_total") {
+			t.Errorf("the name and the type don't agree: %s", line)
+		}
 		if name, value, _ := strings.Cut(line, " "); name != "#" {
 			number, err := strconv.ParseFloat(value, 64)
 			if err != nil || !strings.HasPrefix(name, "regd_gateway_") {
@@ -133,6 +136,7 @@ func TestMetrics(t *testing.T) {
 	for name, want := range map[string]float64{
 		`info{name="a",program="p"}`: 1, "ready": 1, "disputed": 1, "connections": 1, "connections_total": 2,
 		"change_duration_seconds_count": 3, "query_duration_seconds_count": 2, `refusals_total{code="L2"}`: 1, `refusals_total{code="O3"}`: 1,
+		`refusals_total{code="G5"}`: 0, `connections_ended_total{reason="idle"}`: 0,
 		"append_duration_seconds_count": float64(state.Entry), "changes_waiting": 0, "reply_bytes": 0, "changes_dropped_total": 0,
 		"log_entry": float64(state.Entry), "log_lag_entries": 4, "commit_number": 2,
 		"replay_duration_seconds_count": 1, "replicas_ended_total": 0, "failing_entry": 0, "lines_skipped": 0,

@@ -156,7 +156,7 @@ func replay(log *etcd.Log, old content, r *replica.Replica, names names, last ui
 	}
 	reading, stop := context.WithCancel(r.Context())
 	defer stop()
-	_, err := log.Follow(reading, old.Entry+1, func(uint64) {}, func(number uint64, value []byte) {
+	_, err := log.Follow(reading, old.Entry+1, "", func(uint64) {}, func(number uint64, value []byte) {
 		if number > last {
 			return
 		}
