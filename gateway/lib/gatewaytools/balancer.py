@@ -1,4 +1,5 @@
 """HAProxy in front of the gateways, by deploy/haproxy.cfg."""
+import os
 import pathlib
 import re
 import socket
@@ -15,6 +16,8 @@ def configuration(agents, operators, gateways):
     text = EXAMPLE.read_text().replace("bind :8471", f"bind 127.0.0.1:{agents}").replace("bind :8470", f"bind 127.0.0.1:{operators}")
     for letter, (port, status) in zip(LETTERS, gateways):
         text = re.sub(rf"{letter}\.example:8472 check port 8474", f"127.0.0.1:{port} check port {status}", text)
+    if os.geteuid() != 0:  # only root can give up its rights
+        text = re.sub(r" *(user|group) haproxy\n", "", text)
     return text
 
 

@@ -1,7 +1,8 @@
-"""Tests of the checker itself: planted faults make it fail. They need no program."""
+"""Tests of the checker itself: planted faults make it fail. And of the tables of docs/GATEWAY.md. They need no program."""
+import re
 import unittest
 
-from gatewaytools import auditing, rules
+from gatewaytools import auditing, rules, tools
 
 TOKEN = "00000000-0000-4000-8000-00000000000"
 
@@ -118,3 +119,39 @@ class Rules(unittest.TestCase):
 
 if __name__ == "__main__":
     unittest.main()
+
+
+class Tables(unittest.TestCase):
+    """The tables of docs/GATEWAY.md have what the sources have, and nothing else."""
+
+    def setUp(self):
+        self.page = (tools.TOP / "docs/GATEWAY.md").read_text()
+
+    def source(self, name):
+        return (tools.SOURCES / name).read_text()
+
+    def listed(self, heading):
+        """Returns what the first columns of the tables below a heading have in inline code."""
+        part = re.split(r"^#+ ", self.page.partition(f"# {heading}\n")[2], maxsplit=1, flags=re.M)[0]
+        return {name for row in part.splitlines() if row.startswith("| ") for name in re.findall(r"`([^`]+)`", row.split("|")[1])}
+
+    def test_metrics(self):
+        usual, _, members = self.source("internal/server/status.go").partition("func addMembers")
+        names = {*re.findall(r'name\+"(\w+)"', usual)} - {"etcd_"} | {f"etcd_{name}" for name in re.findall(r'name\+"(\w+)"', members)}
+        self.assertEqual(self.listed("Metrics"), names)
+
+    def test_status(self):
+        keys = re.findall(r'"(\w+)":', self.source("internal/server/status.go")) + re.findall(r'status\["(\w+)"\]', self.source("internal/server/status.go"))
+        self.assertEqual(self.listed("What the gateway shows"), {*keys})
+
+    def test_options(self):
+        names = re.findall(r'flags\.\w+\((?:&[\w.]+, )?"([a-z-]+)"', self.source("main.go"))
+        self.assertEqual((self.listed("Options") | self.listed("Limits")) - {"-limit-.."}, {f"-{name}" for name in names})
+
+    def test_log_lines(self):
+        texts = [file.read_text() for file in tools.SOURCES.rglob("*.go") if not file.stem.endswith("_test") and file.parent.name != "load"]
+        self.assertEqual(self.listed("Log lines"), {event for text in texts for event in re.findall(r'\.(?:Info|Error)\("([^"]+)"', text)})
+
+    def test_codes(self):
+        codes = re.findall(r'= "(G\d)"', self.source("internal/wire/batch.go"))
+        self.assertEqual(re.findall(r"^\| (G\d) \|", self.page, flags=re.M), codes)

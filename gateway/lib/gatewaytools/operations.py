@@ -396,6 +396,11 @@ def blocks(text):
     return found
 
 
+# with commands, which these tests run; the part audit has the last one
+HEADINGS = {"One machine", "Three machines", "From one machine to three", "The loss of a machine", "Space in etcd", "A line that ends regd", "Backup and restore",
+            "Auditing"}
+
+
 class Machine:
     """A machine of the page: a loopback address, and a folder for its files."""
 
@@ -438,6 +443,7 @@ class Page:
         # addresses of this test alone
         self.network = f"127.{os.getpid() % 250 + 2}.{int(time.time()) % 250 + 2}."
         self.blocks = blocks((tools.TOP / "docs/GATEWAY.md").read_text())
+        expect(set(self.blocks), HEADINGS, "headings with commands")
         self.machines = {}
 
     def machine(self, number):
@@ -467,6 +473,9 @@ def one_machine(programs, folder):
         machine.run(install)
         committed(machine.run(use))
         machine.run("systemctl start regd-snapshot", "systemctl restart regd-gateway", READY.format(1))
+        for commands in page.blocks["Space in etcd"]:
+            machine.run(commands)
+        machine.run(READY.format(1))
         # and then three
         second, third = page.machine(2), page.machine(3)
         announce, join, announce_third, join_third, finish = page.blocks["From one machine to three"]
@@ -475,6 +484,8 @@ def one_machine(programs, folder):
         committed(machine.run(page.blocks["Three machines"][2]))
         members = json.loads(machine.run("curl --silent --fail http://10.0.0.2:8474/status"))["etcd"]
         expect([member.get("error") for member in members], [None] * 3, "errors of members")
+        # what the operator changed on the first machine is still there, although it was installed again
+        expect([member["quota"] >> 30 for member in members], [16, 8, 8], "quotas in GiB")
 
 
 def three_machines(programs, folder):
@@ -497,7 +508,8 @@ def three_machines(programs, folder):
         third.run(again)
         committed(first.run(use))
         # a skipped line, a restored backup
-        [skip_commands] = page.blocks["A line that ends regd"]
+        look, skip_commands = page.blocks["A line that ends regd"]
+        expect("set_agent" in first.run(look.replace("%016x 17", "%016x 2")), True, "a line in the entry")
         first.run(skip_commands.replace("regd-gateway", "programs/regd-gateway").replace("-skip 17.1", "-skip 2.1"))
         backup, restoration, go_on = page.blocks["Backup and restore"]
         first.run(backup)
