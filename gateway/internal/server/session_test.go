@@ -392,6 +392,9 @@ func TestReplicaIsAway(t *testing.T) {
 	if err := <-ended; err != context.Canceled {
 		t.Error(err)
 	}
+	if count := samples(t, other)["regd_gateway_replay_duration_seconds_count"]; count != 0 { // which also shows a short time
+		t.Errorf("it was ready %v times", count)
+	}
 }
 
 // TestRunEnds checks that a gateway with the wrong checksum stops serving.
