@@ -92,8 +92,7 @@ func (g *Gateway) runReplica(ctx context.Context) error {
 	defer func() { g.failure.Store(before.after(r.State().Entry, at, next-1)) }()
 	for {
 		reading, cut := context.WithCancel(ctx)
-		go g.guard(reading, cut, r)
-		next, err = g.log.Follow(reading, next, last, caughtUp, take)
+		next, err = g.log.Follow(reading, next, last, func(end uint64) { caughtUp(end); go g.guard(reading, cut, r) }, take)
 		cut()
 		switch {
 		case ctx.Err() != nil:
@@ -137,7 +136,7 @@ func (g *Gateway) executed(state replica.State) {
 	}
 }
 
-// guard cuts the reading of the log when that brings nothing although the log has grown.
+// guard cuts a watch of the log when that brings nothing although the log has grown. The pages before it may be large, and have a limit of their own.
 func (g *Gateway) guard(ctx context.Context, cut func(), r *replica.Replica) {
 	defer cut()
 	entry, moved := r.State().Entry, time.Now()

@@ -323,6 +323,13 @@ func TestSlowReplica(t *testing.T) {
 	if _, state := g.board.read(); state.Entry != 50 || s.store.Counts().Pages != 1 {
 		t.Errorf("at entry %d, %v", state.Entry, s.store.Counts())
 	}
+	for i := 0; i < 50; i++ {
+		s.append(`{"ops":[{"op":"prune","hint":"SLOW"}]}`)
+	}
+	within(t, "not all entries are executed", func() bool { _, state := g.board.read(); return state.Entry == 100 })
+	if counts := s.store.Counts(); counts.Pages != 1 || counts.Watches != 1 {
+		t.Errorf("while entries come: %v", counts)
+	}
 }
 
 // TestFreshHead checks that those who wait for etcd share one request, and that no caller gets the answer to one that failed.

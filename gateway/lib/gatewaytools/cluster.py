@@ -1,7 +1,9 @@
 """Processes on loopback for tests: etcd members, gateways and a balancer."""
+import contextlib
 import json
 import os
 import pathlib
+import random
 import shutil
 import signal
 import socket
@@ -15,10 +17,18 @@ from gatewaytools import logs
 DOMAIN = "ex.org"
 
 
+given = set()  # ports
+
+
 def free_port():
-    with socket.socket() as opened:
-        opened.bind(("127.0.0.1", 0))
-        return opened.getsockname()[1]
+    """Returns a port of its own. It is below those of outgoing connections, of which one could take it while its process is being started again."""
+    while True:
+        port = random.randrange(16384, 32768)
+        with socket.socket() as opened, contextlib.suppress(OSError):
+            opened.bind(("127.0.0.1", port))
+            if port not in given:
+                given.add(port)
+                return port
 
 
 def wait_for(condition, seconds, what):
