@@ -8,9 +8,9 @@ use Rattle.serde_json.proofs.OnLiterals.{serde_json_on_literals}
 use Rattle.entry_book.specs.History.{books_of, is_committed, reply_to}
 use Rattle.entry_book.specs.declared.reply.Outcome.{Outcome}
 use Rattle.entry_book.specs.declared.reply.Outcome.TheVariants as outcome
-use Rattle.reg_lines.specs.Lines.{AreLines, IsWhole, OnlyLinesJoin, lines_of}
+use Rattle.line_devices.specs.Lines.{AreLines, IsWhole, OnlyLinesJoin, lines_of}
 use Rattle.reg_lines.specs.OneLine.{RecordsHaveNoLf}
-use Rattle.reg_lines.specs.Records.{AuditRecord, spelled_record}
+use Rattle.line_reading.specs.Records.{AuditRecord, spelled_record}
 use Rattle.reg_lines.specs.Replies.{reply_json}
 use Rattle.reg_lines.specs.Spelled.{RecordsAreSpelled}
 use Rattle.reg_lines.specs.Values.{RepliesAreCompact, RepliesHaveNoFloat, outcome_data, reply_data}

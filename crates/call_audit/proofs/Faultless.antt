@@ -9,7 +9,7 @@ use Rattle.serde_json.specs.Data.{Data}
 use Rattle.serde_json.specs.Find.{as_str}
 use Rattle.serde_json.specs.Written.{compact_text, has_float}
 use Rattle.entry_book.specs.History.{books_of, reply_to}
-use Rattle.reg_lines.specs.Records.{AuditRecord, spelled_record}
+use Rattle.line_reading.specs.Records.{AuditRecord, spelled_record}
 use Rattle.reg_lines.specs.Replies.{reply_json}
 use Rattle.call_audit.specs.declared.verdict.Verdict.TheVariants.{Yes}
 use Rattle.call_audit.specs.Audits.{AreFaultless, batches_of, cause_of, is_ended, is_past, is_text_of, is_word_of_commit, judged, judged_spelled, judged_when}

@@ -10,7 +10,7 @@ use Rattle.serde_json.specs.Data.{Data, null, boolean, number, string, array, ob
 use Rattle.serde_json.specs.Find.{as_str, get}
 use Rattle.serde_json.specs.Written.{compact_text, has_float}
 use Rattle.entry_book.specs.History.{books_of, reply_to}
-use Rattle.reg_lines.specs.Records.{AuditRecord}
+use Rattle.line_reading.specs.Records.{AuditRecord}
 use Rattle.reg_lines.specs.Replies.{reply_json}
 use Rattle.call_audit.specs.Audits.{AreFaultless, batches_of, cause_of, has_call, is_ended, is_given, is_late, is_past, is_stamped, is_text_of, is_word_of_commit}
 use Rattle.call_audit.proofs.Judging.{first_of, is_first}

@@ -2,10 +2,10 @@
 use Rattle.std.proofs.Common.{◌≡◌, ℕ, Bool, true, false, List, Option, None, Some, Result, Ok, Err, IfOk, refl, sym, ap, ◌∙◌}
 use Rattle.std.specs.Prelude.{not, if◌then◌else◌}
 use Rattle.std.specs.declared.alloc.AllocError.{AllocError}
-use Rattle.reg_lines.specs.Records.{AuditRecord, spelled_record}
+use Rattle.line_reading.specs.Records.{AuditRecord, spelled_record}
 use Rattle.spiffe_name.specs.declared.refusals.Failure.{Failure}
 use Rattle.spiffe_name.specs.declared.refusals.Failure.TheVariants.{NoMemory, Refused}
-use Rattle.reg_lines.specs.Fields.{Fails}
+use Rattle.line_reading.specs.Fields.{Fails}
 use Rattle.line_reading.specs.declared.fault.Fault.{Fault}
 use Rattle.call_audit.specs.declared.cause.Cause.{Cause}
 use Rattle.call_audit.specs.declared.cause.Cause.TheVariants.{Call, Order, Reply, Stamps}

@@ -6,7 +6,7 @@ use Rattle.std.specs.Prelude.{◌||◌, ◌==◌, nat_lt, max, if◌then◌else�
 use Rattle.entry_book.specs.Book.{Book}
 use Rattle.entry_book.specs.Batches.{Batch}
 use Rattle.entry_book.specs.History.{Stands, books_after, books_from, books_of, first_books}
-use Rattle.reg_lines.specs.Records.{AuditRecord}
+use Rattle.line_reading.specs.Records.{AuditRecord}
 use Rattle.call_audit.specs.Audits.{batches_of, has_call, is_late, is_past}
 use Rattle.call_audit.specs.Keeps.{AuditState, Keeps}
 

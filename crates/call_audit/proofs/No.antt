@@ -1,6 +1,6 @@
 -- What a no says.
 use Rattle.std.proofs.Common.{◌≡◌, ℕ, ◌+◌, suc, List, [], ◌∷◌, ◌++◌, length, Result, Ok, Err, refl, sym, ap, ◌∙◌, append_assoc}
-use Rattle.reg_lines.specs.Records.{AuditRecord}
+use Rattle.line_reading.specs.Records.{AuditRecord}
 use Rattle.call_audit.specs.declared.cause.Cause.{Cause}
 use Rattle.call_audit.specs.declared.verdict.Verdict.TheVariants.{No}
 use Rattle.call_audit.specs.Audits.{AreFaultless, judged}

@@ -3,7 +3,7 @@ use Rattle.std.proofs.Common.{◌≡◌, ◌||◌, ◌==◌, ℕ, false, List, �
 use Rattle.std.specs.Prelude.{codes, decimal}
 use Rattle.std.proofs.lemmas.List.Folds.{list_any-append}
 use Rattle.reg_lines.specs.Json.{text_json}
-use Rattle.reg_lines.specs.Lines.{has_lf}
+use Rattle.line_devices.specs.Lines.{has_lf}
 use Rattle.reg_lines.specs.OneLine.{NumbersHaveNoLf, TextsHaveNoLf}
 use Rattle.call_audit.specs.declared.verdict.Verdict.TheVariants.{Yes, No}
 use Rattle.call_audit.specs.Texts.{VerdictsHaveNoLf, cause_text, no_json, yes_json}

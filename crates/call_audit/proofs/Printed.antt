@@ -2,7 +2,7 @@
 use Rattle.std.proofs.Common.{ℕ}
 use Rattle.std.specs.Prelude.{codes, decimal}
 use Rattle.reg_lines.specs.Json.{text_json}
-use Rattle.reg_lines.specs.Stream.{OutputState, Puts}
+use Rattle.line_devices.specs.Stream.{OutputState, Puts}
 use Rattle.line_devices.proofs.Puts.{Puts-then}
 use Rattle.call_audit.specs.declared.cause.Cause.{Cause}
 use Rattle.call_audit.specs.Texts.{cause_text, no_json}

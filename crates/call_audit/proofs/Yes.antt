@@ -1,6 +1,6 @@
 -- What a yes says.
 use Rattle.std.proofs.Common.{◌≡◌, ℕ, List, [], ◌∷◌, ◌++◌, length, Option, None, Some, Result, Ok, Err, refl, sym, ap, ◌∙◌, append_assoc}
-use Rattle.reg_lines.specs.Records.{AuditRecord, spelled_record}
+use Rattle.line_reading.specs.Records.{AuditRecord, spelled_record}
 use Rattle.line_reading.specs.declared.fault.Fault.{Fault}
 use Rattle.call_audit.specs.declared.cause.Cause.{Cause}
 use Rattle.call_audit.specs.declared.verdict.Verdict.TheVariants.{Yes}

@@ -9,7 +9,7 @@ use Rattle.spiffe_name.specs.declared.refusals.Failure.{Failure}
 use Rattle.spiffe_name.specs.declared.refusals.Failure.TheVariants.{NoMemory, Refused}
 use Rattle.entry_book.specs.Batches.{Batch}
 use Rattle.entry_book.specs.History.{books_of, reply_to}
-use Rattle.reg_lines.specs.Records.{AuditRecord, spelled_record}
+use Rattle.line_reading.specs.Records.{AuditRecord, spelled_record}
 use Rattle.reg_lines.specs.Replies.{reply_json}
 use Rattle.line_reading.specs.declared.fault.Fault.{Fault}
 use Rattle.call_audit.specs.declared.cause.Cause.{Cause}

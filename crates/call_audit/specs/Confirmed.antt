@@ -4,7 +4,7 @@ use Rattle.std.specs.List.{flat_map}
 use Rattle.entry_book.specs.Batches.{Batch}
 use Rattle.entry_book.specs.History.{books_of, is_committed, reply_to}
 use Rattle.entry_book.specs.declared.reply.Reply.{Reply}
-use Rattle.reg_lines.specs.Lines.{lines_of}
+use Rattle.line_devices.specs.Lines.{lines_of}
 use Rattle.reg_lines.specs.RecordLines.{record_json}
 use Rattle.reg_lines.specs.Spelled.{Fits, IsWrittenBatch, IsWrittenCall}
 use Rattle.call_audit.specs.declared.verdict.Verdict.TheVariants.{Yes}

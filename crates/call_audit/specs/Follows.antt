@@ -4,7 +4,7 @@ use Rattle.serde_json.specs.Data.{string}
 use Rattle.serde_json.specs.Find.{get}
 use Rattle.serde_json.specs.Written.{compact_text, has_float}
 use Rattle.entry_book.specs.History.{books_of, reply_to}
-use Rattle.reg_lines.specs.Records.{AuditRecord}
+use Rattle.line_reading.specs.Records.{AuditRecord}
 use Rattle.reg_lines.specs.Replies.{reply_json}
 use Rattle.call_audit.specs.Audits.{AreFaultless, batches_of}
 

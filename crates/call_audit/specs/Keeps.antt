@@ -1,7 +1,7 @@
 -- What an auditor stores about the records so far.
 use Rattle.std.specs.Prelude.{◌≡◌, ℕ, List, map}
 use Rattle.entry_book.specs.History.{PlainState, Stands, books_of}
-use Rattle.reg_lines.specs.Records.{AuditRecord}
+use Rattle.line_reading.specs.Records.{AuditRecord}
 use Rattle.call_audit.specs.Audits.{batches_of, is_late, is_past}
 
 -- The book, the numbers of the calls in the order of their records, and the largest number of an invoke, 0 if there is none.

@@ -1,8 +1,8 @@
 -- The lines that report how an audit ended: compact JSON text, with keys in ascending order of their bytes.
 use Rattle.std.specs.Prelude.{◌≡◌, ℕ, false, List, ◌++◌, codes, decimal}
-use Rattle.reg_lines.specs.Codes.{code_text}
+use Rattle.line_reading.specs.Codes.{code_text}
 use Rattle.reg_lines.specs.Json.{text_json}
-use Rattle.reg_lines.specs.Lines.{has_lf}
+use Rattle.line_devices.specs.Lines.{has_lf}
 use Rattle.call_audit.specs.declared.cause.Cause.{Cause}
 use Rattle.call_audit.specs.declared.cause.Cause.TheVariants as cause
 use Rattle.call_audit.specs.declared.verdict.Verdict.{Verdict}

@@ -1,6 +1,6 @@
 -- The verdict of an audit of lines.
 use Rattle.std.specs.Prelude.{◌≡◌, ℕ, ◌+◌, ⊤, List, [], ◌∷◌, ◌++◌, length, Result, Ok, Err}
-use Rattle.reg_lines.specs.Records.{AuditRecord, spelled_record}
+use Rattle.line_reading.specs.Records.{AuditRecord, spelled_record}
 use Rattle.call_audit.specs.declared.cause.Cause.{Cause}
 use Rattle.call_audit.specs.declared.verdict.Verdict.{Verdict}
 use Rattle.call_audit.specs.declared.verdict.Verdict.TheVariants.{Yes, No}

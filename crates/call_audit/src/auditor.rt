@@ -5,8 +5,8 @@ ghost use Rattle.std.specs.Prelude.{◌≡◌};
 use crate::cause::Cause;
 use crate::reply::is_reply;
 use indexmap::IndexSet;
+use line_reading::{Fault, Record, read_record};
 use plain_book::PlainBook;
-use reg_lines::{Fault, Record, read_record};
 use serde_json::Value;
 use spiffe_name::{Failure, TrustDomain};
 use std::alloc::{AllocError, Global};
@@ -36,7 +36,7 @@ impl Model for Auditor {
 
 impl Auditor {
     ghost use Rattle.std.specs.Prelude.{◌≡◌, ◌<◌, ◌^◌, IfOk, List, [], length};
-    ghost use Rattle.reg_lines.specs.Records.{AuditRecord};
+    ghost use Rattle.line_reading.specs.Records.{AuditRecord};
     ghost use Rattle.call_audit.specs.Audits.{Judges};
     ghost use Rattle.call_audit.specs.Keeps.{Keeps};
 
@@ -80,8 +80,8 @@ impl Auditor {
 impl Auditor {
     ghost use Rattle.std.specs.Prelude.{◌≡◌, IfOk, List};
     ghost use Rattle.serde_json.specs.View.{view};
-    ghost use Rattle.reg_lines.specs.Records.{AuditRecord};
-    ghost use Rattle.reg_lines.specs.RecordViews.{recorded};
+    ghost use Rattle.line_reading.specs.Records.{AuditRecord};
+    ghost use Rattle.line_reading.specs.RecordViews.{recorded};
     ghost use Rattle.call_audit.specs.Audits.{JudgesRecord, is_past};
     ghost use Rattle.call_audit.specs.Keeps.{Keeps};
 
@@ -122,7 +122,7 @@ impl Auditor {
 }
 
 ghost use Rattle.std.specs.Prelude.{IfOk};
-ghost use Rattle.reg_lines.specs.RecordViews.{recorded};
+ghost use Rattle.line_reading.specs.RecordViews.{recorded};
 ghost use Rattle.serde_json.specs.View.{view};
 ghost use Rattle.call_audit.specs.Audits.{IsSpellingCause, is_commit, is_stamped};
 

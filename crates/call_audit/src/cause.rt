@@ -3,7 +3,7 @@
 ghost use Rattle.std.specs.Prelude.{◌≡◌};
 ghost use Rattle.call_audit.specs.Texts.{cause_text};
 
-use reg_lines::Code;
+use line_reading::Code;
 
 /// Why a line is not a valid record after those before it. The variants are checked in this order.
 #[derive(Clone, Copy, Debug, PartialEq, Eq, Drop)]

@@ -8,7 +8,8 @@ ghost use Rattle.call_audit.specs.Follows.{FaultlessAreHistory, HistoryIsFaultle
 ghost use Rattle.call_audit.specs.Texts.{VerdictsHaveNoLf};
 ghost use Rattle.call_audit.specs.Verdicts.{HistoryIsYes, NoIsFirst, YesIsHistory};
 
-use reg_lines::{lines_law, one_line_law, printed_law, read_back_law};
+use line_devices::lines_law;
+use reg_lines::{one_line_law, printed_law, read_back_law};
 
 /// Records without a fault, each after those before it, are a history, and so are those of lines whose verdict is yes. A no
 /// gives the first line with a fault after such a history, and the first cause that applies.

@@ -7,7 +7,8 @@ ghost use Rattle.reg_lines.specs.Replies.{reply_json};
 ghost use Rattle.call_audit.specs.Audits.{is_text_of};
 
 use entry_book::Reply;
-use reg_lines::{CallReply, CountedDevice, Output, PrintJson};
+use line_devices::{CountedDevice, Output};
+use reg_lines::{CallReply, PrintJson};
 use serde_json::{Map, Value};
 use std::alloc::{AllocError, Global};
 

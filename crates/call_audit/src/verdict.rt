@@ -2,10 +2,11 @@
 
 ghost use Rattle.std.specs.Prelude.{◌≡◌};
 ghost use Rattle.call_audit.specs.Texts.{no_json, verdict_json, yes_json};
-ghost use Rattle.reg_lines.specs.Stream.{Puts};
+ghost use Rattle.line_devices.specs.Stream.{Puts};
 
 use crate::cause::Cause;
-use reg_lines::{Output, PrintJson, Sink, print_number, print_text};
+use line_devices::{Output, Sink};
+use reg_lines::{PrintJson, print_number, print_text};
 
 /// The result of an audit. It is printed as an object with the key `audit`; printing needs no memory.
 #[derive(Clone, Copy, Debug, PartialEq, Eq, Drop)]

@@ -4,4 +4,3 @@ pub mod Known
 pub mod Laws
 pub mod Machine
 pub mod Schedules
-pub use Rattle.call_events.specs.Events

@@ -7,8 +7,8 @@
 //! a later batch wrote what it had read.
 //!
 //! - [`Machine`]: the calls over one book. It applies an [`Event`] and returns [`Done`], or hands it back as a
-//!   [`RefusedEvent`] with its [`EventRefusal`]. It returns the order, and a [`KnownCall`] with what is known of a call.
-//! - [`CallAnswer`]: the answer to a call. [`Decision`]: the decision on a commit.
+//!   [`RefusedEvent`]. It returns the order, and a [`KnownCall`] with what is known of a call. `call_events` and `call_answers`
+//!   define these four types; this crate re-exports them, since they occur in the signatures of a machine.
 //! - [`laws`]: the main theorem.
 //!
 //! The definitions are in `specs/`. `Schedules` has the guarantees about a schedule, in terms of what a client sees, and
@@ -22,6 +22,6 @@ pub mod laws;
 mod machine;
 mod slot;
 
-pub use call_answers::{CallAnswer, Decision, Done, KnownCall};
-pub use call_events::{Event, EventRefusal, RefusedEvent};
+pub use call_answers::{Done, KnownCall};
+pub use call_events::{Event, RefusedEvent};
 pub use machine::Machine;

@@ -5,7 +5,9 @@ ghost use Rattle.call_events.specs.Events.{IsFor};
 ghost use Rattle.call_machine.specs.Machine.{AreFor};
 
 use crate::values::unless;
-use call_machine::{Done, Event, EventRefusal, KnownCall, Machine, RefusedEvent};
+use call_answers::{Done, KnownCall};
+use call_events::{Event, EventRefusal, RefusedEvent};
+use call_machine::Machine;
 use spiffe_name::TrustDomain;
 use std::alloc::Global;
 use std::marker::Model;

@@ -1,7 +1,7 @@
 //! Events from the words of a text.
 
 use batch_texts::batch;
-use call_machine::Event;
+use call_events::Event;
 use std::alloc::Global;
 use std::test::Fail;
 

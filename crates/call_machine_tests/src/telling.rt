@@ -2,7 +2,8 @@
 
 use batch_texts::{Failed, mark_text, placed, reply_text};
 use batch_work::Status;
-use call_machine::{CallAnswer, Decision, Done, KnownCall, RefusedEvent};
+use call_answers::{CallAnswer, Decision, Done, KnownCall};
+use call_events::RefusedEvent;
 use std::alloc::Global;
 use version_book::Mark;
 

@@ -2,10 +2,10 @@
 use Rattle.std.proofs.Common.{◌≡◌, ◌+◌, ℕ, Bool, true, false, List, [], ◌∷◌, ◌++◌, length, Option, None, Some, refl, sym, ap, subst, ◌∙◌, length-append, arith}
 use Rattle.std.specs.Prelude.{⊤, IfSome, MatchBool, Result, Ok, Err, is_none, is_some, not}
 use Rattle.std.specs.Io.KnownBytes.{Appends}
-use Rattle.reg_lines.specs.Lines.{kept, most_lines, IsLine}
-use Rattle.reg_lines.specs.Records.{AuditRecord}
-use Rattle.reg_lines.specs.Runs.{IsRun, first_lines}
-use Rattle.reg_lines.specs.Stream.{InputState, OutputState}
+use Rattle.line_devices.specs.Lines.{kept, most_lines, IsLine}
+use Rattle.line_reading.specs.Records.{AuditRecord}
+use Rattle.line_devices.specs.Runs.{IsRun, first_lines}
+use Rattle.line_devices.specs.Stream.{InputState, OutputState}
 use Rattle.line_reading.proofs.Kept.{kept_spells_record}
 use Rattle.line_devices.proofs.Puts.{Puts-nil}
 use Rattle.call_audit.specs.declared.cause.Cause.{Cause}

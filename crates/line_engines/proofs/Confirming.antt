@@ -7,7 +7,7 @@ use Rattle.entry_book.specs.Order.{Within}
 use Rattle.entry_book.proofs.Sets.{All-within}
 use Rattle.call_machine.specs.Calls.{Call}
 use Rattle.call_machine.specs.Schedules.{Different}
-use Rattle.reg_lines.specs.Lines.{lines_of}
+use Rattle.line_devices.specs.Lines.{lines_of}
 use Rattle.reg_lines.specs.Spelled.{Fits}
 use Rattle.call_audit.specs.Confirmed.{AreConfirmed, CallAt, CallHasEnded, CallsAreStrict, CallsHaveEnded, CallsStandOnce, ConfirmedAreAudited, IsReadable, RecordedCall, line_of_call, text_of_call}
 use Rattle.call_audit.specs.Verdicts.{verdict_of}

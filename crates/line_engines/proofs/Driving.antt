@@ -2,9 +2,9 @@
 use Rattle.std.proofs.Common.{◌≡◌, ◌+◌, ◌≤◌, ◌<◌, ℕ, Bool, true, false, ◌⊎◌, inl, inr, ⊎_elim, List, [], ◌∷◌, ◌++◌, drop, take, length, Option, None, Some, Result, Ok, Err, refl, sym, ap, ◌∙◌, append-nil, arith, subst}
 use Rattle.std.specs.Prelude.{MatchBool, OnErr, OnOk, IfErr, IfSome}
 use Rattle.std.specs.Io.KnownBytes.{Consumes, IsAtEnd}
-use Rattle.reg_lines.specs.Lines.{has_lf, lines_of, most_lines, TakesLine}
-use Rattle.reg_lines.specs.Runs.{AppendsRun, IsRun, StepsKept, TakesLines, first_lines}
-use Rattle.reg_lines.specs.Stream.{InputState, IsOut, OutputState, Puts}
+use Rattle.line_devices.specs.Lines.{has_lf, lines_of, most_lines, TakesLine}
+use Rattle.line_devices.specs.Runs.{AppendsRun, IsRun, StepsKept, TakesLines, first_lines}
+use Rattle.line_devices.specs.Stream.{InputState, IsOut, OutputState, Puts}
 use Rattle.line_devices.proofs.Puts.{Puts-then, Puts-same}
 use Rattle.line_devices.proofs.RunLemmas.{IsOnTheWay, RunsFrom, RunsFrom-start, RunsFrom-flush, RunsFrom-more, IsRun-on, IsRun-append, AppendsRun-so_far, all_put, front_put, front_longer, lines_done, lines_end, lines_more}
 use Rattle.line_engines.specs.Driver.{AnswersKept, AppendsClosed, AppendsClosedFront, Closes, ClosesAs, FailsToClose, Goes, IsClosedRun, LeavesLines, MayClose, RunsOver, Steps, TakesNoMore, TakesSoFar, TakesUntilEnd}

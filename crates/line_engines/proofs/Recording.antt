@@ -33,13 +33,13 @@ use Rattle.call_machine.proofs.Ties.{first_tied}
 use Rattle.call_machine.proofs.Whole.{Stands, calls_are_stamped, runs_stand}
 use Rattle.reg_lines.specs.CallRecords.{HasRecord, HasRecordWith, Records}
 use Rattle.reg_lines.specs.RecordLines.{record_json}
-use Rattle.reg_lines.specs.Runs.{IsRun, first_lines}
+use Rattle.line_devices.specs.Runs.{IsRun, first_lines}
 use Rattle.reg_lines.specs.Spelled.{IsWrittenBatch, IsWrittenCall}
-use Rattle.reg_lines.specs.Stream.{InputState, OutputState, Puts}
+use Rattle.line_devices.specs.Stream.{InputState, OutputState, Puts}
 use Rattle.line_devices.proofs.Puts.{Puts-nil}
 use Rattle.reg_lines.specs.declared.printing.records.CallRecord.{CallRecord}
 use Rattle.line_engines.specs.Answers.{as_line}
-use Rattle.reg_lines.specs.Lines.{most_lines}
+use Rattle.line_devices.specs.Lines.{most_lines}
 use Rattle.line_engines.specs.Driver.{AnswersKept, AppendsClosed, Closes, ClosesAs, RunsOver}
 use Rattle.line_engines.specs.Recorded.{AppendsAllRecords, AppendsRecords, AreLegal, AreRecords, ClosesRecording, ClosesWithRecords, HasStamps, IsEnded, IsEndedAt, IsNotPast, IsRecordOf, IsWritten, KeepsRecording, RecordKept, Recorded, Recording, RecordsLine, RunsRecord, StampsInOrder, TellsRecords, events_by, events_of, first_recording, record_line, was_lost, was_taken}
 use Rattle.line_engines.specs.declared.fault.RunFault.{RunFault}

@@ -2,8 +2,8 @@
 use Rattle.std.proofs.Common.{◌≡◌, ◌+◌, ℕ, List, true, false, refl, ap, subst, sym, ◌∙◌}
 use Rattle.rand_chacha.specs.ChaCha.{ChaCha}
 use Rattle.entry_book.specs.Book.{Book}
-use Rattle.reg_lines.specs.Lines.{kept, IsLine}
-use Rattle.reg_lines.specs.Stream.{OutputState}
+use Rattle.line_devices.specs.Lines.{kept, IsLine}
+use Rattle.line_devices.specs.Stream.{OutputState}
 use Rattle.line_reading.proofs.Kept.{kept_spells}
 use Rattle.line_engines.specs.Answers.{Answers, AnswersLine, Keeping, Running, StandsFor, refused, replied, not_read, not_run}
 use Rattle.line_engines.specs.Driver.{AnswersKept}

@@ -11,9 +11,9 @@ use Rattle.call_machine.specs.Machine.{Applies, AreFor, Runs}
 use Rattle.call_machine.specs.Schedules.{Answer}
 use Rattle.call_events.specs.declared.event.Event.{Event}
 use Rattle.call_machine.proofs.Runs.{event_leaves, runs_go_on}
-use Rattle.reg_lines.specs.Events.{spelled_event}
-use Rattle.reg_lines.specs.Fields.{Fails}
-use Rattle.reg_lines.specs.Lines.{kept, IsLine}
+use Rattle.line_reading.specs.Events.{spelled_event}
+use Rattle.line_reading.specs.Fields.{Fails}
+use Rattle.line_devices.specs.Lines.{kept, IsLine}
 use Rattle.reg_lines.specs.Refusals.{failure_json, refusal_json}
 use Rattle.line_reading.specs.declared.fault.Fault.{Fault}
 use Rattle.line_reading.specs.declared.refusal.LineRefusal.{LineRefusal}

@@ -4,11 +4,11 @@ use Rattle.rand_chacha.specs.ChaCha.{ChaCha}
 use Rattle.entry_book.specs.Book.{Book}
 use Rattle.entry_book.specs.History.{PlainState, Stands, books_after, first_books, reply_to}
 use Rattle.entry_book.specs.Batches.{Batch}
-use Rattle.reg_lines.specs.Ids.{first_ids}
+use Rattle.line_reading.specs.Ids.{first_ids}
 use Rattle.reg_lines.specs.Refusals.{fault_json, no_memory_json}
 use Rattle.reg_lines.specs.Replies.{reply_json}
-use Rattle.reg_lines.specs.Requests.{spelled}
-use Rattle.reg_lines.specs.Stream.{InputState, OutputState, Puts}
+use Rattle.line_reading.specs.Requests.{spelled}
+use Rattle.line_devices.specs.Stream.{InputState, OutputState, Puts}
 use Rattle.line_reading.specs.declared.request.Request.{Request}
 use Rattle.line_engines.specs.Driver.{RunsOver}
 use Rattle.line_engines.specs.declared.fault.RunFault.{RunFault}

@@ -1,10 +1,10 @@
 -- What the engine `audit` stores from line to line, and what it reports at the end.
 use Rattle.std.specs.Prelude.{◌≡◌, ℕ, ◌+◌, Bool, ⊤, List, [], ◌∷◌, ◌++◌, length, Option, None, Some, is_some, Result, Ok, Err, IfErr, IfOk, IfSome, refl}
 use Rattle.std.specs.Io.KnownBytes.{Appends}
-use Rattle.reg_lines.specs.Lines.{most_lines}
-use Rattle.reg_lines.specs.Records.{AuditRecord}
-use Rattle.reg_lines.specs.Runs.{TakesLines, first_lines}
-use Rattle.reg_lines.specs.Stream.{InputState, OutputState}
+use Rattle.line_devices.specs.Lines.{most_lines}
+use Rattle.line_reading.specs.Records.{AuditRecord}
+use Rattle.line_devices.specs.Runs.{TakesLines, first_lines}
+use Rattle.line_devices.specs.Stream.{InputState, OutputState}
 use Rattle.call_audit.specs.declared.cause.Cause.{Cause}
 use Rattle.call_audit.specs.declared.verdict.Verdict.{Verdict}
 use Rattle.call_audit.specs.declared.verdict.Verdict.TheVariants.{Yes, No}

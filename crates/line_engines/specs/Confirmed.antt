@@ -1,7 +1,7 @@
 -- The verdict on the records of a schedule is yes.
 use Rattle.std.specs.Prelude.{◌≡◌, ℕ, List, length}
 use Rattle.std.specs.List.{AllByRecursion}
-use Rattle.reg_lines.specs.Lines.{lines_of}
+use Rattle.line_devices.specs.Lines.{lines_of}
 use Rattle.reg_lines.specs.Spelled.{Fits}
 use Rattle.call_audit.specs.Confirmed.{RecordedCall, text_of_call}
 use Rattle.call_audit.specs.Verdicts.{verdict_of}

@@ -1,9 +1,9 @@
 -- Runs over the lines of an input.
 use Rattle.std.specs.Prelude.{◌≡◌, ◌<◌, ◌⊎◌, ℕ, Bool, true, false, not, List, [], ◌++◌, length, take, Option, None, Some, Result, MatchBool, OnOk, IfErr, IfSome}
 use Rattle.std.specs.Io.KnownBytes.{Appends}
-use Rattle.reg_lines.specs.Lines.{lines_of, most_lines}
-use Rattle.reg_lines.specs.Runs.{IsRun, AppendsRun, StepsKept, TakesLines, first_lines}
-use Rattle.reg_lines.specs.Stream.{AppendsFront, InputState, IsOut, OutputState, Puts}
+use Rattle.line_devices.specs.Lines.{lines_of, most_lines}
+use Rattle.line_devices.specs.Runs.{IsRun, AppendsRun, StepsKept, TakesLines, first_lines}
+use Rattle.line_devices.specs.Stream.{AppendsFront, InputState, IsOut, OutputState, Puts}
 use Rattle.line_engines.specs.declared.fault.RunFault.{RunFault}
 use Rattle.line_engines.specs.declared.fault.RunFault.TheVariants as fault
 

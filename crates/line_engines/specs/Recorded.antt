@@ -18,13 +18,13 @@ use Rattle.call_events.specs.declared.event.Event.TheVariants.{Invoke}
 use Rattle.call_events.specs.declared.event.Event.TheVariants as on
 use Rattle.call_answers.specs.declared.answer.CallAnswer.TheVariants.{Replied}
 use Rattle.line_reading.specs.declared.fault.Fault.{Fault}
-use Rattle.reg_lines.specs.Events.{spelled_event}
-use Rattle.reg_lines.specs.Ids.{first_ids}
-use Rattle.reg_lines.specs.Lines.{most_lines}
+use Rattle.line_reading.specs.Events.{spelled_event}
+use Rattle.line_reading.specs.Ids.{first_ids}
+use Rattle.line_devices.specs.Lines.{most_lines}
 use Rattle.reg_lines.specs.RecordLines.{record_json}
-use Rattle.reg_lines.specs.Runs.{IsRun, first_lines}
+use Rattle.line_devices.specs.Runs.{IsRun, first_lines}
 use Rattle.reg_lines.specs.Spelled.{IsWrittenBatch, IsWrittenCall}
-use Rattle.reg_lines.specs.Stream.{InputState, OutputState}
+use Rattle.line_devices.specs.Stream.{InputState, OutputState}
 use Rattle.line_engines.specs.Answers.{as_line}
 use Rattle.line_engines.specs.Driver.{RunsOver}
 use Rattle.line_engines.specs.Schedules.{LosesLine, ScheduleKept, Scheduled, StandsFor, TakesEvent, lacks_memory, passed, start, unread}

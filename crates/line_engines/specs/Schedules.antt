@@ -9,11 +9,11 @@ use Rattle.call_events.specs.declared.event.Event.{Event}
 use Rattle.call_events.specs.declared.event.EventRefusal.{EventRefusal}
 use Rattle.call_events.specs.declared.event.EventRefusal.TheVariants as why
 use Rattle.reg_lines.specs.EventAnswers.{event_json, event_refusal_json, order_json}
-use Rattle.reg_lines.specs.Events.{spelled_event}
-use Rattle.reg_lines.specs.Ids.{first_ids}
+use Rattle.line_reading.specs.Events.{spelled_event}
+use Rattle.line_reading.specs.Ids.{first_ids}
 use Rattle.reg_lines.specs.Refusals.{fault_json, no_memory_json, refusal_json}
-use Rattle.reg_lines.specs.Runs.{StepsKept}
-use Rattle.reg_lines.specs.Stream.{InputState, OutputState}
+use Rattle.line_devices.specs.Runs.{StepsKept}
+use Rattle.line_devices.specs.Stream.{InputState, OutputState}
 use Rattle.spiffe_name.specs.declared.refusals.Failure.{Failure}
 use Rattle.spiffe_name.specs.declared.refusals.Failure.TheVariants as failed
 use Rattle.line_reading.specs.declared.fault.Fault.{Fault}

@@ -1,7 +1,7 @@
 //! How is an input of records audited?
 
 ghost use Rattle.std.specs.Prelude.{◌≡◌, ◌+◌, ◌<◌, ◌^◌, [], List};
-ghost use Rattle.reg_lines.specs.Records.{AuditRecord};
+ghost use Rattle.line_reading.specs.Records.{AuditRecord};
 ghost use Rattle.call_audit.specs.Keeps.{Keeps};
 ghost use Rattle.line_engines.specs.Audited.{AuditsLine, RunsAudit};
 
@@ -9,7 +9,8 @@ use crate::driver::{Answerer, run_lines};
 use crate::fault::RunFault;
 use crate::outcome::Outcome;
 use call_audit::{Auditor, Cause, Verdict};
-use reg_lines::{Input, Output, Sink, Source, print_line};
+use line_devices::{Input, Output, Sink, Source};
+use reg_lines::print_line;
 use spiffe_name::TrustDomain;
 use std::alloc::{AllocError, Global};
 use std::marker::Model;

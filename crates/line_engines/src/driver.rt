@@ -1,11 +1,11 @@
 //! How are the lines of an input answered, by any line handler?
 
 ghost use Rattle.std.specs.Prelude.{◌≡◌, ◌+◌, ◌<◌, ◌^◌, ◌⊎◌, ℕ, Bool, false, List, [], OnErr, OnOk, IfErr};
-ghost use Rattle.reg_lines.specs.Stream.{IsOut, Puts};
+ghost use Rattle.line_devices.specs.Stream.{IsOut, Puts};
 ghost use Rattle.line_engines.specs.Driver.{AnswersKept, Closes, ClosesAs, FailsToClose, RunsOver, Steps, TakesNoMore};
 
 use crate::fault::RunFault;
-use reg_lines::{Input, Line, Output, Sink, Source, flush_before_waiting, most_lines};
+use line_devices::{Input, Line, Output, Sink, Source, flush_before_waiting, most_lines};
 use std::alloc::{AllocError, Global};
 
 /// A line handler: it answers the lines of an input, one after another, and may add a last text.

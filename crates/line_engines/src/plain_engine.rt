@@ -8,10 +8,10 @@ ghost use Rattle.line_engines.specs.Answers.{AnswersBatch, AnswersLine, RunsPlai
 use crate::driver::{Answerer, run_lines};
 use crate::fault::RunFault;
 use entry_book::Batch;
+use line_devices::{Input, Output, Sink, Source};
+use line_reading::{Ids, LineRefusal, read_request};
 use plain_book::PlainBook;
-use reg_lines::{
-    CallReply, Ids, Input, LineRefusal, Output, Sink, Source, print_line, read_request,
-};
+use reg_lines::{CallReply, print_line};
 use spiffe_name::{Failure, TrustDomain};
 use std::alloc::{AllocError, Global};
 use std::marker::Model;

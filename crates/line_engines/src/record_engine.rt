@@ -2,14 +2,15 @@
 
 ghost use Rattle.std.specs.Prelude.{◌≡◌, [], List};
 ghost use Rattle.std.specs.List.{AllByRecursion, flat_map};
-ghost use Rattle.reg_lines.specs.Stream.{Puts};
+ghost use Rattle.line_devices.specs.Stream.{Puts};
 ghost use Rattle.line_engines.specs.Recorded.{AreRecords, IsRecordOf, IsWritten, Recorded, RunsRecord, record_line};
 
 use crate::driver::{Answerer, run_lines};
 use crate::fault::RunFault;
 use crate::schedule_engine::ScheduleRun;
 use call_machine::Machine;
-use reg_lines::{CallRecord, Input, Output, Sink, Source, print_line};
+use line_devices::{Input, Output, Sink, Source};
+use reg_lines::{CallRecord, print_line};
 use spiffe_name::TrustDomain;
 use std::alloc::{AllocError, Global};
 use std::marker::Model;

@@ -6,11 +6,12 @@ ghost use Rattle.line_engines.specs.Schedules.{Applied, RunsSchedule, Scheduled,
 
 use crate::driver::{Answerer, run_lines};
 use crate::fault::RunFault;
-use call_machine::{Done, Event, EventRefusal, Machine};
-use reg_lines::{
-    CallOrder, EventRefused, Ids, Input, LineRefusal, Output, PrintJson, Sink, Source, print_line,
-    read_event,
-};
+use call_answers::Done;
+use call_events::{Event, EventRefusal};
+use call_machine::Machine;
+use line_devices::{Input, Output, Sink, Source};
+use line_reading::{Ids, LineRefusal, read_event};
+use reg_lines::{CallOrder, EventRefused, PrintJson, print_line};
 use spiffe_name::{Failure, TrustDomain};
 use std::alloc::{AllocError, Global};
 use std::marker::Model;

@@ -12,17 +12,3 @@ pub mod CallRecords
 pub mod OneLine
 pub mod ReadBack
 pub mod Spelled
-pub use Rattle.line_devices.specs.CountedDevice
-pub use Rattle.line_devices.specs.Lines
-pub use Rattle.line_devices.specs.Stream
-pub use Rattle.line_devices.specs.Runs
-pub use Rattle.line_reading.specs.Codes
-pub use Rattle.line_reading.specs.Ids
-pub use Rattle.line_reading.specs.Fields
-pub use Rattle.line_reading.specs.Operations
-pub use Rattle.line_reading.specs.Batches
-pub use Rattle.line_reading.specs.Requests
-pub use Rattle.line_reading.specs.Events
-pub use Rattle.line_reading.specs.Records
-pub use Rattle.line_reading.specs.RecordViews
-pub use Rattle.line_reading.specs.Kept

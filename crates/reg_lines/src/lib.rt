@@ -1,6 +1,7 @@
-//! Which lines are in a byte stream, what do lines parse to, and which bytes print a value?
+//! Which bytes print a value as a line?
 //!
-//! `line_devices` defines lines, and `line_reading` what they parse to. This crate re-exports both, and prints values.
+//! `line_devices` defines lines, and `line_reading` what they parse to. This crate prints values. It re-exports the three
+//! readers of `line_reading`, [`read_request`], [`read_event`] and [`read_record`]: the calls that read and print lines.
 //!
 //! - [`PrintJson`] is a value with one compact JSON text, which it puts piece by piece on an [`Output`] without taking
 //!   memory; [`print_text`], [`print_number`], [`print_list`] and [`print_line`] help.
@@ -25,14 +26,7 @@ mod laws;
 mod printing;
 
 pub use laws::{one_line_law, read_back_law, spelled_law};
-pub use line_devices::{
-    CountedDevice, Input, KEPT_BYTES, Line, Output, Sink, SinkFailed, Source, SourceFailed,
-    flush_before_waiting, lines_law, most_lines,
-};
-pub use line_reading::{
-    Code, Fault, Field, Ids, Key, LineRefusal, Record, Request, Tries, ids_law, kept_law,
-    read_event, read_record, read_request, unknown_keys_law,
-};
+pub use line_reading::{read_event, read_record, read_request};
 pub use printing::{
     AnsweredCall, CallOrder, CallRecord, CallReply, EventRefused, LentCallReply, PrintJson,
     SeatRefusal, SeatRefused, print_line, print_list, print_number, print_text, printed_events_law,

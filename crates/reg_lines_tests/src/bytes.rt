@@ -4,7 +4,7 @@ ghost use Rattle.std.specs.Prelude.{◌<◌, ◌^◌};
 
 use crate::engine::{Ended, number_lines, number_text};
 use crate::wanted::holds;
-use reg_lines::{CountedDevice, Input, KEPT_BYTES, Line, Output};
+use line_devices::{CountedDevice, Input, KEPT_BYTES, Line, Output};
 use std::alloc::{AllocError, Global};
 use std::process::Abort;
 use std::test::Fail;

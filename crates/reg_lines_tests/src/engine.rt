@@ -1,13 +1,12 @@
 //! A minimal engine that numbers the lines of an input, proved as each engine is.
 
 ghost use Rattle.std.specs.Prelude.{◌≡◌, ◌+◌, ◌<◌, ◌≤◌, ◌^◌, ◌⊎◌, ℕ, [], ◌++◌, codes, decimal, OnOk, IfOk, IfErr, IfSome, IsTrue};
-ghost use Rattle.reg_lines.specs.Runs.{AppendsRun, AppendsRunFront, TakesLines, first_lines};
+ghost use Rattle.line_devices.specs.Runs.{AppendsRun, AppendsRunFront, TakesLines, first_lines};
 ghost use Rattle.reg_lines_tests.specs.Numbered.{numbered};
-ghost use Rattle.reg_lines.specs.Stream.{IsOut, Puts};
+ghost use Rattle.line_devices.specs.Stream.{IsOut, Puts};
 
-use reg_lines::{
-    CountedDevice, Input, Line, Output, Sink, Source, flush_before_waiting, print_number,
-};
+use line_devices::{CountedDevice, Input, Line, Output, Sink, Source, flush_before_waiting};
+use reg_lines::print_number;
 use std::alloc::Global;
 
 /// Why the engine failed.

@@ -1,7 +1,7 @@
 //! Which lines draw an id, and which id do they get?
 
 use crate::tables::{Asked, tells_in_a_row, tells_with};
-use reg_lines::{Ids, ids_law};
+use line_reading::{Ids, ids_law};
 use std::test::Fail;
 
 /// Lines that are read one after another with the ids of the all-zero seed, and the request of each.

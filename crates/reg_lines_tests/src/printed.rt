@@ -1,6 +1,8 @@
 //! What is printed for a value?
 
-use reg_lines::{CountedDevice, LineRefusal, Output, PrintJson, print_line};
+use line_devices::{CountedDevice, Output};
+use line_reading::LineRefusal;
+use reg_lines::{PrintJson, print_line};
 use serde_json::Value;
 use spiffe_name::Failure;
 use std::alloc::Global;

@@ -5,7 +5,7 @@ use crate::printed::add;
 use crate::tables::{Asked, line_tells, new_book, reply_of, tells, tells_at, tells_in_a_row};
 use crate::wanted::is_text;
 use batch_texts::batch;
-use call_machine::{CallAnswer, KnownCall};
+use call_answers::{CallAnswer, KnownCall};
 use entry_book::Batch;
 use plain_book::PlainBook;
 use reg_lines::CallRecord;

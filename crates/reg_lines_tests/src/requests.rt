@@ -1,7 +1,7 @@
 //! Which fault of a line is reported, and which operations do lines represent?
 
 use crate::tables::{Asked, tells};
-use reg_lines::unknown_keys_law;
+use line_reading::unknown_keys_law;
 use std::test::Fail;
 
 /// Lines, and the request of each.

@@ -3,7 +3,8 @@
 use crate::printed::add;
 use crate::tables::{Asked, reply_of, tells, tells_in_a_row};
 use batch_work::Status;
-use call_machine::{CallAnswer, Done, Event};
+use call_answers::{CallAnswer, Done};
+use call_events::Event;
 use entry_book::Batch;
 use plain_book::PlainBook;
 use reg_lines::printed_events_law;

@@ -1,9 +1,10 @@
 //! Describes what lines represent, key by key, in the text of the tables.
 
 use crate::printed::add;
-use call_machine::Event;
+use call_events::Event;
 use entry_book::{Batch, NewEntry, Op, PageQuery, SelectorMatch};
-use reg_lines::{PrintJson, Record, Request};
+use line_reading::{Record, Request};
+use reg_lines::PrintJson;
 use std::alloc::Global;
 use std::test::Fail;
 

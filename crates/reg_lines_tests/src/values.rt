@@ -3,11 +3,11 @@
 use crate::printed::add;
 use batch_texts::{number, trust_domain, word, words};
 use batch_work::Status;
-use call_machine::{CallAnswer, Decision, Done, EventRefusal};
+use call_answers::{CallAnswer, Decision, Done};
+use call_events::EventRefusal;
 use entry_book::{DomainSet, Limit, OpRefusal, Outcome, Refusal, Reply, Shared};
-use reg_lines::{
-    AnsweredCall, CallOrder, CallReply, EventRefused, LineRefusal, SeatRefusal, SeatRefused,
-};
+use line_reading::LineRefusal;
+use reg_lines::{AnsweredCall, CallOrder, CallReply, EventRefused, SeatRefusal, SeatRefused};
 use spiffe_name::{Failure, SpiffeId, TrustDomain};
 use std::alloc::Global;
 use std::test::Fail;

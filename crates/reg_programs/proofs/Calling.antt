@@ -5,12 +5,12 @@ use Rattle.rand_chacha.specs.ChaCha.{ChaCha}
 use Rattle.spiffe_name.specs.declared.refusals.Failure.{Failure}
 use Rattle.spiffe_name.specs.declared.refusals.Failure.TheVariants.{NoMemory, Refused}
 use Rattle.entry_book.specs.Rows.{Bytes}
-use Rattle.reg_lines.specs.Fields.{Fails}
-use Rattle.reg_lines.specs.Lines.{kept, IsLine}
+use Rattle.line_reading.specs.Fields.{Fails}
+use Rattle.line_devices.specs.Lines.{kept, IsLine}
 use Rattle.reg_lines.specs.Refusals.{failure_json, refusal_json}
-use Rattle.reg_lines.specs.Requests.{spelled}
+use Rattle.line_reading.specs.Requests.{spelled}
 use Rattle.reg_lines.specs.SeatLines.{seat_refusal_json}
-use Rattle.reg_lines.specs.Stream.{OutputState, Puts}
+use Rattle.line_devices.specs.Stream.{OutputState, Puts}
 use Rattle.line_reading.specs.declared.fault.Fault.{Fault}
 use Rattle.line_reading.specs.declared.refusal.LineRefusal.{LineRefusal}
 use Rattle.reg_lines.specs.declared.printing.seats.SeatRefusal.TheVariants.{Spent}

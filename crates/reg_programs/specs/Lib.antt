@@ -1,13 +1,3 @@
 pub mod Ends
 pub mod Programs
 pub mod Sessions
-pub use Rattle.line_engines.specs.Answers
-pub use Rattle.line_engines.specs.Audited
-pub use Rattle.line_engines.specs.Confirmed
-pub use Rattle.line_engines.specs.Driver
-pub use Rattle.line_engines.specs.Recorded
-pub use Rattle.line_engines.specs.Schedules
-pub use Rattle.command_line.specs.Asked
-pub use Rattle.command_line.specs.CommandLine
-pub use Rattle.command_line.specs.Conversions
-pub use Rattle.command_line.specs.Laws

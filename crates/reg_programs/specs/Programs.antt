@@ -1,6 +1,6 @@
 -- What the programs do.
 use Rattle.std.specs.Prelude.{◌≡◌, List, ℕ, Result, Ok, Err}
-use Rattle.reg_lines.specs.Stream.{InputState, OutputState}
+use Rattle.line_devices.specs.Stream.{InputState, OutputState}
 use Rattle.line_engines.specs.Answers.{RunsPlain}
 use Rattle.line_engines.specs.Audited.{RunsAudit}
 use Rattle.line_engines.specs.Recorded.{RunsRecord}

@@ -8,10 +8,10 @@ use mathlib.Core.List.{IsPrefix}
 use Rattle.commit_head.specs.Journals.{IsLawfulJournal, batches_of}
 use Rattle.reg_lines.specs.Refusals.{fault_json, no_memory_json, refusal_json}
 use Rattle.reg_lines.specs.Replies.{answer_json, conflict_json, reply_json}
-use Rattle.reg_lines.specs.Requests.{spelled}
-use Rattle.reg_lines.specs.Runs.{IsRun}
+use Rattle.line_reading.specs.Requests.{spelled}
+use Rattle.line_devices.specs.Runs.{IsRun}
 use Rattle.reg_lines.specs.SeatLines.{seat_refusal_json}
-use Rattle.reg_lines.specs.Stream.{InputState, OutputState}
+use Rattle.line_devices.specs.Stream.{InputState, OutputState}
 use Rattle.line_reading.specs.declared.fault.Fault.{Fault}
 use Rattle.reg_lines.specs.declared.printing.seats.SeatRefusal.TheVariants.{Spent, NoEntry as WasNotLetIn}
 use Rattle.line_reading.specs.declared.request.Request.{Request}

@@ -1,7 +1,7 @@
 //! What do the programs of `regd` do, from their command line and the bytes they read to the bytes they write?
 //!
 //! `command_line` defines what a command line requests, and `line_engines` how the lines of an input are answered. This crate
-//! re-exports both for its users.
+//! re-exports the [`Settings`] of a command line, and the engines [`plain`], [`schedule`], [`record_schedule`] and [`audit`].
 //!
 //! - [`run_settings`]: the program that the [`Settings`] request, over an input and an output.
 //! - [`session`]: the lines of one connection, answered through a seat of a shared registry; [`sessions_law`]: what the
@@ -23,12 +23,9 @@ mod server;
 mod session_engine;
 mod told;
 
-pub use command_line::{LineFault, Program, ServerPlan, Settings, a_line_gives_its_domain};
+pub use command_line::Settings;
 pub use ended::{Ended, status};
-pub use line_engines::{
-    Answerer, Outcome, RunFault, audit, plain, record_schedule, recorded_runs_are_confirmed,
-    run_lines, schedule,
-};
+pub use line_engines::{audit, plain, record_schedule, schedule};
 pub use programs::run_settings;
 pub use queue::{Queue, QueueState, queues_of};
 pub use serve_fault::ServeFault;

@@ -4,8 +4,8 @@ ghost use Rattle.std.specs.Prelude.{◌≡◌, [], None};
 ghost use Rattle.reg_programs.specs.Programs.{RunsAs, done_of};
 
 use command_line::{Program, Settings};
+use line_devices::{Input, Output, Sink, Source};
 use line_engines::{Outcome, RunFault, audit, plain, record_schedule, schedule};
-use reg_lines::{Input, Output, Sink, Source};
 use std::alloc::Global;
 
 /// Runs the program that the settings request, which is not a server, with their trust domain and seed: it answers each line of the

@@ -2,7 +2,7 @@
 
 ghost use Rattle.std.specs.Prelude.{◌≡◌, IfOk, vec_len};
 
-use reg_lines::Ids;
+use line_reading::Ids;
 use std::alloc::{AllocError, Global};
 use std::collections::VecDeque;
 use std::net::TcpStream;
@@ -17,7 +17,7 @@ pub(crate) struct Connection {
 
 impl Connection {
     ghost use Rattle.std.specs.Prelude.{◌≡◌};
-    ghost use Rattle.reg_lines.specs.Ids.{stream_ids};
+    ghost use Rattle.line_reading.specs.Ids.{stream_ids};
 
     /// Returns the ids for its creates: those of its own stream of the seed.
     pub(crate) fn ids(&self, seed: [u8; 32]) -> Ids

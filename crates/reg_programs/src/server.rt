@@ -7,7 +7,7 @@ use crate::queue::{Connection, Queue, close_all, queues_of};
 use crate::serve_fault::ServeFault;
 use crate::session_engine::session;
 use command_line::ServerPlan;
-use reg_lines::{CountedDevice, Input, Output};
+use line_devices::{CountedDevice, Input, Output};
 use shared_registry::{Naming, Opened, Registry, Seat};
 use spiffe_name::TrustDomain;
 use std::alloc::Global;

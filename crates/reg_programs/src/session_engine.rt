@@ -3,18 +3,17 @@
 ghost use Rattle.std.specs.Prelude.{◌≡◌, ◌+◌, ◌<◌, ◌^◌, [], List, MatchBool, true, false, ℕ};
 ghost use Rattle.entry_book.specs.Batches.{is_query};
 ghost use Rattle.reg_lines.specs.Refusals.{no_memory_json, refusal_json};
-ghost use Rattle.reg_lines.specs.Stream.{Puts};
+ghost use Rattle.line_devices.specs.Stream.{Puts};
 ghost use Rattle.line_engines.specs.Answers.{as_line};
 ghost use Rattle.shared_registry.specs.Seated.{MaySee, Seated};
 ghost use Rattle.reg_programs.specs.Sessions.{AnswersCall, Grew, HasText, IsPrinted, IsToAnswer, RunsSession, Session, SessionsGrow, TakesRequestLine, found_json, no_answer_json, outcome_json};
 
 use call_answers::CallAnswer;
 use entry_book::Batch;
+use line_devices::{Input, Output, Sink, Source};
 use line_engines::{Answerer, RunFault, run_lines};
-use reg_lines::{
-    AnsweredCall, Ids, Input, LentCallReply, LineRefusal, Output, Request, SeatRefusal,
-    SeatRefused, Sink, Source, print_line, read_request,
-};
+use line_reading::{Ids, LineRefusal, Request, read_request};
+use reg_lines::{AnsweredCall, LentCallReply, SeatRefusal, SeatRefused, print_line};
 use shared_registry::{Naming, NoAnswer, OpenGate, Outcome, Registry, Seat};
 use spiffe_name::{Failure, TrustDomain};
 use std::alloc::{AllocError, Global};

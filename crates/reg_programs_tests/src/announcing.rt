@@ -3,7 +3,8 @@
 use crate::hosting::exchange;
 use crate::staged::{TURNS, Watched};
 use crate::wanted::{holds, is_text};
-use reg_programs::{ServeFault, Server, ServerPlan, serve};
+use command_line::ServerPlan;
+use reg_programs::{ServeFault, Server, serve};
 use spiffe_name::TrustDomain;
 use std::alloc::Global;
 use std::net::{Ipv4Addr, Net, SocketAddrV4, TcpListener, TcpStream};

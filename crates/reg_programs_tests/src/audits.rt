@@ -2,7 +2,7 @@
 
 use crate::engine::program_writes;
 use crate::lines::add_line_of;
-use reg_programs::Outcome;
+use line_engines::Outcome;
 use std::alloc::Global;
 use std::process::Abort;
 use std::test::Fail;

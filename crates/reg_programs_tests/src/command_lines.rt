@@ -1,10 +1,9 @@
 //! Command lines and what `regd` writes about them, word for word.
 
 use crate::wanted::{holds, is_text};
-use reg_programs::{
-    Ended, LineFault, Outcome, Program, RunFault, ServeFault, ServerPlan, Settings,
-    a_line_gives_its_domain, status,
-};
+use command_line::{LineFault, Program, ServerPlan, Settings, a_line_gives_its_domain};
+use line_engines::{Outcome, RunFault};
+use reg_programs::{Ended, ServeFault, status};
 use spiffe_name::IdRefusal;
 use std::alloc::Global;
 use std::fmt::Display;

@@ -2,7 +2,7 @@
 
 use crate::engine::{Engine, Table, run};
 use crate::wanted::{ends_at_a_failure, holds_at};
-use reg_programs::RunFault;
+use line_engines::RunFault;
 use std::alloc::Global;
 use std::process::Abort;
 use std::sync::Wait;

@@ -4,7 +4,7 @@ use crate::engine::{Engine, Table, lines_lost, program_writes};
 use crate::failing::{fail_each_read, fail_each_write};
 use crate::schedules::OUT_OF_TURN;
 use crate::wanted::holds;
-use reg_programs::Outcome;
+use line_engines::Outcome;
 use std::alloc::Global;
 use std::process::Abort;
 use std::test::Fail;

@@ -4,8 +4,10 @@ ghost use Rattle.std.specs.Prelude.{◌≡◌};
 
 use crate::engine::{Engine, Table};
 use crate::failing::{fail_each_read, fail_each_write};
-use reg_lines::{CountedDevice, Ids, Input, Output};
-use reg_programs::{RunFault, session};
+use line_devices::{CountedDevice, Input, Output};
+use line_engines::RunFault;
+use line_reading::Ids;
+use reg_programs::session;
 use shared_registry::{Naming, Opened, Registry, Seat};
 use spiffe_name::TrustDomain;
 use std::alloc::Global;

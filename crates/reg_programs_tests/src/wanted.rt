@@ -1,6 +1,6 @@
 //! Assertions, each in a function of its own, since an assertion that is written out takes the prover seconds.
 
-use reg_programs::RunFault;
+use line_engines::RunFault;
 use std::process::Abort;
 use std::test::Fail;
 

@@ -6,10 +6,10 @@
 
 ghost use Rattle.std.specs.Prelude.{◌≡◌, ◌<◌, None};
 
-use reg_lines::{CountedDevice, Input, Output};
-use reg_programs::{
-    Ended, LineFault, Outcome, RunFault, Server, ServerPlan, Settings, run_settings, serve, status,
-};
+use command_line::{LineFault, ServerPlan, Settings};
+use line_devices::{CountedDevice, Input, Output};
+use line_engines::{Outcome, RunFault};
+use reg_programs::{Ended, Server, run_settings, serve, status};
 use std::net::{Net, TcpListener, TcpStream};
 use std::process::ExitCode;
 use std::rt::Env;

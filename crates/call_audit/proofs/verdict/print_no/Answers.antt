@@ -1,6 +1,6 @@
 use Rattle.std.proofs.Common.{subst}
 use Rattle.reg_lines.specs.Json.{text_json}
-use Rattle.reg_lines.specs.Stream.{Puts}
+use Rattle.line_devices.specs.Stream.{Puts}
 use Rattle.call_audit.proofs.Printed.{Puts-no}
 use Rattle.call_audit.proofs.verdict.print_no.Goals as goal
 

@@ -1,8 +1,8 @@
 use Rattle.std.proofs.Common.{◌≡◌, List, ℕ, Err, IfOk, refl, subst, sym, arith}
 use Rattle.std.specs.Prelude.{⊤, IfErr, IfSome, OnOk}
 use Rattle.std.proofs.lemmas.Grind.{common_steps}
-use Rattle.reg_lines.specs.Lines.{most_lines}
-use Rattle.reg_lines.specs.Runs.{first_lines}
+use Rattle.line_devices.specs.Lines.{most_lines}
+use Rattle.line_devices.specs.Runs.{first_lines}
 use Rattle.call_audit.specs.Verdicts.{verdict_of}
 use Rattle.line_engines.specs.Audited.{AnswersRecord, ClosesWithVerdict, StandsFor, an_audit, is_over, start}
 use Rattle.line_engines.specs.Driver.{ClosesAs, RunsOver, Steps, TakesNoMore, TakesSoFar, TakesUntilEnd}

@@ -1,6 +1,6 @@
 use Rattle.std.proofs.Common.{◌≡◌, [], arith, inr, refl, subst}
 use Rattle.std.proofs.lemmas.Grind.{common_steps}
-use Rattle.reg_lines.specs.Stream.{Puts}
+use Rattle.line_devices.specs.Stream.{Puts}
 use Rattle.line_engines.proofs.Driving.{Closes-flushed, closed_or_none}
 use Rattle.line_engines.proofs.driver.finish.Goals as goal
 

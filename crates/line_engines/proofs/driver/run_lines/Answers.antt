@@ -2,8 +2,8 @@ use Rattle.std.proofs.Common.{◌≡◌, ◌+◌, ◌≤◌, ◌<◌, true, fals
 use Rattle.std.proofs.lemmas.Bool.{false≢true}
 use Rattle.std.proofs.lemmas.Grind.{common_steps}
 use Rattle.std.proofs.lemmas.Result.{err_from_is_err_and}
-use Rattle.reg_lines.specs.Lines.{most_lines}
-use Rattle.reg_lines.specs.Stream.{IsOut}
+use Rattle.line_devices.specs.Lines.{most_lines}
+use Rattle.line_devices.specs.Stream.{IsOut}
 use Rattle.line_engines.specs.Driver.{ClosesAs, Steps}
 use Rattle.line_engines.specs.declared.fault.RunFault.TheVariants.{NoMemory, Output}
 use Rattle.line_engines.proofs.Driving.{IsDriven-start, IsDriven-flush, IsDriven-more, IsThrough-ended, IsThrough-end, IsThrough-most, RunsOver-no_memory, RunsOver-output, RunsOver-input, RunsOver-finished, some_step, of_setting, of_bytes, of_verdict, closes_of, closed_of, closes_as, closed_as, way_of, output_input, memory_input, TakesNoMore-stopped, TakesNoMore-input, TakesNoMore-ended, TakesNoMore-all}

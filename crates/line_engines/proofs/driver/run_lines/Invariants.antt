@@ -1,5 +1,5 @@
 use Rattle.std.proofs.Common.{◌≡◌, ◌≤◌, false}
-use Rattle.reg_lines.specs.Lines.{most_lines}
+use Rattle.line_devices.specs.Lines.{most_lines}
 use Rattle.line_engines.proofs.Driving.{IsDriven}
 use Rattle.line_engines.proofs.driver.run_lines.Given as goal
 

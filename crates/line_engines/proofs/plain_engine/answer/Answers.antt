@@ -4,11 +4,11 @@ use Rattle.spiffe_name.specs.declared.refusals.Failure.{Failure}
 use Rattle.spiffe_name.specs.declared.refusals.Failure.TheVariants.{NoMemory, Refused}
 use Rattle.rand_chacha.specs.ChaCha.{ChaCha}
 use Rattle.entry_book.specs.History.{PlainState, Stands, books_after, reply_to}
-use Rattle.reg_lines.specs.Fields.{Fails}
+use Rattle.line_reading.specs.Fields.{Fails}
 use Rattle.reg_lines.specs.Refusals.{fault_json, failure_json, no_memory_json}
 use Rattle.reg_lines.specs.Replies.{reply_json}
-use Rattle.reg_lines.specs.Requests.{spelled}
-use Rattle.reg_lines.specs.Stream.{OutputState, Puts}
+use Rattle.line_reading.specs.Requests.{spelled}
+use Rattle.line_devices.specs.Stream.{OutputState, Puts}
 use Rattle.line_reading.specs.declared.fault.Fault.{Fault}
 use Rattle.line_reading.specs.declared.request.Request.{Request}
 use Rattle.line_engines.specs.Answers.{AnswersBatch, AnswersLine, Running, as_line, called, passed, refused, replied, not_read, not_run}

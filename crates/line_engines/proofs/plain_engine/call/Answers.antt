@@ -2,7 +2,7 @@ use Rattle.std.proofs.Common.{inl, inr, sym, subst}
 use Rattle.entry_book.specs.History.{PlainState, Stands}
 use Rattle.entry_book.specs.declared.reply.Reply.{Reply}
 use Rattle.reg_lines.specs.Replies.{reply_json}
-use Rattle.reg_lines.specs.Stream.{Puts}
+use Rattle.line_devices.specs.Stream.{Puts}
 use Rattle.line_engines.specs.Answers.{as_line}
 use Rattle.line_engines.proofs.plain_engine.call.Goals as goal
 

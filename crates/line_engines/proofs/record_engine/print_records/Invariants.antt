@@ -1,6 +1,6 @@
 use Rattle.std.proofs.Common.{List, take}
 use Rattle.std.specs.List.{AllByRecursion, flat_map}
-use Rattle.reg_lines.specs.Stream.{Puts}
+use Rattle.line_devices.specs.Stream.{Puts}
 use Rattle.line_engines.specs.Recorded.{AreRecords, IsWritten, Recorded, record_line}
 use Rattle.line_engines.proofs.record_engine.print_records.Given as goal
 

@@ -1,8 +1,8 @@
 use Rattle.std.proofs.Common.{◌≡◌, List, ℕ, Err, IfOk, refl, subst, sym, arith}
 use Rattle.std.specs.Prelude.{⊤, IfSome}
 use Rattle.std.proofs.lemmas.Grind.{common_steps}
-use Rattle.reg_lines.specs.Lines.{most_lines}
-use Rattle.reg_lines.specs.Runs.{first_lines}
+use Rattle.line_devices.specs.Lines.{most_lines}
+use Rattle.line_devices.specs.Runs.{first_lines}
 use Rattle.line_engines.specs.Driver.{ClosesAs, RunsOver}
 use Rattle.line_engines.specs.Recorded.{AppendsAllRecords, AppendsRecords, ClosesRecording, KeepsRecording, RecordsLine, RunsRecord, a_line_recorded, first_recording}
 use Rattle.line_engines.specs.declared.fault.RunFault.TheVariants.{NoMemory}

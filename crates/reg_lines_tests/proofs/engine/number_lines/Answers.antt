@@ -4,9 +4,9 @@ use Rattle.std.proofs.lemmas.Bool.{false≢true}
 use Rattle.std.proofs.lemmas.Grind.{common_steps}
 use Rattle.std.proofs.lemmas.Result.{on_ok_weaker}
 use Rattle.reg_lines_tests.specs.Numbered.{numbered}
-use Rattle.reg_lines.specs.Lines.{kept}
-use Rattle.reg_lines.specs.Runs.{StepsKept}
-use Rattle.reg_lines.specs.Stream.{IsOut}
+use Rattle.line_devices.specs.Lines.{kept}
+use Rattle.line_devices.specs.Runs.{StepsKept}
+use Rattle.line_devices.specs.Stream.{IsOut}
 use Rattle.line_devices.proofs.RunLemmas.{RunsFrom-start, RunsFrom-flush, RunsFrom-more, AppendsRun-so_far, AppendsRun-at_end, AppendsRun-at_most, AppendsRunFront-of}
 use Rattle.reg_lines_tests.proofs.engine.number_lines.Goals as goal
 

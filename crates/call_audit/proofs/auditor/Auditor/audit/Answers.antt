@@ -1,7 +1,7 @@
 use Rattle.std.proofs.Common.{◌≡◌, Ok, subst, ap, ◌∙◌}
-use Rattle.reg_lines.specs.Fields.{Fails}
-use Rattle.reg_lines.specs.RecordViews.{recorded}
-use Rattle.reg_lines.specs.Records.{spelled_record}
+use Rattle.line_reading.specs.Fields.{Fails}
+use Rattle.line_reading.specs.RecordViews.{recorded}
+use Rattle.line_reading.specs.Records.{spelled_record}
 use Rattle.call_audit.specs.Keeps.{AuditState, Keeps}
 use Rattle.call_audit.proofs.Judging.{judges_failure, judges_of}
 use Rattle.call_audit.proofs.auditor.Auditor.audit.Goals as goal

@@ -1,7 +1,7 @@
 use Rattle.std.proofs.Common.{◌≡◌, true, false, arith, subst, sym, ap, ◌∙◌}
 use Rattle.std.proofs.lemmas.Grind.{common_steps}
 use Rattle.entry_book.specs.History.{books_of}
-use Rattle.reg_lines.specs.RecordViews.{recorded}
+use Rattle.line_reading.specs.RecordViews.{recorded}
 use Rattle.reg_lines.specs.Replies.{reply_json}
 use Rattle.call_audit.specs.Audits.{batches_of, is_given, is_past, is_text_of}
 use Rattle.call_audit.specs.Keeps.{Keeps}
