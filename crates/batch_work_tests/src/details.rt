@@ -1,10 +1,10 @@
 //! What the text of a reply leaves out: all fields of entries, as text.
 
-use batch_texts::{accepted_text, marks_text, of_number, outcome_text};
 use batch_work::Work;
 use entry_book::{Entry, OpReply, Outcome};
 use std::alloc::Global;
 use std::test::Fail;
+use test_batches::{accepted_text, marks_text, of_number, outcome_text};
 
 fn add_word(text: &mut String, word: &str) -> Result<(), Fail> {
     text.push_str(" ")?;

@@ -4,11 +4,11 @@ use crate::details::run_text;
 use crate::playing::{first_window, newest_number};
 use crate::running::{commits, ended};
 use crate::wanted::{holds, is_text};
-use batch_texts::batch_text;
 use batch_work::{Window, Work};
 use std::alloc::Global;
 use std::process::Abort;
 use std::test::Fail;
+use test_batches::batch_text;
 use version_book::{Changes, Mark};
 
 /// How many pairs of books were found that differ outside of what a batch reads, and how many others on which the batch ran

@@ -5,9 +5,9 @@ use crate::plain_rows::{
     DOMAINS, IDS, PlainEntry, PlainRows, delete_users, domain_place, entry_number, entry_of,
     free_users, has_similar, id_place, is_used, is_user, no_rows, prune, selectors_of,
 };
-use batch_texts::{number, number_behind, word, words};
 use std::alloc::Global;
 use std::test::Fail;
+use test_batches::{number, number_behind, word, words};
 
 /// The index of the server's ID in `IDS`.
 const SERVER: usize = 3;

@@ -2,8 +2,8 @@
 
 ghost use Rattle.std.specs.Prelude.{◌<◌};
 
-use batch_texts::word;
 use std::test::Fail;
+use test_batches::word;
 
 /// The IDs of random batches, in the order of their texts.
 pub const IDS: [&str; 5] = ["/api", "n1", "n2", "/spire/server", "/web"];

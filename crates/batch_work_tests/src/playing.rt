@@ -2,11 +2,11 @@
 
 use crate::running::{commit, end_text, ended};
 use crate::wanted::is_text;
-use batch_texts::{marks_text, number, trust_domain, words};
 use batch_work::Window;
 use std::alloc::Global;
 use std::process::Abort;
 use std::test::Fail;
+use test_batches::{marks_text, number, trust_domain, words};
 use version_book::Version;
 
 /// The window that has only the empty book.

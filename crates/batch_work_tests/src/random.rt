@@ -7,13 +7,13 @@ use crate::footprints::{PlainHistory, footprint, no_history};
 use crate::playing::{first_window, newest_number};
 use crate::running::{commits, ended};
 use crate::wanted::{holds, is_number, is_text};
-use batch_texts::{batch_text, trust_domain};
 use batch_work::{Window, Work};
 use entry_book::{Batch, Reply};
 use plain_book::PlainBook;
 use std::alloc::Global;
 use std::process::Abort;
 use std::test::Fail;
+use test_batches::{batch_text, trust_domain};
 
 /// What must occur in some reply, or after it in some footprint.
 const COMING: &str = "\

@@ -10,11 +10,11 @@ ghost use Rattle.batch_work.specs.Windows.{IsNext};
 ghost use Rattle.batch_work.specs.Working.{IsAccepted, MayBegin, status_of};
 
 use crate::values::where_done;
-use batch_texts::{add_mark, batch, marks_text, replies_text, reply_text};
 use batch_work::{Status, Window, Work, answer};
 use entry_book::Batch;
 use std::alloc::{AllocError, Global};
 use std::test::Fail;
+use test_batches::{add_mark, batch, marks_text, replies_text, reply_text};
 use uuid::Uuid;
 use version_book::{Changes, Mark, Version, laws};
 

@@ -1,9 +1,9 @@
 //! Events from the words of a text.
 
-use batch_texts::batch;
 use call_events::Event;
 use std::alloc::Global;
 use std::test::Fail;
+use test_batches::batch;
 
 /// The event of a call that isn't its invoke.
 fn event_of(kind: &str, call: u64) -> Result<Event, Fail> {

@@ -8,13 +8,13 @@ use crate::refused::answer;
 use crate::telling::{answer_text, known_text, numbers_text};
 use crate::values::{had, where_done};
 use crate::wanted::{holds, is_text};
-use batch_texts::{batch, trust_domain};
 use batch_work::Status;
 use call_answers::Done;
 use call_events::{Event, RefusedEvent};
 use std::alloc::Global;
 use std::process::Abort;
 use std::test::Fail;
+use test_batches::{batch, trust_domain};
 
 /// The calls up to this number are checked when an event is refused.
 const LAST: u64 = 8;

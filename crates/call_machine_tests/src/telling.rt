@@ -1,10 +1,10 @@
 //! Answers, and the states of calls, as text.
 
-use batch_texts::{Failed, mark_text, placed, reply_text};
 use batch_work::Status;
 use call_answers::{CallAnswer, Decision, Done, KnownCall};
 use call_events::RefusedEvent;
 use std::alloc::Global;
+use test_batches::{Failed, mark_text, placed, reply_text};
 use version_book::Mark;
 
 fn conflict_text(alloc: Global, place: u64) -> Result<String, Failed> {

@@ -3,11 +3,11 @@
 use crate::desk::Desk;
 use crate::telling::{commit_text, item_text};
 use crate::wanted::is_text;
-use batch_texts::{batch, number, trust_domain, word, words};
 use commit_head::Commit;
 use std::alloc::{AllocError, Global};
 use std::process::Abort;
 use std::test::Fail;
+use test_batches::{batch, number, trust_domain, word, words};
 
 pub fn first_desk(alloc: Global) -> Result<Desk, Fail> {
     Desk::new(alloc, trust_domain(alloc, "ex.org")?)

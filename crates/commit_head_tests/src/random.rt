@@ -6,7 +6,6 @@ ghost use Rattle.std.specs.Prelude.{◌≡◌};
 use crate::desk::Desk;
 use crate::playing::{begin, first_desk};
 use crate::wanted::{holds, is_number, is_text};
-use batch_texts::{accepted_text, batch_text, below, reply_text, trust_domain};
 use batch_work::Work;
 use commit_head::{Commit, Head, Item};
 use entry_book::{Batch, Reply};
@@ -14,6 +13,7 @@ use plain_book::PlainBook;
 use std::alloc::Global;
 use std::process::Abort;
 use std::test::Fail;
+use test_batches::{accepted_text, batch_text, below, reply_text, trust_domain};
 use version_book::Mark;
 
 /// The numbers of works that were committed, and that were refused after up to 63 other commits, and after more.

@@ -1,9 +1,9 @@
 //! Commits and items of the journal as text.
 
-use batch_texts::{Failed, placed, replies_text};
 use commit_head::{Commit, Item};
 use entry_book::Limit;
 use std::alloc::Global;
+use test_batches::{Failed, placed, replies_text};
 
 fn full_text(alloc: Global, limit: &Limit, place: u64) -> Result<String, Failed> {
     let code = limit.code();

@@ -1,9 +1,9 @@
 //! Random texts from a grammar: a text whose lines, such as `<row>: <word>
 //! <word> 1`, give the alternatives for a word.
 
-use batch_texts::below;
 use std::alloc::Global;
 use std::test::Fail;
+use test_batches::below;
 
 /// The alternatives for a word, separated by bars; the word itself if the grammar has no line for it.
 fn choices<'a>(grammar: &'a str, word: &'a str) -> &'a str {

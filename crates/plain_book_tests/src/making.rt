@@ -1,8 +1,7 @@
-//! Batches from texts as in `batch_texts`. What those cannot express follows `with` in a line: the two lifetimes of an entry, the
+//! Batches from texts as in `test_batches`. What those cannot express follows `with` in a line: the two lifetimes of an entry, the
 //! revision that an update or a delete expects, and the filter of a page. IDs in such a line are written as their paths.
 
 use crate::values::{add, add_copy, beside, where_done};
-use batch_texts::{number, number_behind, trust_domain, word, words};
 use entry_book::{
     Batch, DomainSet, Filter, MatchMode, NewEntry, Op, PageQuery, SelectorMatch, Sequence, Shared,
     Text,
@@ -10,6 +9,7 @@ use entry_book::{
 use spiffe_name::{Selector, SelectorSet, SpiffeId, TrustDomain};
 use std::alloc::Global;
 use std::test::Fail;
+use test_batches::{number, number_behind, trust_domain, word, words};
 use uuid::Uuid;
 
 /// The number in a word, or none for `-`.
@@ -183,7 +183,7 @@ fn add_copies(ops: &mut Vec<Op>, copied: &[Op]) -> Result<(), Fail> {
 
 /// Appends the operation of a line without `with`.
 fn add_plain(alloc: Global, ops: &mut Vec<Op>, line: &str) -> Result<(), Fail> {
-    let batch = batch_texts::batch(alloc, line)?;
+    let batch = test_batches::batch(alloc, line)?;
     let added = add_copies(ops, batch.shared_ops().get().as_slice());
     drop(batch);
     added
@@ -231,5 +231,5 @@ pub fn batch(alloc: Global, text: &str) -> Result<Batch, Fail> {
         let lines = text.replace(alloc, "; ", "\n")?;
         return batch_with(alloc, lines.as_str());
     }
-    Ok(batch_texts::batch(alloc, text)?)
+    Ok(test_batches::batch(alloc, text)?)
 }

@@ -4,11 +4,11 @@
 use crate::draws::drawn;
 use crate::playing::{first_book, plays_on, told};
 use crate::wanted::{holds, is_text};
-use batch_texts::{below, word, words};
 use plain_book::PlainBook;
 use std::alloc::Global;
 use std::process::Abort;
 use std::test::Fail;
+use test_batches::{below, word, words};
 
 /// `<entry>` is an entry without its number, `<filter>` a filter, of which each part is given in half of the cases.
 const GRAMMAR: &str = "\

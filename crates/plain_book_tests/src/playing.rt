@@ -5,12 +5,12 @@ ghost use Rattle.std.specs.Prelude.{◌≡◌};
 use crate::making::batch;
 use crate::values::{beside, where_done};
 use crate::wanted::is_text;
-use batch_texts::{placed, reply_text, trust_domain};
 use entry_book::{Batch, Op, OpReply, Outcome, Reply};
 use plain_book::PlainBook;
 use std::alloc::Global;
 use std::process::Abort;
 use std::test::Fail;
+use test_batches::{placed, reply_text, trust_domain};
 
 pub fn first_book(alloc: Global) -> Result<PlainBook, Fail> {
     Ok(PlainBook::new(alloc, trust_domain(alloc, "ex.org")?)?)

@@ -4,7 +4,6 @@ use crate::lines::line_of;
 use crate::printed::add;
 use crate::tables::{Asked, line_tells, new_book, reply_of, tells, tells_at, tells_in_a_row};
 use crate::wanted::is_text;
-use batch_texts::batch;
 use call_answers::{CallAnswer, KnownCall};
 use entry_book::Batch;
 use plain_book::PlainBook;
@@ -12,6 +11,7 @@ use reg_lines::CallRecord;
 use std::alloc::Global;
 use std::process::Abort;
 use std::test::Fail;
+use test_batches::batch;
 
 /// The lines of one run, and the record of each call: each was invoked by the fifth event, and replied by the ninth.
 const RECORDS: &str = r#"

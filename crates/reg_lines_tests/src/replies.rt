@@ -2,10 +2,10 @@
 
 use crate::tables::{Asked, add_reply, new_book, tells, tells_at, tells_in_a_row};
 use crate::wanted::is_text;
-use batch_texts::batch;
 use entry_book::Batch;
 use std::alloc::Global;
 use std::test::Fail;
+use test_batches::batch;
 
 /// The lines of one run, which has every operation, each with the reply line.
 const RUN: &str = r#"

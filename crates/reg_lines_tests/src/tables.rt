@@ -9,7 +9,6 @@ use crate::schedules::add_scheduled;
 use crate::spelled::{add_event, add_record, add_request};
 use crate::values::add_value;
 use crate::wanted::is_text;
-use batch_texts::trust_domain;
 use entry_book::{Batch, Reply};
 use line_reading::{Ids, read_event, read_record, read_request};
 use plain_book::PlainBook;
@@ -17,6 +16,7 @@ use reg_lines::{CallRecord, CallReply};
 use std::alloc::Global;
 use std::process::Abort;
 use std::test::Fail;
+use test_batches::trust_domain;
 
 /// What to check for a line.
 #[derive(Clone, Copy)]

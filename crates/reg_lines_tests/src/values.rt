@@ -1,7 +1,6 @@
 //! Values from words, as they are printed.
 
 use crate::printed::add;
-use batch_texts::{number, trust_domain, word, words};
 use batch_work::Status;
 use call_answers::{CallAnswer, Decision, Done};
 use call_events::EventRefusal;
@@ -11,6 +10,7 @@ use reg_lines::{AnsweredCall, CallOrder, CallReply, EventRefused, SeatRefusal, S
 use spiffe_name::{Failure, SpiffeId, TrustDomain};
 use std::alloc::Global;
 use std::test::Fail;
+use test_batches::{number, trust_domain, word, words};
 use uuid::Uuid;
 use version_book::Mark;
 

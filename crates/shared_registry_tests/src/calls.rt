@@ -6,13 +6,13 @@ use crate::talks::{THREADS, Talk, lines_of};
 use crate::telling::{kind_of, place_of};
 use crate::turnstile::Turnstile;
 use crate::wanted::{holds, is_number, is_text};
-use batch_texts::{batch_text, below};
 use shared_registry::{Naming, Seat};
 use std::alloc::Global;
 use std::process::Abort;
 use std::sync::Wait;
 use std::thread::{Threads, map_indices};
 use std::time::Clock;
+use test_batches::{batch_text, below};
 
 /// A line that a thread ran, and the reply to it.
 #[derive(Drop)]

@@ -1,11 +1,11 @@
 //! Why can't a test continue? Threads return this error, so it implements `Drop`.
 
-use batch_texts::Failed as NoText;
 use shared_registry::{NoAnswer, NoEntry, NoSeat};
 use std::alloc::{AllocError, AllocFailed};
 use std::io;
 use std::num::ParseIntError;
 use std::test::Fail;
+use test_batches::Failed as NoText;
 
 /// A test, or one of its threads, can't continue, for this reason.
 #[derive(Drop)]

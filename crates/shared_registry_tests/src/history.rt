@@ -9,7 +9,6 @@ use crate::talks::{THREADS, Talk};
 use crate::telling::{kind_of, place_of};
 use crate::turnstile::Turnstile;
 use crate::wanted::{holds, is_number, is_text};
-use batch_texts::{batch, reply_text, trust_domain};
 use entry_book::{Batch, Reply};
 use plain_book::PlainBook;
 use shared_registry::{Naming, Point};
@@ -20,6 +19,7 @@ use std::sync::Wait;
 use std::test::Fail;
 use std::thread::Threads;
 use std::time::Clock;
+use test_batches::{batch, reply_text, trust_domain};
 
 /// The default number of random calls of each of the eight threads.
 const CALLS: u64 = 500;

@@ -7,7 +7,6 @@ use crate::history::explains;
 use crate::scripts::plays_script;
 use crate::site::Site;
 use crate::talks::Talk;
-use batch_texts::trust_domain;
 use shared_registry::{Naming, Opened};
 use spiffe_name::TrustDomain;
 use std::alloc::Global;
@@ -17,6 +16,7 @@ use std::sync::Wait;
 use std::test::Fail;
 use std::thread::Threads;
 use std::time::Clock;
+use test_batches::trust_domain;
 
 /// What to run at a site that begins with the empty book.
 #[derive(Clone, Copy)]

@@ -6,7 +6,6 @@ use crate::failed::Failed;
 use crate::talks::THREADS;
 use crate::telling::{outcome_text, seat_text};
 use crate::turnstile::TURNS;
-use batch_texts::{batch, placed, reply_text};
 use entry_book::Batch;
 use shared_registry::{
     Answer, Gate, Naming, OpenGate, Opened, Outcome, Receipt, Registry, Seat, commits_law,
@@ -17,6 +16,7 @@ use std::collections::VecDeque;
 use std::sync::{Mutex, Wait};
 use std::thread;
 use std::time::{Clock, Duration};
+use test_batches::{batch, placed, reply_text};
 
 /// What one seat sends to another: a receipt, and the place up to which it had then seen.
 #[derive(Drop)]

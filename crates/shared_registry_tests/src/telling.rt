@@ -1,9 +1,9 @@
 //! The outcomes of batches, and the state of a seat, as text; and parts of such texts.
 
 use crate::failed::Failed;
-use batch_texts::{placed, reply_text};
 use shared_registry::{Naming, Outcome, Seat};
 use std::alloc::Global;
+use test_batches::{placed, reply_text};
 
 /// The outcome of a batch of changes, or `conflict`, each with its place. If memory ran out or the seat was not admitted, the test can't
 /// continue.

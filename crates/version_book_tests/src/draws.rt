@@ -1,7 +1,7 @@
 //! Random batches on few rows, as text.
 
-use batch_texts::below;
 use std::alloc::{AllocError, Global};
+use test_batches::below;
 
 /// The operations, with alternatives in a word separated by commas. Each of 12, 6, 4, 3, 2 or 1 alternatives is equally likely.
 const OPS: &str = "\

@@ -1,9 +1,9 @@
 //! Marks from the words of a line. IDs are of `ex.org` and written as their paths.
 
-use batch_texts::{Failed, number, trust_domain, word, words};
 use entry_book::Shared;
 use spiffe_name::{SpiffeId, TrustDomain};
 use std::alloc::Global;
+use test_batches::{Failed, number, trust_domain, word, words};
 use uuid::Uuid;
 use version_book::Mark;
 

@@ -7,11 +7,11 @@ use crate::rows::{
 use crate::running::{ended, next_of};
 use crate::values::{add_some, beside, one, where_done};
 use crate::wanted::{holds, is_text};
-use batch_texts::{Failed, batch, number, trust_domain, word, words};
 use batch_work::{Status, Work};
 use std::alloc::{AllocError, Global};
 use std::process::Abort;
 use std::test::Fail;
+use test_batches::{Failed, batch, number, trust_domain, word, words};
 use version_book::{Changes, Mark, RowCounts, Version};
 
 /// A version, the batch that led to it, and its writes, also as text.

@@ -2,10 +2,10 @@
 //! compare. A line of writes looks like `|entry 1|all|group /a /x|children /a|users d1| => 1.0|/a /x 10 u:1 d1`. It begins with the
 //! marks that name the row, between bars; the first of them names it alone.
 
-use batch_texts::{Failed, of_number};
 use entry_book::{Agent, Bundle, Entry, Filter, KeptBatch, PageQuery, Shared};
 use spiffe_name::{SelectorSet, SpiffeId};
 use std::alloc::Global;
+use test_batches::{Failed, of_number};
 use uuid::Uuid;
 use version_book::{Changes, Lent, Mark, MarkKind, RowWrite, RowsRead, TokenWrite, Version, owned};
 

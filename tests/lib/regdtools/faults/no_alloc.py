@@ -10,7 +10,7 @@ from regdtools import drivers
 from regdtools.allocations import Runs
 
 DRIVER = "without_memory"
-CRATES = ["spiffe_name", "entry_book", "plain_book", "version_shelf", "version_book", "batch_texts", "batch_work", "commit_head",
+CRATES = ["spiffe_name", "entry_book", "plain_book", "version_shelf", "version_book", "test_batches", "batch_work", "commit_head",
           "call_events", "call_answers", "shared_registry", "line_devices", "line_reading", "reg_lines"]
 # the calls in families of up to ten; the driver numbers them 0 to 9, 10 to 19 and so on
 FAMILIES = [
