@@ -26,6 +26,8 @@
 //! - `asking`: evaluates read-only batches in one pass.
 //! - `phase`: the state of an operation between two reads; `advance`: its next state.
 //! - `walk`: the walk to authorised entries, in steps; `sorted`: the sorted sets of this walk and of that in `asking`.
+//!
+//! `docs/GLOSSARY.md` explains the terms.
 #![tactic(auto)]
 
 mod advance;

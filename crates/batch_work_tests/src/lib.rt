@@ -7,8 +7,10 @@
 //! - `random`: long histories of random batches, compared with the plain book. Their reads are compared with those that `footprints`
 //!   computes over `plain_rows`.
 //! - `elsewhere`: random batches on pairs of books.
-//! - `running`: a work to its end, and the version after it. `details` writes the whole outcome.
-//! - `values`: values of any type; `wanted`: assertions.
+//! - `running`: a work to its end, with its marks as text, and its commit. `details` writes the whole outcome.
+//! - `wanted`: assertions.
+//!
+//! `docs/GLOSSARY.md` explains the terms.
 #![tactic(auto)]
 
 #[cfg(test)]
@@ -25,8 +27,6 @@ mod playing;
 mod random;
 #[cfg(test)]
 mod running;
-#[cfg(test)]
-mod values;
 #[cfg(test)]
 mod wanted;
 #[cfg(test)]

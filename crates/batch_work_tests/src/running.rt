@@ -1,45 +1,16 @@
-//! Works, run to their end, and the versions after those that are ready.
+//! Works, run to their end with their marks as text, and the commit of those that are ready.
 
-ghost use Rattle.std.specs.Prelude.{◌≡◌, ◌≤◌, ◌^◌, IfOk, List, None, false, true};
-ghost use Rattle.entry_book.specs.Book.{token_at};
-ghost use Rattle.entry_book.specs.History.{kept_under};
-ghost use Rattle.entry_book.specs.declared.reply.OpReply.{OpReply};
-ghost use Rattle.version_book.specs.CommittedRows.{book_of};
-ghost use Rattle.batch_work.specs.declared.status.Status.TheVariants as status;
+ghost use Rattle.std.specs.Prelude.{◌≡◌, ◌≤◌, ◌^◌, true};
 ghost use Rattle.batch_work.specs.Windows.{IsNext};
-ghost use Rattle.batch_work.specs.Working.{IsAccepted, MayBegin, status_of};
 
-use crate::values::where_done;
 use batch_work::{Status, Window, Work, answer};
 use entry_book::Batch;
-use std::alloc::{AllocError, Global};
+use std::alloc::Global;
 use std::test::Fail;
 use test_batches::{add_mark, batch, marks_text, replies_text, reply_text};
-use uuid::Uuid;
-use version_book::{Changes, Mark, Version, laws};
-
-/// A bound on the length of the histories of these tests.
-const MOST: u64 = 1_000_000;
-
-/// A bound on the number of steps of a work in these tests.
-const STEPS: u64 = 10_000;
-
-fn may_begin(window: &Window, batch: &Batch) -> bool
-    ensures { result ≡ true → MayBegin batch.now window.now }
-{
-    batch.domain() == window.newest().domain() && window.newest().number() <= MOST
-}
-
-/// A work of the batch, begun on the window.
-pub fn begun(alloc: Global, window: &Window, batch: Batch) -> Result<Work, Fail> {
-    if !may_begin(window, &batch) {
-        drop(batch);
-        return Err(Fail::from("no window for this batch"));
-    }
-    let mut work = Work::new(alloc, batch);
-    let begun = work.begin(window);
-    Ok(where_done(begun, work)?)
-}
+use test_support::where_done;
+use test_works::{MOST, STEPS, begun, may_begin, next_of};
+use version_book::Version;
 
 /// Makes one more step, appends its mark, and returns true; returns false if the work isn't running.
 fn step(alloc: Global, work: &mut Work, text: &mut String) -> Result<bool, Fail> {
@@ -109,62 +80,6 @@ pub fn end_text(alloc: Global, work: &Work) -> Result<String, Fail> {
         Some(replies) => Ok(replies_text(alloc, "ready", replies.get().as_slice())?),
         None => Err(Fail::from("neither ready nor settled")),
     }
-}
-
-fn has_token(version: &Version, token: Uuid) -> Result<bool, AllocError>
-    ensures { IfOk result (λ has. has ≡ false → token_at token (book_of version.now.rows) ≡ None) }
-{
-    let reading = version.read(&Mark::token(token))?;
-    let has_none = reading.tokens().is_empty();
-    drop(reading);
-    Ok(!has_none)
-}
-
-/// Returns true if something is stored under the token, if there is one.
-fn is_kept(version: &Version, token: Option<Uuid>) -> Result<bool, AllocError>
-    ensures { IfOk result (λ is_kept. is_kept ≡ false → kept_under token (book_of version.now.rows) ≡ None) }
-{
-    match token {
-        Some(token) => has_token(version, token),
-        None => Ok(false),
-    }
-}
-
-fn applied(version: &Version, batch: &Batch, changes: &Changes) -> Result<Version, Fail>
-    requires accepted { (replies : List OpReply) × IsAccepted batch.now (book_of version.now.rows) replies changes.now }
-    requires domain { batch.now.domain ≡ version.now.domain }
-    requires kept { kept_under batch.now.token (book_of version.now.rows) ≡ None }
-{
-    laws::places();
-    laws::applying();
-    let _ = batch.ops();
-    let number = version.number();
-    let count = version.count();
-    if count.entries > 16_384
-        || count.agents > 4_096
-        || count.bundles > 1_024
-        || count.tokens > 65_536
-        || number > MOST
-    {
-        return Err(Fail::from("a large version"));
-    }
-    Ok(version.apply(changes, number + 1)?)
-}
-
-/// The version after the batch of a work that is ready.
-fn next_of(work: &Work) -> Result<Version, Fail>
-    requires ready { status_of work.now ≡ status.Ready }
-{
-    let Some(version) = work.base() else {
-        return Err(Fail::from("not begun"));
-    };
-    if work.batch().domain() != version.domain() {
-        return Err(Fail::from("another trust domain"));
-    }
-    if is_kept(version, work.batch().token())? {
-        return Err(Fail::from("the token is kept already"));
-    }
-    applied(version, work.batch(), work.changes())
 }
 
 fn is_next(window: &Window, version: &Version) -> bool

@@ -13,6 +13,8 @@
 //!   after a history. The verdict of a history is never no, and that of calls whose replies the plain book confirms is yes. A verdict
 //!   is one line.
 //! - `reply`: whether a record's reply is the one that the book gives.
+//!
+//! `docs/GLOSSARY.md` explains the terms.
 #![tactic(auto)]
 
 mod auditor;

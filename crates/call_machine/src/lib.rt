@@ -16,6 +16,8 @@
 //! defines the state of a call, and `Known` what is reported about it. `Kept` is for this crate's own contracts.
 //!
 //! - `slot`: the stored state of a call.
+//!
+//! `docs/GLOSSARY.md` explains the terms.
 #![tactic(auto)]
 
 pub mod laws;

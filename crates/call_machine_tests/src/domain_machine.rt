@@ -4,7 +4,6 @@ ghost use Rattle.std.specs.Prelude.{◌≡◌, IfOk, true};
 ghost use Rattle.call_events.specs.Events.{IsFor};
 ghost use Rattle.call_machine.specs.Machine.{AreFor};
 
-use crate::values::unless;
 use call_answers::{Done, KnownCall};
 use call_events::{Event, EventRefusal, RefusedEvent};
 use call_machine::Machine;
@@ -12,6 +11,7 @@ use spiffe_name::TrustDomain;
 use std::alloc::Global;
 use std::marker::Model;
 use std::test::Fail;
+use test_support::unless;
 
 /// Returns true if the event may be submitted to a machine of this trust domain.
 fn is_for(domain: &TrustDomain, event: &Event) -> bool

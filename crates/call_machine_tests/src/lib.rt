@@ -5,7 +5,9 @@
 //! - `worked`: small schedules as tables, which `playing` plays. `making` parses events, `telling` writes answers as text.
 //! - `domain_machine`: a machine with its trust domain; `refused`: a refused event is returned to the caller and changes
 //!   nothing.
-//! - `values`: values of any type; `wanted`: assertions.
+//! - `wanted`: assertions.
+//!
+//! `docs/GLOSSARY.md` explains the terms.
 #![tactic(auto)]
 
 #[cfg(test)]
@@ -18,8 +20,6 @@ mod playing;
 mod refused;
 #[cfg(test)]
 mod telling;
-#[cfg(test)]
-mod values;
 #[cfg(test)]
 mod wanted;
 #[cfg(test)]

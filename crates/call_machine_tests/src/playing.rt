@@ -6,7 +6,6 @@ use crate::domain_machine::{DomainMachine, lacks_memory, run_at_once};
 use crate::making::{bundles, event};
 use crate::refused::answer;
 use crate::telling::{answer_text, known_text, numbers_text};
-use crate::values::{had, where_done};
 use crate::wanted::{holds, is_text};
 use batch_work::Status;
 use call_answers::Done;
@@ -15,6 +14,7 @@ use std::alloc::Global;
 use std::process::Abort;
 use std::test::Fail;
 use test_batches::{batch, trust_domain};
+use test_support::{had, where_done};
 
 /// The calls up to this number are checked when an event is refused.
 const LAST: u64 = 8;

@@ -18,6 +18,8 @@
 //! depends on how a commit is checked:
 //!
 //! - `check`: whether a later batch wrote what a work has read; `prepare`: the outcome of a ready work on the newest version.
+//!
+//! `docs/GLOSSARY.md` explains the terms.
 #![tactic(auto)]
 
 mod check;

@@ -6,6 +6,8 @@
 //!   `telling` writes commits and items as text.
 //! - `random`: a long history of random batches, compared with the plain book.
 //! - `wanted`: assertions.
+//!
+//! `docs/GLOSSARY.md` explains the terms.
 #![tactic(auto)]
 
 #[cfg(test)]

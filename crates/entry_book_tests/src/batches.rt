@@ -1,13 +1,13 @@
 //! Which lists of operations are a batch, at each boundary.
 
 use crate::told_ops::{add, op, ops};
-use crate::values::{copy, where_done};
 use crate::wanted::{holds, is_number, is_text};
 use entry_book::{Batch, BatchRefusal, Op, Sequence};
 use spiffe_name::{Failure, TrustDomain};
 use std::alloc::Global;
 use std::process::Abort;
 use std::test::Fail;
+use test_support::{copy, where_done};
 
 /// The number of operations of a copy of the batch.
 fn count_in_copy(batch: Batch) -> Result<usize, Fail> {

@@ -2,13 +2,13 @@
 
 use crate::making::uuid;
 use crate::told_ops::ops;
-use crate::values::{copy, one};
 use crate::wanted::{holds, is_number, is_text};
 use entry_book::{Batch, KeptBatch, Op, Sequence, Shared};
 use spiffe_name::{Failure, TrustDomain};
 use std::alloc::Global;
 use std::process::Abort;
 use std::test::Fail;
+use test_support::copy;
 use uuid::Uuid;
 
 /// The code of the refusal of a text's batch and the index of the operation at fault, or `ok` and the number of the book that the
@@ -64,6 +64,13 @@ fn a_token_is_for_changes(rt: HostRuntime) -> Result<(), Fail> {
         is_told(&rt, rt.alloc(), line, Some(uuid()))?;
     }
     Ok(())
+}
+
+/// A sequence of this item alone.
+fn one<T: Drop>(alloc: Global, item: T) -> Result<Sequence<T>, Fail> {
+    let mut items = Sequence::empty(alloc);
+    items.push(item)?;
+    Ok(items)
 }
 
 #[test]

@@ -4,8 +4,9 @@
 //!
 //! - `batches`: batches and their refusals; `pages`: those of pages; `kept`: what a batch carries besides its operations, and
 //!   when operations are the same; `rows`: what rows consist of; `limits`: when a limit is passed; `laws`: each theorem is called.
-//! - `making`: entries, and the parts of operations; `told_ops`: operations from the words of a text; `values`: values of any
-//!   type; `wanted`: assertions.
+//! - `making`: entries, and the parts of operations; `told_ops`: operations from the words of a text; `wanted`: assertions.
+//!
+//! `docs/GLOSSARY.md` explains the terms.
 #![tactic(auto)]
 
 #[cfg(test)]
@@ -24,7 +25,5 @@ mod pages;
 mod rows;
 #[cfg(test)]
 mod told_ops;
-#[cfg(test)]
-mod values;
 #[cfg(test)]
 mod wanted;

@@ -2,13 +2,13 @@
 
 use crate::making::{N1, SERVER, WEB, domain, id};
 use crate::told_ops::created;
-use crate::values::copy;
 use crate::wanted::{holds, is_number, is_text};
 use entry_book::{DomainSet, Entry, Sequence, Text, is_server};
 use spiffe_name::TrustDomain;
 use std::alloc::Global;
 use std::process::Abort;
 use std::test::Fail;
+use test_support::copy;
 
 /// The entry that the operation of this text creates, at revision 3.
 fn entry(alloc: Global, told: &str) -> Result<Entry, Fail> {

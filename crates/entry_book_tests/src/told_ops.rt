@@ -2,13 +2,13 @@
 //! of `ex.org` is written as its path, and any other ID in full. `update1` expects revision 1.
 
 use crate::making::{agent, domain, domains, id, new_entry, selectors, text, uuid};
-use crate::values::where_done;
 use entry_book::{
     DropMode, Filter, MatchMode, NewEntry, Op, PageQuery, SelectorMatch, Sequence, Shared,
 };
 use spiffe_name::SpiffeId;
 use std::alloc::{AllocError, Global};
 use std::test::Fail;
+use test_support::where_done;
 use uuid::Uuid;
 
 fn words<'a>(alloc: Global, told: &'a str) -> Result<Vec<&'a str>, AllocError> {

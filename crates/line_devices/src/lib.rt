@@ -18,6 +18,8 @@
 //! - `input`, `read_buffer`, `line`: bytes come in line by line; `lines`: what lines are; `limits`: how much of them is
 //!   kept.
 //! - `output`: bytes go out; `waiting`: when they must be out.
+//!
+//! `docs/GLOSSARY.md` explains the terms.
 #![tactic(auto)]
 
 mod counted;

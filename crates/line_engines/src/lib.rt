@@ -9,6 +9,8 @@
 //!
 //! The definitions are in `specs/`: `Driver` defines a run of any line handler, and `Answers`, `Schedules`, `Recorded` and `Audited`
 //! what each engine replies.
+//!
+//! `docs/GLOSSARY.md` explains the terms.
 #![tactic(auto)]
 
 mod audit_engine;

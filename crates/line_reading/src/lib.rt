@@ -17,6 +17,8 @@
 //! - `event`: a line that is an event of a call; `record`: a line that reports a call with its reply.
 //! - `batch`, `ops`: an object that holds a batch, and its operations; `ids`: the ids for entries without one.
 //! - `fields`: the values at an object's keys; `kept_lines`: the bytes kept of a line.
+//!
+//! `docs/GLOSSARY.md` explains the terms.
 #![tactic(auto)]
 
 mod batch;

@@ -33,6 +33,8 @@
 //! - `entries`: both lists of entries; `siblings`, `by_parent`: the entries of one parent, and the list of all parents.
 //! - `find`, `listing`, `users`, `expired`: the rows that an operation reads; `worklist`: the entries that an agent may hand out.
 //! - [`laws`]: the theorems that the state and the list of all books agree.
+//!
+//! `docs/GLOSSARY.md` explains the terms.
 #![tactic(auto)]
 
 mod blocks;

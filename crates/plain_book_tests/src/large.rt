@@ -3,13 +3,13 @@
 
 use crate::draws::nth;
 use crate::playing::{answers, first_book, plays_on, told};
-use crate::values::where_done;
 use crate::wanted::{is_number, is_text};
 use plain_book::PlainBook;
 use std::alloc::Global;
 use std::process::Abort;
 use std::test::Fail;
 use test_batches::placed;
+use test_support::where_done;
 
 /// The number of entries: for each of 4 parents one of each of 9 identities and of 16 sets of selectors. Their numbers begin at
 /// 0.

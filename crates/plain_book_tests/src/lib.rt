@@ -9,8 +9,9 @@
 //!   `tokens`: batches with a token. Each test is a script, which `playing` runs.
 //! - `large`: what a book of over five hundred entries replies.
 //! - `pages`: pages of random entries are what a search finds.
-//! - `making`: batches from texts; `draws`: random texts from a grammar; `values`: values of any type; `wanted`:
-//!   assertions.
+//! - `making`: batches from texts; `draws`: random texts from a grammar; `wanted`: assertions.
+//!
+//! `docs/GLOSSARY.md` explains the terms.
 #![tactic(auto)]
 
 #[cfg(test)]
@@ -35,8 +36,6 @@ mod rows;
 mod search;
 #[cfg(test)]
 mod tokens;
-#[cfg(test)]
-mod values;
 #[cfg(test)]
 mod wanted;
 #[cfg(test)]

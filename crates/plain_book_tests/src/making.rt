@@ -1,7 +1,6 @@
 //! Batches from texts as in `test_batches`. What those cannot express follows `with` in a line: the two lifetimes of an entry, the
 //! revision that an update or a delete expects, and the filter of a page. IDs in such a line are written as their paths.
 
-use crate::values::{add, add_copy, beside, where_done};
 use entry_book::{
     Batch, DomainSet, Filter, MatchMode, NewEntry, Op, PageQuery, SelectorMatch, Sequence, Shared,
     Text,
@@ -10,6 +9,7 @@ use spiffe_name::{Selector, SelectorSet, SpiffeId, TrustDomain};
 use std::alloc::Global;
 use std::test::Fail;
 use test_batches::{number, number_behind, trust_domain, word, words};
+use test_support::{add, add_copy, beside, where_done};
 use uuid::Uuid;
 
 /// The number in a word, or none for `-`.

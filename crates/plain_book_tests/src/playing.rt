@@ -3,7 +3,6 @@
 ghost use Rattle.std.specs.Prelude.{◌≡◌};
 
 use crate::making::batch;
-use crate::values::{beside, where_done};
 use crate::wanted::is_text;
 use entry_book::{Batch, Op, OpReply, Outcome, Reply};
 use plain_book::PlainBook;
@@ -11,6 +10,7 @@ use std::alloc::Global;
 use std::process::Abort;
 use std::test::Fail;
 use test_batches::{placed, reply_text, trust_domain};
+use test_support::{beside, where_done};
 
 pub fn first_book(alloc: Global) -> Result<PlainBook, Fail> {
     Ok(PlainBook::new(alloc, trust_domain(alloc, "ex.org")?)?)

@@ -7,13 +7,13 @@ use crate::requests::{
 };
 use crate::rows::{BookRows, are_children_listed, are_of, is_lawful, rows_of};
 use crate::search::{bit, does_name, ends, has_cycle, is_alias, listed, number_of};
-use crate::values::{beside, where_done};
 use crate::wanted::holds;
 use entry_book::{Agent, Bundle, DropMode, Entry, NewEntry, Op, OpReply, Outcome, PageQuery};
 use plain_book::PlainBook;
 use std::alloc::Global;
 use std::process::Abort;
 use std::test::Fail;
+use test_support::{beside, where_done};
 use uuid::Uuid;
 
 /// What must occur.

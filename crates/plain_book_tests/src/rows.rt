@@ -2,11 +2,11 @@
 
 use crate::playing::{Answer, asked};
 use crate::search::{bit, does_name, number_of};
-use crate::values::{add_copy, where_done};
 use entry_book::{Agent, Bundle, Entry, Op, OpReply};
 use plain_book::PlainBook;
 use std::alloc::Global;
 use std::test::Fail;
+use test_support::{add_copy, where_done};
 
 /// Queries all rows that there can be, and the bundle of the server's own domain.
 const KEYS: &str = "\

@@ -20,6 +20,8 @@
 //! - [`one_line_law`] says that no printed line contains a line feed.
 //!
 //! - `printing`: which bytes print a value; `laws`: what is printed parses back, and each line is one line.
+//!
+//! `docs/GLOSSARY.md` explains the terms.
 #![tactic(auto)]
 
 mod laws;

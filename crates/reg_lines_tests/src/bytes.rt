@@ -3,7 +3,7 @@
 ghost use Rattle.std.specs.Prelude.{◌<◌, ◌^◌};
 
 use crate::engine::{Ended, number_lines, number_text};
-use crate::wanted::holds;
+use crate::wanted::holds_at;
 use line_devices::{CountedDevice, Input, KEPT_BYTES, Line, Output};
 use std::alloc::{AllocError, Global};
 use std::process::Abort;
@@ -37,7 +37,7 @@ fn ends_well(giver: &mut Giver<'_>, taker: &mut Taker, line: &mut Line, most: u3
 fn memory_never_fails(rt: HostRuntime) -> Result<(), Fail> {
     let mut line = Line::new(rt.alloc())?;
     match number_text(rt.alloc(), TEXT, &mut line, 100) {
-        Ok(numbered) => holds(&rt, numbered.as_slice() == NUMBERED, "all lines", 100),
+        Ok(numbered) => holds_at(&rt, numbered.as_slice() == NUMBERED, "all lines", 100),
         Err(_) => return Err(Fail::from("a failed device")),
     }
     Ok(())
@@ -48,19 +48,19 @@ fn lines_after_the_last_one_are_left(rt: HostRuntime) -> Result<(), Fail> {
     let mut line = Line::new(rt.alloc())?;
     let mut taker = roomy_taker(rt.alloc(), NUMBERED.len(), Pace::All, Trouble::NONE)?;
     let mut giver = Giver::new(TEXT, Pace::Byte, Trouble::NONE);
-    holds(
+    holds_at(
         &rt,
         ends_well(&mut giver, &mut taker, &mut line, 2),
         "ends well",
         2,
     );
-    holds(
+    holds_at(
         &rt,
         taker.bytes.as_slice() == b"1:one\n2:\n".as_slice(),
         "is written",
         2,
     );
-    holds(
+    holds_at(
         &rt,
         giver.rest == b"two\r\nthree\nlast".as_slice(),
         "is left",
@@ -74,13 +74,13 @@ fn is_numbered(rt: &impl Abort, alloc: Global, line: &mut Line, call: u64) -> Re
     let trouble = Trouble::interrupted_at(call);
     let mut taker = roomy_taker(alloc, NUMBERED.len(), Pace::Byte, trouble)?;
     let mut giver = Giver::new(TEXT, Pace::Byte, Trouble::interrupted_at(call));
-    holds(
+    holds_at(
         rt,
         ends_well(&mut giver, &mut taker, line, 100),
         "ends well",
         call,
     );
-    holds(rt, taker.bytes.as_slice() == NUMBERED, "is numbered", call);
+    holds_at(rt, taker.bytes.as_slice() == NUMBERED, "is numbered", call);
     Ok(())
 }
 
@@ -101,9 +101,9 @@ fn a_writer_that_takes_nothing_has_failed(rt: HostRuntime) -> Result<(), Fail> {
     let mut input = Input::new(CountedDevice::new(&mut giver));
     let mut output = Output::new(CountedDevice::new(full.as_mut_slice()));
     let ended = number_lines(&mut input, &mut output, &mut line, 100);
-    holds(&rt, matches!(ended, Err(Ended::Output)), "a full writer", 5);
+    holds_at(&rt, matches!(ended, Err(Ended::Output)), "a full writer", 5);
     drop(output);
-    holds(&rt, full == *b"1:one", "what it took", 5);
+    holds_at(&rt, full == *b"1:one", "what it took", 5);
     Ok(())
 }
 
@@ -135,7 +135,7 @@ fn keeps(rt: &impl Abort, alloc: Global, len: usize, want: usize) -> Result<(), 
     let mut line = Line::new(alloc)?;
     let text = long_text(alloc, len)?;
     let kept = kept(&text, &mut line).ok_or("another second line")?;
-    holds(rt, kept == want, "kept of", len as u64);
+    holds_at(rt, kept == want, "kept of", len as u64);
     Ok(())
 }
 
@@ -173,13 +173,13 @@ fn comes_out(rt: &impl Abort, alloc: Global, bytes: &[u8], len: usize) -> Result
     requires { 0 < len }
 {
     let mut taker = roomy_taker(alloc, bytes.len(), Pace::All, Trouble::NONE)?;
-    holds(
+    holds_at(
         rt,
         puts(&mut taker, bytes, len),
         "put in pieces of",
         len as u64,
     );
-    holds(
+    holds_at(
         rt,
         taker.bytes.as_slice() == bytes,
         "out in pieces of",
@@ -207,7 +207,7 @@ fn a_flush_is_a_call_of_the_device(rt: HostRuntime) -> Result<(), Fail> {
     output.flush();
     drop(output);
     // a write and a flush for each
-    holds(&rt, taker.calls == 4, "calls", taker.calls);
-    holds(&rt, taker.flushes == 2, "flushes", taker.flushes);
+    holds_at(&rt, taker.calls == 4, "calls", taker.calls);
+    holds_at(&rt, taker.flushes == 2, "flushes", taker.flushes);
     Ok(())
 }

@@ -14,6 +14,8 @@
 //! - `bytes`: lines over memory, over devices that are interrupted, and over one that is full, with the engine of `engine`. Its
 //!   definition is in `specs/Numbered.antt`.
 //! - `wanted`: assertions.
+//!
+//! `docs/GLOSSARY.md` explains the terms.
 #![tactic(auto)]
 
 #[cfg(test)]

@@ -11,6 +11,8 @@
 //!   of connections for each ([`queues_of`]); a [`QueueState`] says which worker sleeps.
 //! - [`ServeFault`]: why a server ended before its last connection did.
 //! - [`Ended`]: how a run ended; [`status`]: its exit status; [`Told`]: what standard error gets.
+//!
+//! `docs/GLOSSARY.md` explains the terms.
 #![tactic(auto)]
 
 mod accept_fault;

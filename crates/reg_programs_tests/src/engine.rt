@@ -5,7 +5,7 @@ ghost use Rattle.std.specs.Prelude.{◌≡◌, IfOk, None};
 use crate::command_lines::words_of;
 use crate::lines::add_line_of;
 use crate::sessions::run_alone;
-use crate::wanted::{holds, is_text, is_written};
+use crate::wanted::{holds, is_text};
 use command_line::Settings;
 use line_devices::{CountedDevice, Input, Output};
 use line_engines::{Outcome, RunFault, plain, record_schedule, schedule};
@@ -17,6 +17,12 @@ use std::process::Abort;
 use std::sync::Wait;
 use std::test::Fail;
 use test_devices::{Giver, Pace, Taker, Trouble};
+
+/// Asserts that the bytes are those of this text.
+pub fn is_written(rt: &impl Abort, got: &[u8], want: &str) -> Result<(), Fail> {
+    is_text(rt, str::from_utf8(got)?, want, "what is written");
+    Ok(())
+}
 
 /// The default seed.
 pub const FIRST_SEED: [u8; 32] = [0; 32];

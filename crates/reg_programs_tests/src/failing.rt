@@ -1,13 +1,40 @@
 //! Runs over a reader or a writer that fails, at each of its calls in turn.
 
 use crate::engine::{Engine, Table, run};
-use crate::wanted::{ends_at_a_failure, holds_at};
+use crate::wanted::holds_at;
 use line_engines::RunFault;
 use std::alloc::Global;
 use std::process::Abort;
 use std::sync::Wait;
 use std::test::Fail;
 use test_devices::{Giver, Pace, Taker, Trouble};
+
+/// Asserts that a run whose device was to fail at this call wrote a prefix of the text. If it made the call, it ended there, with this
+/// fault; otherwise it succeeded, and wrote everything.
+fn ends_at_a_failure(
+    rt: &impl Abort,
+    call: u64,
+    calls: u64,
+    ended: Result<(), RunFault>,
+    fault: RunFault,
+    written: &[u8],
+    text: &str,
+) {
+    let is_beginning = text.as_bytes().starts_with(written);
+    holds_at(rt, is_beginning, "a beginning is written at", call);
+    if calls < call {
+        holds_at(rt, ended.is_ok(), "ends well at", call);
+        holds_at(rt, written.len() == text.len(), "all is written at", call);
+    } else {
+        holds_at(rt, ended == Err(fault), "ends with the fault at", call);
+        holds_at(
+            rt,
+            calls == call,
+            "no call comes behind the failure at",
+            call,
+        );
+    }
+}
 
 /// The number of lines that these bytes end.
 fn count_of_lines(bytes: &[u8]) -> u64 {

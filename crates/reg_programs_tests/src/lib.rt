@@ -11,6 +11,8 @@
 //! - `hosting`: a server over TCP and its clients, in one process, with a scripted listener and a runtime that counts (`staged`). These
 //!   use it: `serving` (what clients get), `accepting` (errors of `accept`) and `announcing` (the address that is printed).
 //! - `wanted`: assertions.
+//!
+//! `docs/GLOSSARY.md` explains the terms.
 #![tactic(auto)]
 
 #[cfg(test)]

@@ -1,7 +1,6 @@
 //! A book at its limits, filled by request lines.
 
-use crate::engine::{Table, answers};
-use crate::wanted::is_written;
+use crate::engine::{Table, answers, is_written};
 use std::alloc::Global;
 use std::process::Abort;
 use std::sync::Wait;

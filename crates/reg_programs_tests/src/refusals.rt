@@ -1,7 +1,6 @@
 //! Lines that are refused, and their effects: they take no call number, and the book stays the same.
 
-use crate::engine::{FIRST_SEED, answers, are_answered, are_answered_with};
-use crate::wanted::is_written;
+use crate::engine::{FIRST_SEED, answers, are_answered, are_answered_with, is_written};
 use std::alloc::Global;
 use std::process::Abort;
 use std::sync::Wait;

@@ -1,8 +1,8 @@
 //! Whole runs of the engine over memory, and over devices that are slow or fail.
 
-use crate::engine::{Engine, Table, are_answered, run};
+use crate::engine::{Engine, Table, are_answered, is_written, run};
 use crate::failing::{fail_each_read, fail_each_write};
-use crate::wanted::{holds, is_written};
+use crate::wanted::holds;
 use std::alloc::Global;
 use std::process::Abort;
 use std::sync::Wait;

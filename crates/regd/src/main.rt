@@ -2,6 +2,8 @@
 //!
 //! The process parses its words, runs the requested program over standard input and output or the network, and reports its end by
 //! standard error and the exit status. The programs are in `reg_programs`.
+//!
+//! `docs/GLOSSARY.md` explains the terms.
 #![tactic(auto)]
 
 ghost use Rattle.std.specs.Prelude.{◌≡◌, ◌<◌, None};

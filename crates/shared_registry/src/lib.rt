@@ -35,6 +35,8 @@
 //!
 //! A statement such as `let _place = seat.place();` has no effect at run time. It brings the contract of the call, mostly
 //! an invariant of its value, into the proof, which fails without it.
+//!
+//! `docs/GLOSSARY.md` explains the terms.
 #![tactic(auto)]
 
 mod commit;

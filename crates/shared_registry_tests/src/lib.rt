@@ -10,6 +10,8 @@
 //! `plays` runs each test on a registry of its own, at a `site`. Tests of one or two threads are `scripts`, and those of eight are
 //! `talks`, whose calls and replies `calls` collects. `telling` writes outcomes and seats as text, `wanted` has assertions, and `failed`
 //! says why a test can't continue.
+//!
+//! `docs/GLOSSARY.md` explains the terms.
 #![tactic(auto)]
 
 #[cfg(test)]

@@ -11,6 +11,8 @@
 //! - [`Failure`]: the error of a call: a refusal, or out of memory.
 //!
 //! The rules are those of the SPIFFE-ID specification, narrowed in places: see `docs/NAMES.md`.
+//!
+//! `docs/GLOSSARY.md` explains the terms.
 #![tactic(auto)]
 
 mod laws;

@@ -7,6 +7,8 @@
 //! - `selector_sets`: sets of selectors.
 //! - `faults`: tables of texts, each with its first fault.
 //! - `wanted`: assertions.
+//!
+//! `docs/GLOSSARY.md` explains the terms.
 #![tactic(auto)]
 
 #[cfg(test)]

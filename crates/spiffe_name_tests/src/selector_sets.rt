@@ -26,7 +26,7 @@ a!:y a:x a:b:c A:z a:x => A:z a:b:c a:x a!:y
 fn is_ordered(rt: &impl Abort, alloc: Global, given: &str, wanted: &str) -> Result<(), Fail> {
     let set = set_of(alloc, given)?;
     let count = wanted.split_whitespace().count();
-    is_number(rt, set.len(), count, given);
+    is_number(rt, set.len() as u64, count as u64, given);
     holds(rt, set.is_empty() == (count == 0), given);
     for (selector, text) in set.iter().zip(wanted.split_whitespace()) {
         is_text(rt, selector.as_str(), text, given);

@@ -1,4 +1,4 @@
-//! Batches and replies as short texts. This crate is for tests alone.
+//! Test library: batches and replies as short texts. Tests alone use this crate.
 //!
 //! The trust domain is always `ex.org`. An ID is written as its path, that of an agent as its name alone, and an entry or a token as a
 //! number.
@@ -8,6 +8,8 @@
 //! - `marks`: marks as text.
 //! - `telling`: replies as text.
 //! - `failed`: the error of these functions.
+//!
+//! `docs/GLOSSARY.md` explains the terms.
 #![tactic(auto)]
 
 mod draws;

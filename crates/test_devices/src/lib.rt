@@ -1,4 +1,4 @@
-//! Readers and writers over memory for tests. This crate is for tests alone.
+//! Test library: readers and writers over memory. Tests alone use this crate.
 //!
 //! Both have a [`Pace`], which says how much they move in a call, and a [`Trouble`]: they fail, or are interrupted, at the
 //! call of a given number.
@@ -6,6 +6,8 @@
 //! - `giver`: a [`Giver`] is a reader. It shows which bytes it hasn't returned yet, and how often it was called.
 //! - `taker`: a [`Taker`] is a writer. It shows the bytes that it got, and how often it was called and flushed.
 //! - `pace` and `trouble`: what the two have in common.
+//!
+//! `docs/GLOSSARY.md` explains the terms.
 #![tactic(auto)]
 
 mod giver;

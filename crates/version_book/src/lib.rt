@@ -47,6 +47,8 @@
 //! - `names`: what all versions of a book have in common.
 //! - `row`: the key of a row, and whether a mark names it; `hits`: which writes hit a mark; `overlay`: what a mark reads after
 //!   writes; `page`: which rows a page lists.
+//!
+//! `docs/GLOSSARY.md` explains the terms.
 #![tactic(auto)]
 
 mod changes;

@@ -4,9 +4,10 @@
 //!
 //! - `worked`: the marks of small books, as tables. `playing` plays a table.
 //! - `random`: long histories of random operations from `draws`, compared with plain lists of their rows from `listed`.
-//! - `running`: the version after a batch, whose writes a work of `batch_work` computes.
 //! - `marks`: marks from words; `rows`: rows as lines of text.
-//! - `values`: values of any type; `wanted`: assertions.
+//! - `wanted`: assertions. `test_works` makes the version after a batch, whose writes a work of `batch_work` computes.
+//!
+//! `docs/GLOSSARY.md` explains the terms.
 #![tactic(auto)]
 
 #[cfg(test)]
@@ -21,10 +22,6 @@ mod playing;
 mod random;
 #[cfg(test)]
 mod rows;
-#[cfg(test)]
-mod running;
-#[cfg(test)]
-mod values;
 #[cfg(test)]
 mod wanted;
 #[cfg(test)]

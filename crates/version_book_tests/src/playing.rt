@@ -4,14 +4,14 @@ use crate::marks::mark_of;
 use crate::rows::{
     add_agents, add_bundles, add_entries, add_tokens, add_writes, aliases_text, read_text,
 };
-use crate::running::{ended, next_of};
-use crate::values::{add_some, beside, one, where_done};
 use crate::wanted::{holds, is_text};
 use batch_work::{Status, Work};
 use std::alloc::{AllocError, Global};
 use std::process::Abort;
 use std::test::Fail;
 use test_batches::{Failed, batch, number, trust_domain, word, words};
+use test_support::{add_some, beside, one, where_done};
+use test_works::{ended, next_of};
 use version_book::{Changes, Mark, RowCounts, Version};
 
 /// A version, the batch that led to it, and its writes, also as text.

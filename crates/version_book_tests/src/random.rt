@@ -5,12 +5,12 @@ use crate::listed::{Listed, own_mark, told};
 use crate::marks::mark_of;
 use crate::playing::{Step, first_step, go_on, number_of};
 use crate::rows::{asked_text, read_text, read_up_to, through_text};
-use crate::values::{add, beside, where_done};
 use crate::wanted::{holds, is_text};
 use std::alloc::{AllocError, Global};
 use std::process::Abort;
 use std::test::Fail;
 use test_batches::{number, word, words};
+use test_support::{add, beside, where_done};
 use version_book::{Changes, Mark, Version};
 
 const MARKS: &str = "\

@@ -52,6 +52,8 @@
 //! - `shared_row`: a row that several pages share.
 //!
 //! Nothing outside this crate depends on the pages.
+//!
+//! `docs/GLOSSARY.md` explains the terms.
 #![tactic(auto)]
 
 mod bound;

@@ -2,6 +2,7 @@
 
 ghost use Rattle.std.specs.Prelude.{◌<◌, ◌≤◌};
 
+use crate::bounds::is_met;
 use crate::counted_keys::{CountedKey, Counts};
 use crate::wanted::{holds, is_number};
 use std::alloc::AllocError;
@@ -47,7 +48,7 @@ fn assert_calls_are_cheap<'a>(
     counts.comparisons();
     is_number(rt, shelf.clone()?.len() as u64, rows, "clone");
     for value in 0..2 * rows + 1 {
-        holds(rt, shelf.has_room(), "has_room");
+        is_met(rt, shelf.has_room(), "has_room");
         counts.are_at_most(rt, 0, "len, clone and has_room");
         let lo = counts.number(value / 2);
         let key = counts.number(value);
@@ -77,7 +78,7 @@ fn with_next<'a>(
 ) -> Result<CountedShelf<'a>, AllocError>
     requires { row < 70 }
 {
-    holds(rt, shelf.has_room(), "has_room");
+    is_met(rt, shelf.has_room(), "has_room");
     shelf.with(counts.number(2 * row + 1), counts.number(row))
 }
 

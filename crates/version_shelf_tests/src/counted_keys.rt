@@ -4,7 +4,7 @@ ghost use Rattle.std.specs.Prelude.{Some, refl, nat_eq, ◌≡◌};
 ghost use Rattle.std.specs.Cmp.{nat_cmp_total, nat_eq_equiv, partial_equiv_from_equiv, partial_order_from_agreeing_total, unsigned_ties};
 ghost use Rattle.std.specs.Ordering.{nat_cmp};
 
-use crate::wanted::is_at_most;
+use crate::bounds::is_at_most;
 use std::alloc::AllocError;
 use std::cell::Cell;
 use std::cmp::Ordering;

@@ -3,8 +3,9 @@
 
 ghost use Rattle.std.specs.Prelude.{◌<◌};
 
+use crate::bounds::{is_at_most, is_met};
 use crate::counted_keys::{CountedKey, Counts};
-use crate::wanted::{holds, is_at_most, is_number};
+use crate::wanted::{holds, is_number};
 use std::alloc::{AllocError, Global};
 use std::process::Abort;
 use std::test::Fail;
@@ -70,7 +71,7 @@ fn with_key<'a>(
     turn: u64,
 ) -> Result<CountedShelf<'a>, AllocError> {
     let mut count = Count::new();
-    holds(rt, shelf.has_room(), "has_room");
+    is_met(rt, shelf.has_room(), "has_room");
     let more = shelf.with_counted(counts.number(key), counts.number(turn), &mut count)?;
     assert_change(rt, count.number(), counts);
     Ok(more)

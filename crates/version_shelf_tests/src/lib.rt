@@ -10,9 +10,13 @@
 //! - `scripts`: scripts that make shelves and read them.
 //! - `keys`: keys and values for these tests.
 //! - `counted_keys`: keys whose comparisons and copies are counted.
-//! - `wanted`: assertions.
+//! - `wanted`: assertions; `bounds`: those that these tests alone need.
+//!
+//! `docs/GLOSSARY.md` explains the terms.
 #![tactic(auto)]
 
+#[cfg(test)]
+mod bounds;
 #[cfg(test)]
 mod comparisons;
 #[cfg(test)]

@@ -2,6 +2,7 @@
 
 ghost use Rattle.std.specs.Prelude.{◌<◌};
 
+use crate::bounds::is_met;
 use crate::wanted::{holds, is_number};
 use std::alloc::Global;
 use std::process::Abort;
@@ -58,7 +59,7 @@ fn change(rt: &impl Abort, pair: &mut Pair, draws: &mut Draws, turn: u64) -> Res
         .expect(rt, "a place for each key");
     if draws.below(3) > 0 {
         *place = Some(turn);
-        holds(rt, pair.shelf.has_room(), "has_room");
+        is_met(rt, pair.shelf.has_room(), "has_room");
         pair.shelf = pair.shelf.with(key, turn)?;
     } else {
         *place = None;

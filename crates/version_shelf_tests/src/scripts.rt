@@ -2,7 +2,8 @@
 
 ghost use Rattle.version_shelf.specs.Shelf.{ClonesEqual};
 
-use crate::wanted::{holds, is_text};
+use crate::bounds::is_met;
+use crate::wanted::is_text;
 use std::alloc::Global;
 use std::process::Abort;
 use std::test::Fail;
@@ -38,7 +39,7 @@ fn with_row<K: Ord + Clone + Told + Drop, V: Clone + Told + Drop>(
     let (key, value) = row.split_once(' ').unwrap_or((row, ""));
     let key = K::of_text(alloc, key)?;
     let value = V::of_text(alloc, value)?;
-    holds(rt, shelf.has_room(), "has_room");
+    is_met(rt, shelf.has_room(), "has_room");
     Ok(shelf.with(key, value)?)
 }
 

@@ -4,11 +4,11 @@ use Rattle.version_book.specs.Applying.{MayApply}
 use Rattle.entry_book.specs.Laws.{IsWithinLimits}
 use Rattle.version_book.specs.CommittedRows.{book_of, row_of}
 use Rattle.version_book.specs.Written.{placed}
-use Rattle.batch_work_tests.proofs.Tested.{may_apply}
-use Rattle.batch_work_tests.proofs.running.applied.Goals as goal
+use Rattle.test_works.proofs.Tested.{may_apply}
+use Rattle.test_works.proofs.running.applied.Goals as goal
 
-pub apply-requires : goal.apply-requires
-apply-requires c =
+pub made-requires : goal.made-requires
+made-requires c =
     let s = c.args.version.now in
     let same : s.number + 1 ≡ c.number-number.result + 1 = omega (arith, c.number-number.ensures.number) in
     let e = ap (λ n. n.entries) c.count-count.ensures in
@@ -22,4 +22,4 @@ apply-requires c =
       tokens = omega (arith, length-map s.rows.tokens row_of);
     } in
     let may : MayApply (placed (s.number + 1) c.args.changes.now) (s.number + 1) s = may_apply c.args.batch.now s c.args.changes.now c.requires.accepted.0 c.requires.accepted.1 c.ops.ensures.made c.requires.domain c.number-number.ensures.lawful few c.requires.kept c.places.ensures.put c.applying.ensures in
-    record { may = subst (λ n. MayApply (placed n c.args.changes.now) n s) same may }
+    subst (λ n. MayApply (placed n c.args.changes.now) n s) same may

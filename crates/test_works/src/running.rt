@@ -1,4 +1,4 @@
-//! The version after a batch: a work computes the writes on the version before, which applies them.
+//! Works, run to their end, and the version after one: a work computes the writes on the version before, which applies them.
 
 ghost use Rattle.std.specs.Prelude.{◌≡◌, ◌+◌, IfOk, List, None, false, true};
 ghost use Rattle.entry_book.specs.Book.{token_at};
@@ -10,31 +10,32 @@ ghost use Rattle.version_book.specs.Written.{placed};
 ghost use Rattle.batch_work.specs.declared.status.Status.TheVariants as status;
 ghost use Rattle.batch_work.specs.Working.{IsAccepted, MayBegin, status_of};
 
-use crate::values::{beside, where_done};
 use batch_work::{Status, Window, Work};
 use entry_book::Batch;
 use std::alloc::{AllocError, Global};
 use std::test::Fail;
+use test_support::{beside, where_done};
 use uuid::Uuid;
 use version_book::{Changes, Mark, Version, laws};
 
 /// A bound on the length of the histories of these tests.
-const MOST: u64 = 1_000_000;
+pub const MOST: u64 = 1_000_000;
 
 /// A bound on the number of steps of a work in these tests.
-const STEPS: u64 = 10_000;
+pub const STEPS: u64 = 10_000;
 
-fn may_begin(window: &Window, batch: &Batch) -> bool
+/// Returns true if a work of the batch may begin on the window.
+pub fn may_begin(window: &Window, batch: &Batch) -> bool
     ensures { result ≡ true → MayBegin batch.now window.now }
 {
     batch.domain() == window.newest().domain() && window.newest().number() <= MOST
 }
 
 /// A work of the batch, begun on the window.
-fn begun_on(alloc: Global, window: &Window, batch: Batch) -> Result<Work, Fail> {
+pub fn begun(alloc: Global, window: &Window, batch: Batch) -> Result<Work, Fail> {
     if !may_begin(window, &batch) {
         drop(batch);
-        return Err(Fail::from("no version for this batch"));
+        return Err(Fail::from("no window for this batch"));
     }
     let mut work = Work::new(alloc, batch);
     let begun = work.begin(window);
@@ -42,10 +43,10 @@ fn begun_on(alloc: Global, window: &Window, batch: Batch) -> Result<Work, Fail> 
 }
 
 /// A work of the batch, begun on the version.
-fn begun(alloc: Global, version: &Version, batch: Batch) -> Result<Work, Fail> {
+fn begun_on_version(alloc: Global, version: &Version, batch: Batch) -> Result<Work, Fail> {
     let (batch, copy) = beside(batch, version.clone())?;
     let window = Window::of(copy);
-    let work = begun_on(alloc, &window, batch);
+    let work = begun(alloc, &window, batch);
     drop(window);
     work
 }
@@ -62,7 +63,7 @@ fn run_to_end(work: &mut Work) -> Result<(), AllocError> {
 
 /// The work of the batch on the version, at its end.
 pub fn ended(alloc: Global, version: &Version, batch: Batch) -> Result<Work, Fail> {
-    let mut work = begun(alloc, version, batch)?;
+    let mut work = begun_on_version(alloc, version, batch)?;
     let ended = run_to_end(&mut work);
     Ok(where_done(ended, work)?)
 }
