@@ -2,8 +2,9 @@
 
 ghost use Rattle.std.specs.Prelude.{◌≡◌};
 
-use crate::check::{know_ops, know_token, refusal_of};
+use crate::check::refusal_of;
 use crate::fault::BatchRefusal;
+use crate::invariants::{know_ops, know_token};
 use crate::op::Op;
 use crate::sequence::Sequence;
 use crate::shared::Shared;

@@ -29,6 +29,7 @@ mod check;
 mod domains;
 mod entry;
 mod fault;
+mod invariants;
 mod kept;
 pub mod laws;
 mod limit;

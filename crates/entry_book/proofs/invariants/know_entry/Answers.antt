@@ -3,7 +3,7 @@ use Rattle.std.specs.List.{AllByRecursion}
 use Rattle.spiffe_name.specs.Domain.{IsDomain}
 use Rattle.entry_book.specs.Rows.{IsId}
 use Rattle.spiffe_name.specs.SelectorSet.{IsSelectorSet}
-use Rattle.entry_book.proofs.check.know_entry.Goals as goal
+use Rattle.entry_book.proofs.invariants.know_entry.Goals as goal
 
 pub returns : goal.returns
 returns c = record {
