@@ -19,11 +19,13 @@
 //!   of each record.
 //! - [`one_line_law`] says that no printed line contains a line feed.
 //!
-//! - `printing`: which bytes print a value; `laws`: what is printed parses back, and each line is one line.
+//! - `printing`: which bytes print a value; `laws`: what is printed parses back, and each line is one line;
+//!   `invariants`: the type invariants of a record's parts, for the prover.
 //!
 //! `docs/GLOSSARY.md` explains the terms.
 #![tactic(auto)]
 
+mod invariants;
 mod laws;
 mod printing;
 

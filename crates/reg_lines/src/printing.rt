@@ -4,7 +4,7 @@
 //! - `names`, `book_rows`: the rows of a book; `marks`: the entries of a read set.
 //! - `replies`, `lent_replies`, `events`, `refusal`, `seats`: the lines of the output.
 //! - `batches`, `records`: the batch of a call, as its record has it.
-//! - `values`: which JSON values these lines are; `written`: the type invariants of a record's parts.
+//! - `values`: which JSON values these lines are.
 
 pub(crate) mod batches;
 pub(crate) mod book_rows;
@@ -19,7 +19,6 @@ pub(crate) mod replies;
 pub(crate) mod seats;
 pub(crate) mod text;
 pub(crate) mod values;
-pub(crate) mod written;
 
 pub use events::{CallOrder, EventRefused};
 pub use lent_replies::LentCallReply;

@@ -2,9 +2,9 @@
 
 ghost use Rattle.reg_lines.specs.RecordLines.{record_json};
 
+use crate::invariants::Written;
 use crate::printing::print_json::{PrintJson, print_number};
 use crate::printing::replies::CallReply;
-use crate::printing::written::Written;
 use call_answers::{CallAnswer, KnownCall};
 use entry_book::{Batch, Reply};
 use line_devices::{Output, Sink};
