@@ -1,4 +1,4 @@
-//! Where can a test stop a thread that runs a batch of changes?
+//! A test hook: where can a test stop a thread that runs a batch of changes?
 
 /// A point in a try of a batch of changes.
 #[derive(Clone, Copy, Debug, PartialEq, Eq, Drop)]

@@ -31,7 +31,8 @@
 //! - `history`: the one history, and the prefixes of it that were seen; `published` and `rule`: the state that readers look
 //!   at, and the invariant that each step over it preserves; `run`: how a batch of changes runs on the published state;
 //!   `desk` and `commit`: the state under the lock, and the commit on it; `recent`: boards that are retained; `seat` and
-//!   `registry`: the calls of the two types; `outcome` and `gate`; `laws`: a theorem that follows from the contracts.
+//!   `registry`: the calls of the two types; `reading`: how a seat looks at the published state; `outcome`; `gate`: the test
+//!   hook; `laws`: a theorem that follows from the contracts.
 //!
 //! A statement such as `let _place = seat.place();` has no effect at run time. It brings the contract of the call, mostly
 //! an invariant of its value, into the proof, which fails without it.
@@ -46,6 +47,7 @@ mod history;
 mod laws;
 mod outcome;
 mod published;
+mod reading;
 mod recent;
 mod registry;
 mod rule;

@@ -2,7 +2,7 @@ use Rattle.std.proofs.Common.{ap, ◌∙◌}
 use Rattle.std.proofs.lemmas.Result.{IfOk-weaker}
 use Rattle.batch_work.specs.Working.{base_in, reply_there}
 use Rattle.shared_registry.proofs.Answered.{answer_is, place_is}
-use Rattle.shared_registry.proofs.seat.lent_answer.Goals as goal
+use Rattle.shared_registry.proofs.reading.lent_answer.Goals as goal
 
 pub returns-clause-answer : goal.returns-clause-answer
 returns-clause-answer c =
