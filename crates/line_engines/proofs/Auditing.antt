@@ -15,7 +15,8 @@ use Rattle.call_audit.specs.Audits.{judged, judged_spelled}
 use Rattle.call_audit.specs.Texts.{verdict_json}
 use Rattle.call_audit.specs.Verdicts.{verdict_by, verdict_of, verdict_on}
 use Rattle.line_engines.specs.Answers.{as_line}
-use Rattle.line_engines.specs.Audited.{AnswersRecord, AuditKept, Audited, AuditsLine, ClosesWithVerdict, HasNoFault, LeavesBehind, RunsAudit, StandsFor, TellsVerdict, denied, is_over, outcome_by, outcome_of, past, start, taken, verdict_in, verdict_over, wanting}
+use Rattle.line_engines.specs.Audited.{AnswersRecord, Audited, ClosesWithVerdict, HasNoFault, LeavesBehind, RunsAudit, TellsVerdict, denied, is_over, outcome_by, past, start, taken, verdict_in, verdict_over, wanting}
+use Rattle.line_engines.specs.AuditedPrivate.{AuditKept, AuditsLine, StandsFor, outcome_of}
 use Rattle.line_engines.specs.Driver.{AnswersKept, AppendsClosed, ClosesAs, Goes, LeavesLines, RunsOver, Steps, TakesSoFar, TakesUntilEnd}
 use Rattle.line_engines.specs.declared.audit_engine.Over.{Over}
 use Rattle.line_engines.specs.declared.audit_engine.Over.TheVariants.{Denied, NoMemory}

@@ -7,7 +7,8 @@ use Rattle.line_devices.specs.Runs.{AppendsRun, IsRun, StepsKept, TakesLines, fi
 use Rattle.line_devices.specs.Stream.{InputState, IsOut, OutputState, Puts}
 use Rattle.line_devices.proofs.Puts.{Puts-then, Puts-same}
 use Rattle.line_devices.proofs.RunLemmas.{IsOnTheWay, RunsFrom, RunsFrom-start, RunsFrom-flush, RunsFrom-more, IsRun-on, IsRun-append, AppendsRun-so_far, all_put, front_put, front_longer, lines_done, lines_end, lines_more}
-use Rattle.line_engines.specs.Driver.{AnswersKept, AppendsClosed, AppendsClosedFront, Closes, ClosesAs, FailsToClose, Goes, IsClosedRun, LeavesLines, MayClose, RunsOver, Steps, TakesNoMore, TakesSoFar, TakesUntilEnd}
+use Rattle.line_engines.specs.Driver.{AnswersKept, AppendsClosed, AppendsClosedFront, Closes, ClosesAs, Goes, IsClosedRun, LeavesLines, MayClose, RunsOver, Steps, TakesNoMore, TakesSoFar, TakesUntilEnd}
+use Rattle.line_engines.specs.DriverPrivate.{FailsToClose}
 use Rattle.line_engines.specs.declared.fault.RunFault.{RunFault}
 use Rattle.line_engines.specs.declared.fault.RunFault.TheVariants as fault
 

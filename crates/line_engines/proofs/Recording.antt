@@ -41,9 +41,11 @@ use Rattle.reg_lines.specs.declared.printing.records.CallRecord.{CallRecord}
 use Rattle.line_engines.specs.Answers.{as_line}
 use Rattle.line_devices.specs.Lines.{most_lines}
 use Rattle.line_engines.specs.Driver.{AnswersKept, AppendsClosed, Closes, ClosesAs, RunsOver}
-use Rattle.line_engines.specs.Recorded.{AppendsAllRecords, AppendsRecords, AreLegal, AreRecords, ClosesRecording, ClosesWithRecords, HasStamps, IsEnded, IsEndedAt, IsNotPast, IsRecordOf, IsWritten, KeepsRecording, RecordKept, Recorded, Recording, RecordsLine, RunsRecord, StampsInOrder, TellsRecords, events_by, events_of, first_recording, record_line, was_lost, was_taken}
+use Rattle.line_engines.specs.Recorded.{AppendsAllRecords, AppendsRecords, AreLegal, AreRecords, ClosesRecording, ClosesWithRecords, HasStamps, IsEnded, IsEndedAt, IsNotPast, IsRecordOf, IsWritten, Recorded, Recording, RecordsLine, RunsRecord, StampsInOrder, TellsRecords, events_by, events_of, first_recording, record_line, was_lost, was_taken}
+use Rattle.line_engines.specs.RecordedPrivate.{KeepsRecording, RecordKept}
 use Rattle.line_engines.specs.declared.fault.RunFault.{RunFault}
-use Rattle.line_engines.specs.Schedules.{ScheduleKept, Scheduled, TakesEvent, TakesKept, lacks_memory, passed, start, stepped, took, took_none}
+use Rattle.line_engines.specs.Schedules.{Scheduled, TakesEvent, lacks_memory, passed, start, stepped, took, took_none}
+use Rattle.line_engines.specs.SchedulesPrivate.{ScheduleKept, TakesKept}
 
 -- ---- one record after another
 

@@ -5,7 +5,8 @@ use Rattle.entry_book.specs.Book.{Book}
 use Rattle.line_devices.specs.Lines.{kept, IsLine}
 use Rattle.line_devices.specs.Stream.{OutputState}
 use Rattle.line_reading.proofs.Kept.{kept_spells}
-use Rattle.line_engines.specs.Answers.{Answers, AnswersLine, Keeping, Running, StandsFor, refused, replied, not_read, not_run}
+use Rattle.line_engines.specs.Answers.{Answers, Running, refused, replied, not_read, not_run}
+use Rattle.line_engines.specs.AnswersPrivate.{AnswersLine, Keeping, StandsFor}
 use Rattle.line_engines.specs.Driver.{AnswersKept}
 
 same_state : (a b : Running) → a.books ≡ b.books → a.ids ≡ b.ids → a.calls ≡ b.calls → a.lines ≡ b.lines → a ≡ b

@@ -20,7 +20,8 @@ use Rattle.line_reading.specs.declared.refusal.LineRefusal.{LineRefusal}
 use Rattle.line_reading.proofs.EventDomain.{spelled_event-domain}
 use Rattle.line_reading.proofs.Kept.{kept_spells_event}
 use Rattle.line_engines.specs.Answers.{as_line}
-use Rattle.line_engines.specs.Schedules.{AnswersEvent, AnswersOrLoses, Applied, LosesLine, LosesOrTakes, ScheduleKept, Scheduled, StandsFor, TakesEvent, TakesEventLine, TakesKept, applied, is_unread, lacks_memory, not_read, passed, refused, stepped, took, took_none, unapplied, unread}
+use Rattle.line_engines.specs.Schedules.{AnswersEvent, LosesLine, Scheduled, TakesEvent, applied, lacks_memory, not_read, passed, refused, stepped, took, took_none, unapplied, unread}
+use Rattle.line_engines.specs.SchedulesPrivate.{AnswersOrLoses, Applied, LosesOrTakes, ScheduleKept, StandsFor, TakesEventLine, TakesKept, is_unread}
 
 -- ---- one line
 

@@ -1,5 +1,5 @@
 -- What the engine `audit` stores from line to line, and what it reports at the end.
-use Rattle.std.specs.Prelude.{◌≡◌, ℕ, ◌+◌, Bool, ⊤, List, [], ◌∷◌, ◌++◌, length, Option, None, Some, is_some, Result, Ok, Err, IfErr, IfOk, IfSome, refl}
+use Rattle.std.specs.Prelude.{◌≡◌, ℕ, ◌+◌, Bool, ⊤, List, [], ◌∷◌, ◌++◌, length, Option, None, Some, is_some, Result, Ok, Err, IfErr, IfOk, IfSome}
 use Rattle.std.specs.Io.KnownBytes.{Appends}
 use Rattle.line_devices.specs.Lines.{most_lines}
 use Rattle.line_reading.specs.Records.{AuditRecord}
@@ -9,7 +9,6 @@ use Rattle.call_audit.specs.declared.cause.Cause.{Cause}
 use Rattle.call_audit.specs.declared.verdict.Verdict.{Verdict}
 use Rattle.call_audit.specs.declared.verdict.Verdict.TheVariants.{Yes, No}
 use Rattle.call_audit.specs.Audits.{judged}
-use Rattle.call_audit.specs.Keeps.{AuditState, Keeps}
 use Rattle.call_audit.specs.Texts.{verdict_json}
 use Rattle.call_audit.specs.Verdicts.{verdict_of}
 use Rattle.line_engines.specs.Answers.{as_line}
@@ -40,14 +39,6 @@ pub data AnswersRecord (domain : List ℕ) (now : Audited) (line : List ℕ) (ne
   wanting : now.over ≡ None → next ≡ record { records = now.records; over = Some NoMemory } → reply ≡ [] → AnswersRecord domain now line next reply
   past : (over : Over) → now.over ≡ Some over → next ≡ now → reply ≡ [] → AnswersRecord domain now line next reply
 
--- Each line has a result in every state: at least that for out of memory.
-an_audit_by : (domain : List ℕ) (now : Audited) (line : List ℕ) (over : Option Over) → now.over ≡ over → (next : Audited) × (reply : List ℕ) × AnswersRecord domain now line next reply
-an_audit_by domain now line None e = (record { records = now.records; over = Some NoMemory }, [], wanting e refl refl)
-an_audit_by domain now line (Some over) e = (now, [], past over e refl refl)
-
-pub an_audit : (domain : List ℕ) (now : Audited) (line : List ℕ) → (next : Audited) × (reply : List ℕ) × AnswersRecord domain now line next reply
-an_audit domain now line = an_audit_by domain now line now.over refl
-
 -- ---- the end
 
 abbrev pub verdict_over : Option Over → ℕ → Option Verdict
@@ -61,11 +52,6 @@ verdict_in last = verdict_over last.over (length last.records)
 -- the last text is the line of the verdict; there is none if memory ran out
 abbrev pub ClosesWithVerdict : Audited → List ℕ → Type 0
 ClosesWithVerdict last end = (verdict : Verdict) × (verdict_in last ≡ Some verdict) × (end ≡ as_line (verdict_json verdict))
-
-abbrev pub outcome_of : Option Over → Outcome
-outcome_of None = outcome.Done
-outcome_of (Some (Denied line cause)) = outcome.Denied
-outcome_of (Some NoMemory) = outcome.Done
 
 abbrev pub outcome_by : Verdict → Outcome
 outcome_by (Yes calls) = outcome.Done
@@ -91,21 +77,3 @@ pub record RunsAudit (domain : List ℕ) (input rest : InputState) (output out :
   pub told : IfOk result (λ outcome. IfSome input.left (λ bytes. TellsVerdict (verdict_of domain (first_lines most_lines bytes)) outcome output.written out.written))
   pub left : IfOk result (λ outcome. IfSome input.left (λ bytes. LeavesBehind (verdict_of domain (first_lines most_lines bytes)) bytes rest.left))
   pub failed : IfErr result (λ e. e ≡ fault.Input → IfSome input.left (λ bytes. HasNoFault domain bytes rest.left))
-
--- ---- the state that the engine stores
-
-pub record AuditKept : Type 0 where
-  pub auditor : AuditState
-  pub lines : ℕ
-  pub over : Option Over
-
--- the auditor represents the records, unless the run is over
-pub record StandsFor (kept : AuditKept) (now : Audited) : Type 0 where
-  pub over : now.over ≡ kept.over
-  pub keeps : kept.over ≡ None → Keeps kept.auditor now.records
-
--- the result of auditing one line after these records; if memory runs out, nothing is said
-abbrev pub AuditsLine : List ℕ → List AuditRecord → List ℕ → AuditState → Option Over → Type 0
-AuditsLine domain records line auditor None = (r : AuditRecord) × (judged domain records line ≡ Ok r) × Keeps auditor (records ++ r ∷ [])
-AuditsLine domain records line auditor (Some (Denied number cause)) = (number ≡ length records + 1) × (judged domain records line ≡ Err cause)
-AuditsLine domain records line auditor (Some NoMemory) = ⊤

@@ -24,13 +24,6 @@ Closes closes now old new = (end : List ℕ) × closes now end × Puts old new e
 abbrev pub ClosesAs : {State : Type 0} → (State → List ℕ → Type 0) → (State → Type 0) → State → List ℕ → Type 0
 ClosesAs closes stands now end = closes now end × stands now
 
--- memory ran out for the last text, as the engine allows: none of it was put, and everything that was put before is out
-pub record FailsToClose (wants : Type 0) (old new : OutputState) : Type 0 where
-  pub may : wants
-  pub none_put : Puts old new []
-  pub not_failed : new.failures ≡ 0
-  pub out : IsOut new
-
 -- the last text, or nothing
 abbrev pub MayClose : {State : Type 0} → (State → List ℕ → Type 0) → State → List ℕ → Type 0
 MayClose closes now end = closes now end ⊎ (end ≡ [])

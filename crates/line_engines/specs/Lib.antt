@@ -1,6 +1,11 @@
 pub mod Answers
+pub mod AnswersPrivate
 pub mod Audited
+pub mod AuditedPrivate
 pub mod Confirmed
 pub mod Driver
+pub mod DriverPrivate
 pub mod Recorded
+pub mod RecordedPrivate
 pub mod Schedules
+pub mod SchedulesPrivate

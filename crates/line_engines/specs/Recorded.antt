@@ -1,5 +1,5 @@
 -- What the engine `record` writes: nothing line by line, and at the end the records of the machine's calls.
-use Rattle.std.specs.Prelude.{◌≡◌, ◌↔◌, ◌+◌, ◌<◌, ◌≤◌, ℕ, true, false, ⊤, List, [], ◌∷◌, Option, None, Some, Result, Ok, Err, IfOk, IfSome, refl}
+use Rattle.std.specs.Prelude.{◌≡◌, ◌↔◌, ◌+◌, ◌<◌, ◌≤◌, ℕ, true, false, ⊤, List, [], ◌∷◌, Option, None, Some, Result, Ok, Err, IfOk, IfSome}
 use Rattle.std.specs.Io.KnownBytes.{Appends}
 use Rattle.std.specs.List.{AllByRecursion, flat_map}
 use Rattle.rand_chacha.specs.ChaCha.{ChaCha}
@@ -27,7 +27,7 @@ use Rattle.reg_lines.specs.Spelled.{IsWrittenBatch, IsWrittenCall}
 use Rattle.line_devices.specs.Stream.{InputState, OutputState}
 use Rattle.line_engines.specs.Answers.{as_line}
 use Rattle.line_engines.specs.Driver.{RunsOver}
-use Rattle.line_engines.specs.Schedules.{LosesLine, ScheduleKept, Scheduled, StandsFor, TakesEvent, lacks_memory, passed, start, unread}
+use Rattle.line_engines.specs.Schedules.{LosesLine, Scheduled, TakesEvent, lacks_memory, start}
 use Rattle.line_engines.specs.declared.fault.RunFault.{RunFault}
 
 -- ---- a record, and properties of a list of records that mention no machine
@@ -132,10 +132,6 @@ ClosesWithRecords domain last end = (order : List ℕ) × (recorded : List Recor
 abbrev pub ClosesRecording : List ℕ → Recording → List ℕ → Type 0
 ClosesRecording domain last end = ClosesWithRecords domain last.scheduled end
 
--- any line may be lost, in every state
-pub a_line_recorded : (domain : List ℕ) (now : Recording) (line : List ℕ) → (next : Recording) × (reply : List ℕ) × RecordsLine domain now line next reply
-a_line_recorded domain now line = (record { scheduled = passed now.scheduled; lost = now.lost + 1 }, [], was_lost (unread refl) refl refl)
-
 -- The lines were taken or lost, in order, and `lost` of them were lost. Known bytes grow by the records alone.
 abbrev pub AppendsRecords : List ℕ → List ℕ → List (List ℕ) → ℕ → Option (List ℕ) → Option (List ℕ) → Type 0
 AppendsRecords domain seed lines lost old new = (last : Recording) × (end : List ℕ) × IsRun (RecordsLine domain) (first_recording domain seed) lines last [] × (last.lost ≡ lost) × ClosesRecording domain last end × Appends old new end
@@ -168,12 +164,3 @@ pub record RunsRecord (domain seed : List ℕ) (input rest : InputState) (output
   pub run : RunsOver (RecordsLine domain) (ClosesRecording domain) ⊤ (first_recording domain seed) input rest output out result
   pub alone : IfOk result (λ lost. IfSome input.left (λ bytes. AppendsRecords domain seed (first_lines most_lines bytes) lost output.written out.written))
   pub all : IfOk result (λ lost. lost ≡ 0 → IfSome input.left (λ bytes. AppendsAllRecords domain seed (first_lines most_lines bytes) output.written out.written))
-
--- ---- the state that the engine stores
-
-pub record RecordKept : Type 0 where
-  pub schedule : ScheduleKept
-  pub lost : ℕ
-
-abbrev pub KeepsRecording : RecordKept → Recording → Type 0
-KeepsRecording kept now = StandsFor kept.schedule now.scheduled × (now.lost ≡ kept.lost)

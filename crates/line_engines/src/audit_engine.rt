@@ -3,7 +3,8 @@
 ghost use Rattle.std.specs.Prelude.{◌≡◌, ◌+◌, ◌<◌, ◌^◌, [], List};
 ghost use Rattle.line_reading.specs.Records.{AuditRecord};
 ghost use Rattle.call_audit.specs.Keeps.{Keeps};
-ghost use Rattle.line_engines.specs.Audited.{AuditsLine, RunsAudit};
+ghost use Rattle.line_engines.specs.Audited.{RunsAudit};
+ghost use Rattle.line_engines.specs.AuditedPrivate.{AuditsLine};
 
 use crate::driver::{Answerer, run_lines};
 use crate::fault::RunFault;
@@ -55,7 +56,7 @@ struct AuditRun {
 }
 
 impl Model for AuditRun {
-    ghost use Rattle.line_engines.specs.Audited.{AuditKept};
+    ghost use Rattle.line_engines.specs.AuditedPrivate.{AuditKept};
 
     ghost Value = { AuditKept };
 
@@ -64,7 +65,8 @@ impl Model for AuditRun {
 
 impl AuditRun {
     ghost use Rattle.std.specs.Prelude.{◌≡◌, IfOk};
-    ghost use Rattle.line_engines.specs.Audited.{Audited, StandsFor, outcome_of, start, verdict_in};
+    ghost use Rattle.line_engines.specs.Audited.{Audited, start, verdict_in};
+    ghost use Rattle.line_engines.specs.AuditedPrivate.{StandsFor, outcome_of};
 
     /// The state before the first line. The error is out of memory.
     fn new(alloc: Global, domain: TrustDomain) -> Result<AuditRun, AllocError>
@@ -103,7 +105,8 @@ impl AuditRun {
 
 impl Answerer for AuditRun {
     ghost use Rattle.std.specs.Prelude.{ℕ, List, ⊤};
-    ghost use Rattle.line_engines.specs.Audited.{AnswersRecord, Audited, ClosesWithVerdict, StandsFor, an_audit, is_over};
+    ghost use Rattle.line_engines.specs.Audited.{AnswersRecord, Audited, ClosesWithVerdict, is_over};
+    ghost use Rattle.line_engines.specs.AuditedPrivate.{StandsFor, an_audit};
 
     ghost State = { Audited };
 

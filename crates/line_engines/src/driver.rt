@@ -2,7 +2,8 @@
 
 ghost use Rattle.std.specs.Prelude.{◌≡◌, ◌+◌, ◌<◌, ◌^◌, ◌⊎◌, ℕ, Bool, false, List, [], OnErr, OnOk, IfErr};
 ghost use Rattle.line_devices.specs.Stream.{IsOut, Puts};
-ghost use Rattle.line_engines.specs.Driver.{AnswersKept, Closes, ClosesAs, FailsToClose, RunsOver, Steps, TakesNoMore};
+ghost use Rattle.line_engines.specs.Driver.{AnswersKept, Closes, ClosesAs, RunsOver, Steps, TakesNoMore};
+ghost use Rattle.line_engines.specs.DriverPrivate.{FailsToClose};
 
 use crate::fault::RunFault;
 use line_devices::{Input, Line, Output, Sink, Source, flush_before_waiting, most_lines};

@@ -3,7 +3,8 @@
 ghost use Rattle.std.specs.Prelude.{◌≡◌, ◌+◌, ◌<◌, ◌≤◌, ◌^◌, [], List};
 ghost use Rattle.entry_book.specs.Book.{Book};
 ghost use Rattle.entry_book.specs.History.{Stands};
-ghost use Rattle.line_engines.specs.Answers.{AnswersBatch, AnswersLine, RunsPlain};
+ghost use Rattle.line_engines.specs.Answers.{RunsPlain};
+ghost use Rattle.line_engines.specs.AnswersPrivate.{AnswersBatch, AnswersLine};
 
 use crate::driver::{Answerer, run_lines};
 use crate::fault::RunFault;
@@ -47,7 +48,7 @@ struct PlainRun {
 
 impl Model for PlainRun {
     ghost use Rattle.std.specs.Prelude.{◌≤◌};
-    ghost use Rattle.line_engines.specs.Answers.{Keeping};
+    ghost use Rattle.line_engines.specs.AnswersPrivate.{Keeping};
 
     ghost Value = { Keeping };
 
@@ -58,7 +59,8 @@ impl Model for PlainRun {
 
 impl PlainRun {
     ghost use Rattle.std.specs.Prelude.{◌≡◌, IfOk};
-    ghost use Rattle.line_engines.specs.Answers.{StandsFor, start};
+    ghost use Rattle.line_engines.specs.Answers.{start};
+    ghost use Rattle.line_engines.specs.AnswersPrivate.{StandsFor};
 
     /// The state before the first line. The error is out of memory.
     fn new(alloc: Global, domain: TrustDomain, seed: [u8; 32]) -> Result<PlainRun, AllocError>
@@ -76,7 +78,8 @@ impl PlainRun {
 
 impl Answerer for PlainRun {
     ghost use Rattle.std.specs.Prelude.{ℕ, List, false, ⊤, ◌+◌, refl};
-    ghost use Rattle.line_engines.specs.Answers.{Answers, ClosesWithNothing, Keeping, Running, StandsFor, an_answer};
+    ghost use Rattle.line_engines.specs.Answers.{Answers, ClosesWithNothing, Running};
+    ghost use Rattle.line_engines.specs.AnswersPrivate.{Keeping, StandsFor, an_answer};
 
     ghost State = { Running };
 

@@ -51,7 +51,7 @@ struct RecordRun {
 
 impl Model for RecordRun {
     ghost use Rattle.std.specs.Prelude.{◌≤◌};
-    ghost use Rattle.line_engines.specs.Recorded.{RecordKept};
+    ghost use Rattle.line_engines.specs.RecordedPrivate.{RecordKept};
 
     ghost Value = { RecordKept };
 
@@ -62,7 +62,8 @@ impl Model for RecordRun {
 
 impl RecordRun {
     ghost use Rattle.std.specs.Prelude.{◌≡◌, IfOk};
-    ghost use Rattle.line_engines.specs.Recorded.{KeepsRecording, first_recording};
+    ghost use Rattle.line_engines.specs.Recorded.{first_recording};
+    ghost use Rattle.line_engines.specs.RecordedPrivate.{KeepsRecording};
 
     /// The state before the first line. The error is out of memory.
     fn new(alloc: Global, domain: TrustDomain, seed: [u8; 32]) -> Result<RecordRun, AllocError>
@@ -86,7 +87,8 @@ impl RecordRun {
 
 impl Answerer for RecordRun {
     ghost use Rattle.std.specs.Prelude.{ℕ, List, false, ⊤};
-    ghost use Rattle.line_engines.specs.Recorded.{ClosesRecording, KeepsRecording, Recording, RecordsLine, a_line_recorded};
+    ghost use Rattle.line_engines.specs.Recorded.{ClosesRecording, Recording, RecordsLine};
+    ghost use Rattle.line_engines.specs.RecordedPrivate.{KeepsRecording, a_line_recorded};
 
     ghost State = { Recording };
 

@@ -2,7 +2,8 @@
 
 ghost use Rattle.std.specs.Prelude.{◌≡◌, ◌+◌, ◌<◌, ◌^◌, []};
 ghost use Rattle.call_events.specs.Events.{IsFor};
-ghost use Rattle.line_engines.specs.Schedules.{Applied, RunsSchedule, Scheduled, TakesEventLine, is_lost, line_answer_json};
+ghost use Rattle.line_engines.specs.Schedules.{RunsSchedule, Scheduled};
+ghost use Rattle.line_engines.specs.SchedulesPrivate.{Applied, TakesEventLine, is_lost, line_answer_json};
 
 use crate::driver::{Answerer, run_lines};
 use crate::fault::RunFault;
@@ -48,7 +49,7 @@ pub(crate) struct ScheduleRun {
 
 impl Model for ScheduleRun {
     ghost use Rattle.std.specs.Prelude.{◌≡◌};
-    ghost use Rattle.line_engines.specs.Schedules.{ScheduleKept};
+    ghost use Rattle.line_engines.specs.SchedulesPrivate.{ScheduleKept};
 
     ghost Value = { ScheduleKept };
 
@@ -59,7 +60,8 @@ impl Model for ScheduleRun {
 
 impl ScheduleRun {
     ghost use Rattle.std.specs.Prelude.{◌≡◌, ◌+◌, ◌<◌, ◌^◌, IfOk};
-    ghost use Rattle.line_engines.specs.Schedules.{Scheduled, StandsFor, TakesKept, is_lost, line_answer_json, start};
+    ghost use Rattle.line_engines.specs.Schedules.{Scheduled, start};
+    ghost use Rattle.line_engines.specs.SchedulesPrivate.{StandsFor, TakesKept, is_lost, line_answer_json};
 
     /// The state before the first line. The error is out of memory.
     pub(crate) fn new(
@@ -109,7 +111,8 @@ impl ScheduleRun {
 
 impl Answerer for ScheduleRun {
     ghost use Rattle.std.specs.Prelude.{ℕ, List, false, ⊤};
-    ghost use Rattle.line_engines.specs.Schedules.{AnswersEvent, ClosesWithOrder, Scheduled, StandsFor, an_event_answer};
+    ghost use Rattle.line_engines.specs.Schedules.{AnswersEvent, ClosesWithOrder, Scheduled};
+    ghost use Rattle.line_engines.specs.SchedulesPrivate.{StandsFor, an_event_answer};
 
     ghost State = { Scheduled };
 
@@ -164,7 +167,7 @@ pub(crate) enum LineAnswer {
 
 impl LineAnswer {
     ghost use Rattle.std.specs.Prelude.{◌≡◌};
-    ghost use Rattle.line_engines.specs.Schedules.{is_lost};
+    ghost use Rattle.line_engines.specs.SchedulesPrivate.{is_lost};
 
     /// Returns true if the line was lost for lack of memory.
     pub(crate) fn is_lost(self) -> bool

@@ -4,7 +4,8 @@ use Rattle.std.proofs.lemmas.Grind.{common_steps}
 use Rattle.line_devices.specs.Lines.{most_lines}
 use Rattle.line_devices.specs.Runs.{first_lines}
 use Rattle.call_audit.specs.Verdicts.{verdict_of}
-use Rattle.line_engines.specs.Audited.{AnswersRecord, ClosesWithVerdict, StandsFor, an_audit, is_over, start}
+use Rattle.line_engines.specs.Audited.{AnswersRecord, ClosesWithVerdict, is_over, start}
+use Rattle.line_engines.specs.AuditedPrivate.{StandsFor, an_audit}
 use Rattle.line_engines.specs.Driver.{ClosesAs, RunsOver, Steps, TakesNoMore, TakesSoFar, TakesUntilEnd}
 use Rattle.line_engines.specs.declared.fault.RunFault.TheVariants.{Input, NoMemory}
 use Rattle.line_engines.specs.declared.outcome.Outcome.{Outcome}

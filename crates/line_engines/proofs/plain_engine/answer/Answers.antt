@@ -11,7 +11,8 @@ use Rattle.line_reading.specs.Requests.{spelled}
 use Rattle.line_devices.specs.Stream.{OutputState, Puts}
 use Rattle.line_reading.specs.declared.fault.Fault.{Fault}
 use Rattle.line_reading.specs.declared.request.Request.{Request}
-use Rattle.line_engines.specs.Answers.{AnswersBatch, AnswersLine, Running, as_line, called, passed, refused, replied, not_read, not_run}
+use Rattle.line_engines.specs.Answers.{Running, as_line, called, passed, refused, replied, not_read, not_run}
+use Rattle.line_engines.specs.AnswersPrivate.{AnswersBatch, AnswersLine}
 use Rattle.line_engines.proofs.plain_engine.answer.Goals as goal
 
 -- the line isn't a batch, or memory ran out

@@ -1,6 +1,7 @@
 use Rattle.std.proofs.Common.{◌≡◌, List, ℕ, Err, refl, subst, arith}
 use Rattle.std.proofs.lemmas.Grind.{common_steps}
-use Rattle.line_engines.specs.Answers.{Answers, ClosesWithNothing, RunsPlain, an_answer, start}
+use Rattle.line_engines.specs.Answers.{Answers, ClosesWithNothing, RunsPlain, start}
+use Rattle.line_engines.specs.AnswersPrivate.{an_answer}
 use Rattle.line_engines.specs.declared.fault.RunFault.TheVariants.{NoMemory}
 use Rattle.line_engines.proofs.Driving.{RunsOver-closes, RunsOver-no_memory}
 use Rattle.line_engines.proofs.plain_engine.plain.Goals as goal

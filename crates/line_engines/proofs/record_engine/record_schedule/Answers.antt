@@ -4,7 +4,8 @@ use Rattle.std.proofs.lemmas.Grind.{common_steps}
 use Rattle.line_devices.specs.Lines.{most_lines}
 use Rattle.line_devices.specs.Runs.{first_lines}
 use Rattle.line_engines.specs.Driver.{ClosesAs, RunsOver}
-use Rattle.line_engines.specs.Recorded.{AppendsAllRecords, AppendsRecords, ClosesRecording, KeepsRecording, RecordsLine, RunsRecord, a_line_recorded, first_recording}
+use Rattle.line_engines.specs.Recorded.{AppendsAllRecords, AppendsRecords, ClosesRecording, RecordsLine, RunsRecord, first_recording}
+use Rattle.line_engines.specs.RecordedPrivate.{KeepsRecording, a_line_recorded}
 use Rattle.line_engines.specs.declared.fault.RunFault.TheVariants.{NoMemory}
 use Rattle.line_engines.proofs.Driving.{RunsOver-closes, RunsOver-err, RunsOver-no_memory, RunsOver-ok}
 use Rattle.line_engines.proofs.Recording.{all, alone, fault_recorded}

@@ -2,7 +2,8 @@ use Rattle.std.proofs.Common.{◌≡◌, List, ℕ, Err, refl, subst, arith}
 use Rattle.std.specs.Prelude.{⊤}
 use Rattle.std.proofs.lemmas.Grind.{common_steps}
 use Rattle.line_engines.specs.Driver.{RunsOver}
-use Rattle.line_engines.specs.Schedules.{AnswersEvent, ClosesWithOrder, an_event_answer, start}
+use Rattle.line_engines.specs.Schedules.{AnswersEvent, ClosesWithOrder, start}
+use Rattle.line_engines.specs.SchedulesPrivate.{an_event_answer}
 use Rattle.line_engines.specs.declared.fault.RunFault.TheVariants.{NoMemory}
 use Rattle.line_engines.proofs.Driving.{RunsOver-closes, RunsOver-no_memory}
 use Rattle.line_engines.proofs.schedule_engine.schedule.Goals as goal

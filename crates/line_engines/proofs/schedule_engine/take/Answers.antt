@@ -2,7 +2,7 @@ use Rattle.std.proofs.Common.{◌≡◌, ◌+◌, ap, subst, sym, ◌∙◌}
 use Rattle.std.specs.Prelude.{Ok}
 use Rattle.line_reading.specs.Events.{spelled_event}
 use Rattle.line_reading.specs.Fields.{Fails}
-use Rattle.line_engines.specs.Schedules.{Applied, is_lost, line_answer_json}
+use Rattle.line_engines.specs.SchedulesPrivate.{Applied, is_lost, line_answer_json}
 use Rattle.line_engines.proofs.Scheduling.{event_applied, line_refused}
 use Rattle.line_engines.proofs.schedule_engine.take.Goals as goal
 

@@ -1,6 +1,7 @@
 use Rattle.std.proofs.Common.{◌≡◌, ◌+◌, Bool, false, refl, subst, sym, ◌∙◌}
 use Rattle.std.specs.Prelude.{is_none, is_some}
-use Rattle.line_engines.specs.Audited.{AnswersRecord, AuditKept, Audited, StandsFor, is_over}
+use Rattle.line_engines.specs.Audited.{AnswersRecord, Audited, is_over}
+use Rattle.line_engines.specs.AuditedPrivate.{AuditKept, StandsFor}
 use Rattle.line_engines.specs.Driver.{AnswersKept}
 use Rattle.line_engines.proofs.Auditing.{audited, left_out, none_of, turned}
 use Rattle.line_engines.proofs.audit_engine.AuditRunAnswerer.answer.Goals as goal

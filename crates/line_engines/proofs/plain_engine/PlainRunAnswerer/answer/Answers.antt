@@ -1,5 +1,6 @@
 use Rattle.std.proofs.Common.{◌+◌, true, false, refl, subst, arith}
-use Rattle.line_engines.specs.Answers.{Answers, Keeping, Running, StandsFor}
+use Rattle.line_engines.specs.Answers.{Answers, Running}
+use Rattle.line_engines.specs.AnswersPrivate.{Keeping, StandsFor}
 use Rattle.line_engines.specs.Driver.{AnswersKept}
 use Rattle.line_engines.proofs.Running.{told}
 use Rattle.line_engines.proofs.plain_engine.PlainRunAnswerer.answer.Goals as goal

@@ -1,7 +1,8 @@
 use Rattle.std.proofs.Common.{◌≡◌, ◌+◌, false, true, ap, subst, sym, ◌∙◌}
 use Rattle.line_engines.specs.Driver.{AnswersKept}
-use Rattle.line_engines.specs.Recorded.{KeepsRecording, RecordKept, Recording, RecordsLine}
-use Rattle.line_engines.specs.Schedules.{is_lost, line_answer_json}
+use Rattle.line_engines.specs.Recorded.{Recording, RecordsLine}
+use Rattle.line_engines.specs.RecordedPrivate.{KeepsRecording, RecordKept}
+use Rattle.line_engines.specs.SchedulesPrivate.{is_lost, line_answer_json}
 use Rattle.line_engines.proofs.Recording.{recorded_as_lost, recorded_line}
 use Rattle.line_engines.proofs.record_engine.RecordRunAnswerer.answer.Goals as goal
 

@@ -1,5 +1,6 @@
 use Rattle.std.proofs.Common.{ap, subst, sym, ◌∙◌}
-use Rattle.line_engines.specs.Recorded.{AreRecords, RecordKept}
+use Rattle.line_engines.specs.Recorded.{AreRecords}
+use Rattle.line_engines.specs.RecordedPrivate.{RecordKept}
 use Rattle.line_engines.proofs.Recording.{closed_with_records}
 use Rattle.line_engines.proofs.record_engine.RecordRunAnswerer.close.Goals as goal
 

@@ -1,5 +1,6 @@
 use Rattle.std.proofs.Common.{◌+◌, [], ap, refl, subst, sym, ◌∙◌}
-use Rattle.line_engines.specs.Schedules.{ScheduleKept, Scheduled, StandsFor, TakesKept, is_lost, line_answer_json}
+use Rattle.line_engines.specs.Schedules.{Scheduled}
+use Rattle.line_engines.specs.SchedulesPrivate.{ScheduleKept, StandsFor, TakesKept, is_lost, line_answer_json}
 use Rattle.line_engines.proofs.Scheduling.{scheduled}
 use Rattle.line_engines.proofs.schedule_engine.ScheduleRun.take.Goals as goal
 

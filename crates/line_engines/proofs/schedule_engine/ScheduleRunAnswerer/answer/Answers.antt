@@ -1,6 +1,6 @@
 use Rattle.std.proofs.Common.{refl}
 use Rattle.line_engines.specs.Answers.{as_line}
-use Rattle.line_engines.specs.Schedules.{line_answer_json}
+use Rattle.line_engines.specs.SchedulesPrivate.{line_answer_json}
 use Rattle.line_engines.proofs.schedule_engine.ScheduleRunAnswerer.answer.Goals as goal
 
 pub returns-clause-answered : goal.returns-clause-answered
