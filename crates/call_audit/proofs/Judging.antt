@@ -9,7 +9,8 @@ use Rattle.line_reading.specs.Fields.{Fails}
 use Rattle.line_reading.specs.declared.fault.Fault.{Fault}
 use Rattle.call_audit.specs.declared.cause.Cause.{Cause}
 use Rattle.call_audit.specs.declared.cause.Cause.TheVariants.{Call, Order, Reply, Stamps}
-use Rattle.call_audit.specs.Audits.{IsSpellingCause, Judges, JudgesRecord, cause_of, has_call, is_given, is_late, is_stamped, judged, judged_spelled, judged_when}
+use Rattle.call_audit.specs.Audits.{Judges, cause_of, has_call, is_given, is_late, is_stamped, judged, judged_spelled, judged_when}
+use Rattle.call_audit.specs.AuditsPrivate.{IsSpellingCause, JudgesRecord}
 
 abbrev pub first_of : Bool → Bool → Bool → Bool → Option Cause
 first_of a b c d = if a then Some Call else (if not b then Some Stamps else (if c then Some Order else (if not d then Some Reply else None)))

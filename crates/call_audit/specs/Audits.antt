@@ -5,8 +5,6 @@ use Rattle.std.specs.Str.{bytes_eq}
 use Rattle.serde_json.specs.Data.{Data}
 use Rattle.serde_json.specs.Find.{as_str, get}
 use Rattle.serde_json.specs.Written.{compact_text, has_float}
-use Rattle.spiffe_name.specs.declared.refusals.Failure.{Failure}
-use Rattle.spiffe_name.specs.declared.refusals.Failure.TheVariants.{NoMemory, Refused}
 use Rattle.entry_book.specs.Batches.{Batch}
 use Rattle.entry_book.specs.History.{books_of, reply_to}
 use Rattle.line_reading.specs.Records.{AuditRecord, spelled_record}
@@ -76,21 +74,11 @@ abbrev pub judged_spelled : List AuditRecord → Result AuditRecord Fault → Re
 judged_spelled before (Err fault) = Err (Spelling fault.code)
 judged_spelled before (Ok r) = judged_when before r (cause_of before r)
 
--- the cause of a line with this fault
-abbrev pub IsSpellingCause : Failure Fault → Cause → Type 0
-IsSpellingCause NoMemory cause = ⊥
-IsSpellingCause (Refused fault) cause = cause ≡ Spelling fault.code
-
 -- the result for a line in a trust domain, after these records: its record, or the first cause
 unfoldable pub judged : List ℕ → List AuditRecord → List ℕ → Result AuditRecord Cause
 judged domain before line = judged_spelled before (spelled_record domain line)
 
 -- ---- what an auditor returns
-
--- If the auditor accepts the record, its new state is that after this record too.
-abbrev pub JudgesRecord : List AuditRecord → AuditRecord → (List AuditRecord → Type 0) → Option Cause → Type 0
-JudgesRecord before r Keeps None = (cause_of before r ≡ None) × Keeps (before ++ r ∷ [])
-JudgesRecord before r Keeps (Some cause) = cause_of before r ≡ Some cause
 
 abbrev pub Judges : List ℕ → List AuditRecord → List ℕ → (List AuditRecord → Type 0) → Option Cause → Type 0
 Judges domain before line Keeps None = (r : AuditRecord) × (judged domain before line ≡ Ok r) × Keeps (before ++ r ∷ [])

@@ -1,5 +1,6 @@
 pub mod Texts
 pub mod Audits
+pub mod AuditsPrivate
 pub mod Follows
 pub mod Keeps
 pub mod Verdicts

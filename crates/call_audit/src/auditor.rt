@@ -82,7 +82,8 @@ impl Auditor {
     ghost use Rattle.serde_json.specs.View.{view};
     ghost use Rattle.line_reading.specs.Records.{AuditRecord};
     ghost use Rattle.line_reading.specs.RecordViews.{recorded};
-    ghost use Rattle.call_audit.specs.Audits.{JudgesRecord, is_past};
+    ghost use Rattle.call_audit.specs.Audits.{is_past};
+    ghost use Rattle.call_audit.specs.AuditsPrivate.{JudgesRecord};
     ghost use Rattle.call_audit.specs.Keeps.{Keeps};
 
     /// The same for a record.
@@ -124,7 +125,8 @@ impl Auditor {
 ghost use Rattle.std.specs.Prelude.{IfOk};
 ghost use Rattle.line_reading.specs.RecordViews.{recorded};
 ghost use Rattle.serde_json.specs.View.{view};
-ghost use Rattle.call_audit.specs.Audits.{IsSpellingCause, is_commit, is_stamped};
+ghost use Rattle.call_audit.specs.Audits.{is_commit, is_stamped};
+ghost use Rattle.call_audit.specs.AuditsPrivate.{IsSpellingCause};
 
 /// Returns the cause of a line that isn't a record. The error is out of memory.
 fn spelling_cause(failure: &Failure<Fault>) -> Result<Cause, AllocError>
