@@ -21,7 +21,8 @@ use Rattle.spiffe_name.specs.Failures.{FailsBy}
 use Rattle.spiffe_name.specs.declared.Failure.{Failure}
 use Rattle.spiffe_name.specs.declared.Failure.TheVariants as name
 use Rattle.spiffe_name.specs.declared.IdRefusal.{IdRefusal}
-use Rattle.command_line.specs.CommandLine.{AsksServer, AsksWell, IsFaultOf, IsServerFault, TellsNoSeed, domain_word, line_faults, option_asked, option_in, program_asked, program_in, program_name, regd_command, seed_text}
+use Rattle.command_line.specs.CommandLine.{AsksServer, AsksWell, IsFaultOf, TellsNoSeed, domain_word, line_faults, option_asked, option_in, program_asked, program_in, program_name, regd_command, seed_text}
+use Rattle.command_line.specs.CommandLinePrivate.{IsServerFault}
 use Rattle.command_line.specs.declared.program.Program.{Program}
 use Rattle.command_line.specs.declared.program.Program.TheVariants.{Serve}
 use Rattle.command_line.specs.declared.settings.ServerPlan.{ServerPlan}

@@ -1,7 +1,6 @@
 -- What a command line requests.
-use Rattle.std.specs.Prelude.{◌<◌, List, ℕ, Option, None, Some, ⊤}
+use Rattle.std.specs.Prelude.{List, ℕ, Option}
 use Rattle.command_line.specs.declared.program.Program.{Program}
-use Rattle.command_line.specs.declared.program.Program.TheVariants.{Serve}
 use Rattle.command_line.specs.declared.settings.ServerPlan.{ServerPlan}
 
 pub record Asked : Type 0 where
@@ -12,10 +11,3 @@ pub record Asked : Type 0 where
   pub seed : List ℕ
   -- for a server, its address, its number of workers and its number of connections
   pub server : Option ServerPlan
-
--- there is a plan exactly if a server is requested, and the plan has a worker
-abbrev pub HasServer : Program → Option ServerPlan → Type 0
-HasServer Serve (Some plan) = 0 < plan.workers
-HasServer Serve None = ⊥
-HasServer program (Some plan) = ⊥
-HasServer program None = ⊤

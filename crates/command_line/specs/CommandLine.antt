@@ -192,12 +192,6 @@ TellsNoNumbers met = ((n : ℕ) → TellsNumber most_workers (server_word (codes
 
 -- ---- the faults of a command line
 
--- the options of a requested server have this fault
-abbrev pub IsServerFault : Option (Text × List Row) → Program → LineFault → Type 0
-IsServerFault met program Address = (program ≡ Serve) × TellsNoAddress (server_word (codes "listen") met)
-IsServerFault met program Number = (program ≡ Serve) × TellsAddress (server_word (codes "listen") met) × TellsNoNumbers met
-IsServerFault met program fault = ⊥
-
 -- The parser accepts the words, and they request a server, with a valid trust domain and a valid seed.
 pub record AsksWell (words : List Text) : Type 0 where
   pub taken : line_faults words ≡ []

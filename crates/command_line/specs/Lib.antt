@@ -1,4 +1,5 @@
 pub mod Asked
+pub mod CommandLinePrivate
 pub mod CommandLine
 pub mod Conversions
 pub mod Laws

@@ -31,7 +31,8 @@ pub struct Settings {
 }
 
 impl Model for Settings {
-    ghost use Rattle.command_line.specs.Asked.{Asked, HasServer};
+    ghost use Rattle.command_line.specs.Asked.{Asked};
+    ghost use Rattle.command_line.specs.CommandLinePrivate.{HasServer};
 
     ghost Value = { Asked };
 
@@ -115,8 +116,8 @@ impl Settings {
 ghost use Rattle.std.specs.Prelude.{◌≡◌, ℕ, IfErr, IfNone, IfOk, IfSome, codes, false, option_map};
 ghost use Rattle.clap.specs.Words.{app_of, rule_of, subcommand_rows_of};
 ghost use Rattle.clap.specs.declared.Command.TheViews.{out-Command};
-ghost use Rattle.command_line.specs.Asked.{HasServer};
-ghost use Rattle.command_line.specs.CommandLine.{AsksServer, IsServerFault, TellsNumber, TellsServer, audit_command, book_commands, domain_option, is_recorded, listen_command, listen_option, most_connections, most_workers, number_option, option_in, plain_command, program_in, record_option, regd_command, schedule_command, seed_option, serve_command, server_word};
+ghost use Rattle.command_line.specs.CommandLinePrivate.{HasServer, IsServerFault};
+ghost use Rattle.command_line.specs.CommandLine.{AsksServer, TellsNumber, TellsServer, audit_command, book_commands, domain_option, is_recorded, listen_command, listen_option, most_connections, most_workers, number_option, option_in, plain_command, program_in, record_option, regd_command, schedule_command, seed_option, serve_command, server_word};
 
 fn domain_option<'a>(alloc: Global) -> Arg<'a>
     ensures rule { rule_of result ≡ domain_option }
