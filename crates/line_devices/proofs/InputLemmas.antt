@@ -4,7 +4,8 @@ use Rattle.std.specs.Prelude.{MatchBool, IsTrue, ◌↔◌, ⊤}
 use Rattle.std.proofs.lemmas.Bool.{false≢true}
 use Rattle.std.proofs.lemmas.List.Folds.{list_any-append}
 use Rattle.std.specs.Io.KnownBytes.{Consumes, IsAtEnd, Keeps, prepend_known}
-use Rattle.line_devices.specs.Lines.{onto_line, lines_of, has_lf, kept, kept_bytes, MovesLine, TakesLine}
+use Rattle.line_devices.specs.Lines.{onto_line, lines_of, has_lf, kept, kept_bytes, TakesLine}
+use Rattle.line_devices.specs.StreamPrivate.{MovesLine}
 
 -- a part of the first line without its LF was read, and `line` is what is kept of it
 abbrev pub IsBegun : Option (List ℕ) → Option (List ℕ) → List ℕ → Type 0

@@ -3,7 +3,8 @@ use Rattle.std.proofs.Common.{◌≡◌, ◌<◌, ℕ, zero, suc, List, [], ◌+
 use Rattle.std.specs.Prelude.{is_ok, if◌then◌else◌}
 use Rattle.std.specs.Io.KnownBytes.{Appends, Keeps}
 use Rattle.std.proofs.KnownBytes.{Appends-trans, Appends-nil}
-use Rattle.line_devices.specs.Stream.{OutputState, AppendsFront, SendsAll, Puts, stopped, whole, cut}
+use Rattle.line_devices.specs.Stream.{OutputState, AppendsFront, Puts, stopped, whole, cut}
+use Rattle.line_devices.specs.StreamPrivate.{SendsAll}
 
 front_more : (a b : Option (List ℕ)) (t u : List ℕ) → AppendsFront a b t → AppendsFront a b (t ++ u)
 front_more a b t u f = (f.0, f.1 ++ u, ap (λ w. w ++ u) f.2 ∙ append_assoc f.0 f.1 u, f.3)

@@ -53,11 +53,6 @@ LinesAreLines = (bytes : List ℕ) → AreLines (lines_of bytes)
 abbrev pub OnlyLinesJoin : Type 0
 OnlyLinesJoin = (lines : List (List ℕ)) → AreLines lines → lines ≡ lines_of (concat lines)
 
--- a prefix of the bytes moved into the line, of which only the kept part is stored: up to the first LF, or everything if there is
--- none
-abbrev pub MovesLine : List ℕ → List ℕ → List ℕ → List ℕ → Bool → Type 0
-MovesLine old new line_old line_new ended = (part : List ℕ) × (old ≡ part ++ new) × (line_new ≡ kept (line_old ++ part)) × MatchBool ended (IsWhole part) ((has_lf part ≡ false) × (new ≡ []))
-
 -- if the bytes are known, their first line is removed, and the line is what is kept of it
 abbrev pub TakesLine : Option (List ℕ) → Option (List ℕ) → List ℕ → Type 0
 TakesLine None new line = ⊤

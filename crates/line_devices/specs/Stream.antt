@@ -1,6 +1,6 @@
 -- The states of an input and an output.
-use Rattle.std.specs.Prelude.{◌≡◌, ◌<◌, ℕ, Bool, List, [], ◌++◌, Option, Result, MatchResult, MatchBool, IsTrue, ⊤}
-use Rattle.std.specs.Io.KnownBytes.{Keeps, Consumes, Appends, IsAtEnd}
+use Rattle.std.specs.Prelude.{◌≡◌, ◌<◌, ℕ, Bool, List, [], ◌++◌, Option, IsTrue}
+use Rattle.std.specs.Io.KnownBytes.{Appends}
 
 -- the bytes that are left, whether a whole line of them is buffered, how many calls failed, and a bound on how many may still succeed
 pub record InputState : Type 0 where
@@ -8,10 +8,6 @@ pub record InputState : Type 0 where
   pub has_line : Bool
   pub failures : ℕ
   pub calls_left : ℕ
-
--- what was read is buffered; at the end, nothing, and the result is false; a failed call reads nothing
-abbrev pub Fills : {E : Type 0} → Option (List ℕ) → Option (List ℕ) → List ℕ → Result Bool E → Type 0
-Fills old new held r = MatchResult r (λ any. Consumes old new held × MatchBool any ⊤ ((held ≡ []) × IsAtEnd new)) (λ _. Keeps old new × (held ≡ []))
 
 -- the bytes that a sink has, those that are still buffered, how many of its calls failed, and whether it has passed on all that it
 -- has
@@ -28,10 +24,6 @@ IsOut output = (output.held ≡ []) × IsTrue output.is_flushed
 -- if the bytes are known, they grow by a prefix of the text
 abbrev pub AppendsFront : Option (List ℕ) → Option (List ℕ) → List ℕ → Type 0
 AppendsFront old new text = (front : List ℕ) × (rest : List ℕ) × (text ≡ front ++ rest) × Appends old new front
-
--- if the bytes are known, they grow by all of these bytes, or after an error by a prefix of them
-abbrev pub SendsAll : {T E : Type 0} → Option (List ℕ) → Option (List ℕ) → List ℕ → Result T E → Type 0
-SendsAll old new bytes r = MatchResult r (λ _. Appends old new bytes) (λ _. AppendsFront old new bytes)
 
 -- The text is appended to the buffered bytes. A prefix of these goes to the sink, and the rest stays buffered. If a call fails, the
 -- sink gets a prefix of them. After a failed call, nothing changes any more.

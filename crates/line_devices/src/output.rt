@@ -1,7 +1,7 @@
 //! Which bytes are buffered for a sink, and has a call of it failed?
 
 ghost use Rattle.std.specs.Prelude.{◌≡◌, ◌+◌, ◌<◌, ◌^◌, is_ok, if◌then◌else◌};
-ghost use Rattle.line_devices.specs.Stream.{SendsAll};
+ghost use Rattle.line_devices.specs.StreamPrivate.{SendsAll};
 
 use crate::sink::{Sink, SinkFailed};
 use std::marker::Model;

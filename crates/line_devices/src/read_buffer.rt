@@ -48,8 +48,9 @@ fn line_len(bytes: &[u8]) -> Option<usize>
 
 impl ReadBuffer {
     ghost use Rattle.std.specs.Prelude.{◌≡◌, ◌+◌, ◌<◌, ◌^◌, [], OnOk, is_ok, if◌then◌else◌};
-    ghost use Rattle.line_devices.specs.Lines.{has_lf, MovesLine};
-    ghost use Rattle.line_devices.specs.Stream.{Fills};
+    ghost use Rattle.line_devices.specs.Lines.{has_lf};
+    ghost use Rattle.line_devices.specs.StreamPrivate.{MovesLine};
+    ghost use Rattle.line_devices.specs.StreamPrivate.{Fills};
 
     /// Makes an empty buffer.
     pub(crate) fn new() -> ReadBuffer
