@@ -28,15 +28,11 @@ use Rattle.line_reading.specs.declared.ids.MissingId.TheVariants as missing
 use Rattle.line_reading.specs.Codes.{key_name}
 use Rattle.line_reading.specs.Ids.{given_or_drawn}
 
--- The result of a function agrees with that of a reader, `spelled`: the same fault, or (`Gives`) a value with this view. Out of memory
--- says nothing about `spelled`.
+-- The error of a function agrees with the result of a reader, `spelled`: it is the same fault. Out of memory says nothing about
+-- `spelled`.
 abbrev pub Fails : {Y : Type 0} → Failure Fault → Result Y Fault → Type 0
 Fails NoMemory spelled = ⊤
 Fails (Refused fault) spelled = spelled ≡ Err fault
-
-abbrev pub Gives : {X Y : Type 0} → (X → Y) → Result X (Failure Fault) → Result Y Fault → Type 0
-Gives view (Ok x) spelled = spelled ≡ Ok (view x)
-Gives view (Err e) spelled = Fails e spelled
 
 -- one reader after another; the first fault ends the sequence
 infixl 10 ◌>>=◌

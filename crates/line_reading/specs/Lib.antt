@@ -1,6 +1,7 @@
 pub mod Codes
 pub mod Ids
 pub mod Fields
+pub mod FieldsPrivate
 pub mod Operations
 pub mod Batches
 pub mod Requests

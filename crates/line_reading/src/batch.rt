@@ -7,7 +7,7 @@
 ghost use Rattle.std.specs.Prelude.{◌≡◌};
 ghost use Rattle.serde_json.specs.View.{items_view, members_view, view};
 ghost use Rattle.line_reading.specs.Batches.{batch_alone_in, batch_in, batch_of, items_at, listed_in, missing_beside};
-ghost use Rattle.line_reading.specs.Fields.{Gives};
+ghost use Rattle.line_reading.specs.FieldsPrivate.{Gives};
 
 use crate::fault::{Code, Fault, Key};
 use crate::fields::{at_key, no_others, optional_number_at, optional_uuid_at, value_at};

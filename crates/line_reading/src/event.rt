@@ -5,7 +5,8 @@ ghost use Rattle.serde_json.specs.View.{members_view, view};
 ghost use Rattle.spiffe_name.specs.Failures.{IsNoMemory};
 ghost use Rattle.call_events.specs.Events.{IsFor};
 ghost use Rattle.line_reading.specs.Events.{event_alone_in, event_in, event_of, invoke_in, kind_at, kind_of, spelled_event};
-ghost use Rattle.line_reading.specs.Fields.{Fails, Gives};
+ghost use Rattle.line_reading.specs.Fields.{Fails};
+ghost use Rattle.line_reading.specs.FieldsPrivate.{Gives};
 ghost use Rattle.line_reading.specs.Requests.{NeedsMemory};
 
 use crate::batch::batch_alone_in;

@@ -8,7 +8,8 @@ ghost use Rattle.serde_json.specs.Find.{get};
 ghost use Rattle.serde_json.specs.View.{members_view, view};
 ghost use Rattle.spiffe_name.specs.declared.refusals.Failure.TheVariants.{Refused};
 ghost use Rattle.line_reading.specs.Codes.{key_name};
-ghost use Rattle.line_reading.specs.Fields.{Gives, HasNoOther, IsLeastOther, given_at, is_one_of, no_others};
+ghost use Rattle.line_reading.specs.Fields.{HasNoOther, IsLeastOther, given_at, is_one_of, no_others};
+ghost use Rattle.line_reading.specs.FieldsPrivate.{Gives};
 
 mod lists;
 mod names;

@@ -2,7 +2,7 @@
 
 ghost use Rattle.std.specs.Prelude.{Some};
 ghost use Rattle.serde_json.specs.View.{items_view, members_view, view};
-ghost use Rattle.line_reading.specs.Fields.{Gives};
+ghost use Rattle.line_reading.specs.FieldsPrivate.{Gives};
 ghost use Rattle.line_reading.specs.Operations.{at_op, named_op, op_in, ops_in, undrawn_in};
 
 mod agents;

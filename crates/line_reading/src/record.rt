@@ -3,7 +3,8 @@
 ghost use Rattle.std.specs.Prelude.{◌≡◌, IfErr, Ok, IfOk, MatchResult};
 ghost use Rattle.serde_json.specs.View.{members_view, view};
 ghost use Rattle.spiffe_name.specs.Failures.{IsNoMemory};
-ghost use Rattle.line_reading.specs.Fields.{Fails, Gives};
+ghost use Rattle.line_reading.specs.Fields.{Fails};
+ghost use Rattle.line_reading.specs.FieldsPrivate.{Gives};
 ghost use Rattle.line_reading.specs.RecordViews.{recorded};
 ghost use Rattle.line_reading.specs.Records.{number_or_null_at, object_at, record_in, recorded_batch_in, spelled_record};
 ghost use Rattle.line_reading.specs.Requests.{NeedsMemory};

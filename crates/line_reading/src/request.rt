@@ -6,7 +6,8 @@ ghost use Rattle.std.specs.Str.{IsUtf8};
 ghost use Rattle.serde_json.specs.Find.{as_object};
 ghost use Rattle.serde_json.specs.View.{members_view, view};
 ghost use Rattle.spiffe_name.specs.Failures.{IsNoMemory};
-ghost use Rattle.line_reading.specs.Fields.{Fails, Gives};
+ghost use Rattle.line_reading.specs.Fields.{Fails};
+ghost use Rattle.line_reading.specs.FieldsPrivate.{Gives};
 ghost use Rattle.line_reading.specs.Requests.{NeedsMemory, framed, object_in, request_in, spelled, value_in};
 
 use crate::batch::{batch_in, listed_in};

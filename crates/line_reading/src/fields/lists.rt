@@ -3,7 +3,8 @@
 ghost use Rattle.std.specs.Prelude.{◌≡◌, IfOk};
 ghost use Rattle.serde_json.specs.View.{items_view, view};
 ghost use Rattle.entry_book.specs.Rows.{domain_set};
-ghost use Rattle.line_reading.specs.Fields.{Gives, domain_in, domain_set_in, domains_in, optional_domain_at, optional_domains_at, optional_selectors_at, selector_in, selector_set_in, selectors_at, selectors_in};
+ghost use Rattle.line_reading.specs.Fields.{domain_in, domain_set_in, domains_in, optional_domain_at, optional_domains_at, optional_selectors_at, selector_in, selector_set_in, selectors_at, selectors_in};
+ghost use Rattle.line_reading.specs.FieldsPrivate.{Gives};
 
 use super::names::domain_of;
 use super::texts::text_in;

@@ -1,7 +1,8 @@
 //! SPIFFE IDs, trust domains and UUIDs.
 
 ghost use Rattle.serde_json.specs.View.{view};
-ghost use Rattle.line_reading.specs.Fields.{Gives, domain_at, domain_of, id_at, id_in, new_uuid_at, optional_id_at, optional_uuid_at, uuid_at, uuid_in, uuid_of, uuid_or_drawn_at};
+ghost use Rattle.line_reading.specs.Fields.{domain_at, domain_of, id_at, id_in, new_uuid_at, optional_id_at, optional_uuid_at, uuid_at, uuid_in, uuid_of, uuid_or_drawn_at};
+ghost use Rattle.line_reading.specs.FieldsPrivate.{Gives};
 ghost use Rattle.uuid.specs.Text.{parsed};
 
 use super::texts::{text_at, text_in};

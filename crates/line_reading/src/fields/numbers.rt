@@ -1,7 +1,8 @@
 //! Whole numbers.
 
 ghost use Rattle.serde_json.specs.View.{view};
-ghost use Rattle.line_reading.specs.Fields.{Gives, number_at, number_in, optional_number_at, tries_at};
+ghost use Rattle.line_reading.specs.Fields.{number_at, number_in, optional_number_at, tries_at};
+ghost use Rattle.line_reading.specs.FieldsPrivate.{Gives};
 
 use super::{at_key, given_at, value_at};
 use crate::fault::{Code, Fault, Key};

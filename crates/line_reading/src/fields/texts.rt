@@ -2,7 +2,8 @@
 
 ghost use Rattle.std.specs.Prelude.{◌≡◌, option_map};
 ghost use Rattle.serde_json.specs.View.{view};
-ghost use Rattle.line_reading.specs.Fields.{Gives, match_in, match_of, mode_in, mode_of, optional_match_at, optional_mode_at, optional_text_at, text_at, text_in};
+ghost use Rattle.line_reading.specs.Fields.{match_in, match_of, mode_in, mode_of, optional_match_at, optional_mode_at, optional_text_at, text_at, text_in};
+ghost use Rattle.line_reading.specs.FieldsPrivate.{Gives};
 
 use super::{at_key, given_at, value_at};
 use crate::fault::{Code, Fault, Key};

@@ -1,7 +1,7 @@
 //! Operations on agents.
 
 ghost use Rattle.serde_json.specs.View.{members_view, view};
-ghost use Rattle.line_reading.specs.Fields.{Gives};
+ghost use Rattle.line_reading.specs.FieldsPrivate.{Gives};
 ghost use Rattle.line_reading.specs.Operations.{agent_in, authorised_in, drop_agent_in, set_agent_in, show_agent_in, trust_in};
 
 use crate::fault::{Fault, Key};

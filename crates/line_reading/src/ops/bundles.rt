@@ -1,7 +1,7 @@
 //! Operations on bundles.
 
 ghost use Rattle.serde_json.specs.View.{members_view, view};
-ghost use Rattle.line_reading.specs.Fields.{Gives};
+ghost use Rattle.line_reading.specs.FieldsPrivate.{Gives};
 ghost use Rattle.line_reading.specs.Operations.{drop_bundle_in, set_bundle_in, show_bundle_in};
 
 use crate::fault::{Fault, Key};

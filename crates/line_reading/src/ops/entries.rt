@@ -1,7 +1,7 @@
 //! Operations on entries.
 
 ghost use Rattle.serde_json.specs.View.{members_view, view};
-ghost use Rattle.line_reading.specs.Fields.{Gives};
+ghost use Rattle.line_reading.specs.FieldsPrivate.{Gives};
 ghost use Rattle.line_reading.specs.Operations.{children_in, create_in, delete_in, entry_in, prune_in, show_in, update_in};
 
 use crate::fault::{Fault, Key};
