@@ -7,7 +7,8 @@ use Rattle.std.proofs.lemmas.List.Quantifiers.{position-Some}
 use Rattle.std.proofs.lemmas.List.Sums.{fails_before_first}
 use Rattle.std.proofs.lemmas.Bool.Decides.{nat_tests}
 use Rattle.std.proofs.lemmas.Grind.{flat_map-append}
-use Rattle.reg_lines.specs.Json.{escaped, needs_escape, hex_digit}
+use Rattle.reg_lines.specs.Json.{escaped, hex_digit}
+use Rattle.reg_lines.specs.JsonPrivate.{needs_escape}
 
 pub escaped-plain : (b : ℕ) → needs_escape b ≡ false → escaped b ≡ b ∷ []
 unfolding escaped

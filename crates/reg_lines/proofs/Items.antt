@@ -5,7 +5,8 @@ use Rattle.std.specs.List.{flat_map}
 use Rattle.std.proofs.lemmas.Grind.{common_steps, flat_map-append}
 use Rattle.std.proofs.lemmas.Bool.Decides.{nat_tests}
 use Rattle.std.proofs.lemmas.List.{append-nil, take_more}
-use Rattle.reg_lines.specs.Json.{comma, items_json}
+use Rattle.reg_lines.specs.Json.{items_json}
+use Rattle.reg_lines.specs.JsonPrivate.{comma}
 
 length_taken : {A : Type 0} (xs : List A) (i : ℕ) → i < length xs → length (take i xs) ≡ i
 length_taken xs i l = grind (arith, common_steps)

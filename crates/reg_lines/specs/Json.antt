@@ -1,13 +1,9 @@
 -- Compact JSON text.
-use Rattle.std.specs.Prelude.{ℕ, ◌+◌, ◌-◌, ◌/◌, ◌%◌, Bool, ◌||◌, List, [], ◌∷◌, ◌++◌, nat_lt, ◌==◌, if◌then◌else◌, Option, None, Some, codes}
+use Rattle.std.specs.Prelude.{ℕ, ◌+◌, ◌-◌, ◌/◌, ◌%◌, List, [], ◌∷◌, ◌++◌, nat_lt, ◌==◌, if◌then◌else◌, Option, None, Some, codes}
 use Rattle.std.specs.List.{flat_map}
 
 abbrev pub hex_digit : ℕ → ℕ
 hex_digit d = if nat_lt d 10 then 48 + d else 97 + (d - 10)
-
--- whether a byte of a JSON string must be escaped
-abbrev pub needs_escape : ℕ → Bool
-needs_escape b = nat_lt b 32 || b == 34 || b == 92
 
 -- a byte of a JSON string, escaped if it must be
 unfoldable pub escaped : ℕ → List ℕ
@@ -20,10 +16,6 @@ text_json s = codes "\"" ++ flat_map escaped s ++ codes "\""
 abbrev pub items_json : {A : Type 0} → (A → List ℕ) → List A → List ℕ
 items_json f [] = []
 items_json f (x ∷ xs) = f x ++ flat_map (λ y. codes "," ++ f y) xs
-
--- the comma before the item of this index; the first item has none
-abbrev pub comma : ℕ → List ℕ
-comma index = if nat_lt 0 index then codes "," else []
 
 unfoldable pub list_json : {A : Type 0} → (A → List ℕ) → List A → List ℕ
 list_json f xs = codes "[" ++ items_json f xs ++ codes "]"

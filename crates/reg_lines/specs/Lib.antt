@@ -1,4 +1,5 @@
 pub mod Json
+pub mod JsonPrivate
 pub mod Refusals
 pub mod Replies
 pub mod Values

@@ -1,7 +1,8 @@
 //! How is a value printed as one JSON text, without taking memory?
 
 ghost use Rattle.std.specs.Prelude.{ℕ, List, decimal, string_bytes, ◌++◌, codes};
-ghost use Rattle.reg_lines.specs.Json.{comma, items_json, list_json, option_json, text_json};
+ghost use Rattle.reg_lines.specs.Json.{items_json, list_json, option_json, text_json};
+ghost use Rattle.reg_lines.specs.JsonPrivate.{comma};
 ghost use Rattle.line_devices.specs.Stream.{Puts};
 
 use crate::printing::text::print_text;

@@ -2,7 +2,8 @@
 
 ghost use Rattle.std.specs.Prelude.{◌≡◌, ◌+◌, ◌<◌, position, IsTrue};
 ghost use Rattle.std.specs.List.{flat_map};
-ghost use Rattle.reg_lines.specs.Json.{escaped, needs_escape, hex_digit, text_json};
+ghost use Rattle.reg_lines.specs.Json.{escaped, hex_digit, text_json};
+ghost use Rattle.reg_lines.specs.JsonPrivate.{needs_escape};
 ghost use Rattle.line_devices.specs.Stream.{Puts};
 
 use line_devices::{Output, Sink};
