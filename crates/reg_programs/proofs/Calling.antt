@@ -23,7 +23,8 @@ use Rattle.line_engines.specs.Answers.{as_line}
 use Rattle.line_engines.specs.Driver.{AnswersKept}
 use Rattle.reg_programs.specs.declared.session_engine.Taken.{Taken}
 use Rattle.reg_programs.specs.declared.session_engine.Taken.TheVariants.{Answered, Asked, NotAnswered, NotRead}
-use Rattle.reg_programs.specs.Sessions.{AnswersCall, AnswersRequest, HasText, IsPrinted, IsToAnswer, Session, TakesRequestLine, answered, asked, not_read, passed, refused, spent}
+use Rattle.reg_programs.specs.Sessions.{AnswersCall, AnswersRequest, Session, answered, asked, not_read, passed, refused, spent}
+use Rattle.reg_programs.specs.SessionsPrivate.{HasText, IsPrinted, IsToAnswer, TakesRequestLine}
 
 -- ---- a seat that has seen what it found
 

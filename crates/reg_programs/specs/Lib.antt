@@ -1,3 +1,4 @@
 pub mod Ends
 pub mod Programs
 pub mod Sessions
+pub mod SessionsPrivate

@@ -1,13 +1,13 @@
 -- What the engine `session` replies, line by line.
-use Rattle.std.specs.Prelude.{◌≡◌, ◌⊎◌, ◌≤◌, ◌^◌, ⊤, ℕ, ◌+◌, true, false, List, [], Result, Ok, Err, refl}
+use Rattle.std.specs.Prelude.{◌≡◌, ◌≤◌, ◌^◌, ℕ, ◌+◌, true, false, List, [], Result, Ok, Err}
 use Rattle.rand_chacha.specs.ChaCha.{ChaCha}
-use Rattle.entry_book.specs.Batches.{Batch, is_query}
+use Rattle.entry_book.specs.Batches.{is_query}
 use Rattle.entry_book.specs.History.{books_of, reply_to}
 use Rattle.entry_book.specs.Rows.{Bytes}
 use mathlib.Core.List.{IsPrefix}
 use Rattle.commit_head.specs.Journals.{IsLawfulJournal, batches_of}
-use Rattle.reg_lines.specs.Refusals.{fault_json, no_memory_json, refusal_json}
-use Rattle.reg_lines.specs.Replies.{answer_json, conflict_json, reply_json}
+use Rattle.reg_lines.specs.Refusals.{fault_json, no_memory_json}
+use Rattle.reg_lines.specs.Replies.{conflict_json, reply_json}
 use Rattle.line_reading.specs.Requests.{spelled}
 use Rattle.line_devices.specs.Runs.{IsRun}
 use Rattle.reg_lines.specs.SeatLines.{seat_refusal_json}
@@ -16,7 +16,7 @@ use Rattle.line_reading.specs.declared.fault.Fault.{Fault}
 use Rattle.reg_lines.specs.declared.printing.seats.SeatRefusal.TheVariants.{Spent, NoEntry as WasNotLetIn}
 use Rattle.line_reading.specs.declared.request.Request.{Request}
 use Rattle.shared_registry.specs.Outcomes.{HasHeard, IsSubmitted}
-use Rattle.shared_registry.specs.Seated.{Along, Entered, MaySee, Seated, Stays}
+use Rattle.shared_registry.specs.Seated.{Along, Entered, Seated, Stays}
 use Rattle.shared_registry.specs.declared.outcome.Outcome.{Outcome}
 use Rattle.shared_registry.specs.declared.outcome.Outcome.TheVariants.{Committed, Repeated, Refused, Conflict, NoMemory, NoEntry}
 use Rattle.shared_registry.specs.declared.seat.NoAnswer.{NoAnswer}
@@ -24,8 +24,6 @@ use Rattle.shared_registry.specs.declared.seat.NoAnswer.TheVariants as no
 use Rattle.line_engines.specs.Answers.{as_line}
 use Rattle.line_engines.specs.Driver.{RunsOver}
 use Rattle.line_engines.specs.declared.fault.RunFault.{RunFault}
-use Rattle.reg_programs.specs.declared.session_engine.Taken.{Taken}
-use Rattle.reg_programs.specs.declared.session_engine.Taken.TheVariants.{Answered, Asked, NotAnswered, NotRead}
 
 -- The state of a session: the seat, with its number of calls and the lists that it has seen and was informed of; the ids that are left to
 -- draw; and the number of lines that were read.
@@ -80,10 +78,6 @@ pub data AnswersRequest (domain : Bytes) (now : Session) (line : List ℕ) (next
   spent : (request : Request) (ids : ChaCha) → spelled domain now.ids line ≡ Ok (request, ids) → 2 ^ 48 ≤ now.seat.calls → next ≡ asked now now.seat ids → reply ≡ as_line (seat_refusal_json (now.lines + 1) Spent) → AnswersRequest domain now line next reply
   answered : (request : Request) (ids : ChaCha) (seat : Seated) (text : List ℕ) → spelled domain now.ids line ≡ Ok (request, ids) → AnswersCall domain now.seat request (now.lines + 1) seat text → next ≡ asked now seat ids → reply ≡ as_line text → AnswersRequest domain now line next reply
 
--- Each line has a reply in every state: at least the one for out of memory.
-pub a_request_answer : (domain : Bytes) (now : Session) (line : List ℕ) → (next : Session) × (reply : List ℕ) × AnswersRequest domain now line next reply
-a_request_answer domain now line = (passed now, as_line (no_memory_json (now.lines + 1)), not_read refl refl)
-
 -- ---- a run
 
 -- no text follows the last reply, and this is the seat at the end
@@ -93,42 +87,6 @@ LeavesSeat left last end = (end ≡ []) × (last.seat ≡ left)
 -- The result of a run of the engine over an input and an output: it is a run of lines, and if it succeeded, this is the seat at the end.
 abbrev pub RunsSession : {T : Type 0} → Bytes → Seated → ChaCha → InputState → InputState → OutputState → OutputState → Seated → Result T RunFault → Type 0
 RunsSession domain seat ids input rest output out left result = RunsOver (AnswersRequest domain) (LeavesSeat left) ⊥ (start seat ids) input rest output out result
-
--- ---- the engine's answer to a line
-
--- The line has its answer already, which is printed as this text. A query has none before the seat answers it.
-abbrev pub HasText : Taken → List ℕ → Type 0
-HasText (Answered call answer) text = text ≡ answer_json call answer
-HasText (Asked line batch) text = ⊥
-HasText (NotAnswered r) text = text ≡ seat_refusal_json r.line r.refusal
-HasText (NotRead r) text = text ≡ refusal_json r
-
--- A query is left for the seat to answer, which has just looked at the published state.
-abbrev pub IsToAnswer : Bytes → Seated → Taken → Type 0
-IsToAnswer domain seat (Answered call answer) = ⊤
-IsToAnswer domain seat (NotAnswered r) = ⊤
-IsToAnswer domain seat (NotRead r) = ⊤
-IsToAnswer domain seat (Asked line batch) = MaySee domain seat × (is_query batch.ops ≡ true) × (batch.domain ≡ domain)
-
--- the reply to a query on the journal that the seat found, with the number of its call
-abbrev pub found_json : Seated → Batch → List ℕ
-found_json seat batch = reply_json seat.calls (reply_to batch (books_of (batches_of seat.found)))
-
--- The printed reply to a line, and the seat after it: the answer that the line has; or the reply to a query on the journal that the seat
--- found, which it has then seen; or that memory ran out for that reply.
-abbrev pub IsPrinted : Seated → Taken → Seated → List ℕ → Type 0
-IsPrinted s (Answered call answer) t text = (t ≡ s) × HasText (Answered call answer) text
-IsPrinted s (NotAnswered r) t text = (t ≡ s) × HasText (NotAnswered r) text
-IsPrinted s (NotRead r) t text = (t ≡ s) × HasText (NotRead r) text
-IsPrinted s (Asked line batch) t text = ((t ≡ record s { seen = s.found }) × (text ≡ found_json s batch)) ⊎ ((t ≡ s) × (text ≡ no_memory_json line))
-
--- One line was answered: its reply has this text, and it left this seat and these ids.
-pub record TakesRequestLine (domain : Bytes) (now : Session) (line : List ℕ) (text : List ℕ) (seat : Seated) (ids : ChaCha) : Type 0 where
-  pub next : Session
-  pub answers : AnswersRequest domain now line next (as_line text)
-  pub seat_is : next.seat ≡ seat
-  pub ids_is : next.ids ≡ ids
-  pub lines_is : next.lines ≡ now.lines + 1
 
 -- ---- a theorem: what the seat of a session has seen only grows
 

@@ -6,7 +6,8 @@ ghost use Rattle.reg_lines.specs.Refusals.{no_memory_json, refusal_json};
 ghost use Rattle.line_devices.specs.Stream.{Puts};
 ghost use Rattle.line_engines.specs.Answers.{as_line};
 ghost use Rattle.shared_registry.specs.Seated.{MaySee, Seated};
-ghost use Rattle.reg_programs.specs.Sessions.{AnswersCall, Grew, HasText, IsPrinted, IsToAnswer, RunsSession, Session, SessionsGrow, TakesRequestLine, found_json, no_answer_json, outcome_json};
+ghost use Rattle.reg_programs.specs.Sessions.{AnswersCall, Grew, RunsSession, Session, SessionsGrow, no_answer_json, outcome_json};
+ghost use Rattle.reg_programs.specs.SessionsPrivate.{HasText, IsPrinted, IsToAnswer, TakesRequestLine, found_json};
 
 use call_answers::CallAnswer;
 use entry_book::Batch;
@@ -88,7 +89,8 @@ impl<'a, J: Naming, R: Wait> SessionRun<'a, J, R> {
 
 impl<'a, J: Naming, R: Wait> Answerer for SessionRun<'a, J, R> {
     ghost use Rattle.std.specs.Prelude.{◌≡◌, ⊤, [], false};
-    ghost use Rattle.reg_programs.specs.Sessions.{AnswersRequest, Grew, Session, a_request_answer};
+    ghost use Rattle.reg_programs.specs.Sessions.{AnswersRequest, Grew, Session};
+    ghost use Rattle.reg_programs.specs.SessionsPrivate.{a_request_answer};
 
     ghost State = { Session };
 

@@ -5,7 +5,8 @@ use Rattle.reg_lines.specs.Replies.{reply_json}
 use Rattle.shared_registry.specs.Outcomes.{IsSubmitted}
 use Rattle.shared_registry.specs.Seated.{Seated}
 use Rattle.shared_registry.specs.declared.seat.NoAnswer.TheVariants as no
-use Rattle.reg_programs.specs.Sessions.{AnswersCall, HasText, no_reply, outcome_json, replied, submitted}
+use Rattle.reg_programs.specs.Sessions.{AnswersCall, no_reply, outcome_json, replied, submitted}
+use Rattle.reg_programs.specs.SessionsPrivate.{HasText}
 use Rattle.reg_programs.proofs.Calling.{entered, printed_as, to_answer}
 use Rattle.reg_programs.proofs.session_engine.call.Goals as goal
 
