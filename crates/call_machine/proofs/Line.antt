@@ -7,7 +7,7 @@ use Rattle.entry_book.specs.Batches.{Batch}
 use Rattle.entry_book.specs.History.{books_of, reply_to, commits}
 use Rattle.entry_book.proofs.Sets.{All-within, All-from_within, within_left, within_right, from_within_append}
 use Rattle.call_machine.specs.Calls.{Stage, waiting, running, ready, answered, committed, conflict, Call}
-use Rattle.call_machine.specs.Laws.{AscendingTurns}
+use Rattle.call_machine.specs.Kept.{AscendingTurns}
 
 -- a call that has begun, and met no conflict, is in the line
 abbrev pub is_begun : Stage → Bool

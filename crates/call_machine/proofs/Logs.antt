@@ -18,7 +18,8 @@ use Rattle.call_answers.specs.declared.answer.CallAnswer.{CallAnswer}
 use Rattle.batch_work.specs.declared.status.Status.{Status}
 use Rattle.call_machine.specs.Schedules.{Happened, At, HandedIn, BatchesOf, BeginsCountCommits, CountsCommits, commit_of, commits_in, IsDueConflict, ConflictsAreDue, Different}
 use Rattle.call_machine.specs.Calls.{Stage, waiting, running, ready, answered, committed, conflict, Call, State, with_call, answer_of}
-use Rattle.call_machine.specs.Laws.{SettledAt, number_of}
+use Rattle.call_machine.specs.Laws.{SettledAt}
+use Rattle.call_machine.specs.Kept.{number_of}
 use Rattle.call_machine.proofs.Lists.{get_left, get_last, from_get_snoc, get_within}
 use Rattle.call_machine.proofs.Rows.{from_with_call, within_new, within_other, same_call}
 

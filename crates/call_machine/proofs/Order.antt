@@ -14,7 +14,8 @@ use Rattle.call_answers.specs.declared.answer.Done.TheVariants.{Decided, Answere
 use Rattle.call_answers.specs.declared.answer.CallAnswer.TheVariants.{Conflict as Conflicted, Replied}
 use Rattle.call_machine.specs.Schedules.{ConflictsAreOver, ConflictsWereMet, Happened, At, IsListed, Different, IsSerial, IsReplyOf, RunsFrom, IsLegal, StandsBefore, IsStrict, OneBatch, Headline}
 use Rattle.call_machine.specs.Calls.{Stage, waiting, running, ready, answered, committed, conflict, Call, State, answer_of}
-use Rattle.call_machine.specs.Laws.{is_listed_at, is_listed, AscendingTurns, number_of, number_in, HoldReplies, IsOrder}
+use Rattle.call_machine.specs.Laws.{is_listed_at, is_listed, number_in, HoldReplies, IsOrder}
+use Rattle.call_machine.specs.Kept.{AscendingTurns, number_of}
 use Rattle.call_machine.proofs.Turns.{turns_are, numbers_are}
 use Rattle.call_machine.proofs.Rows.{call_found, same_call, from_within_map}
 use Rattle.call_machine.proofs.Line.{entered, StageFits, Fits, is_begun}

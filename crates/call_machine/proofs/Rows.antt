@@ -6,7 +6,7 @@ use Rattle.entry_book.specs.Order.{Within}
 use Rattle.entry_book.proofs.Sets.{All-within, All-from_within}
 use Rattle.call_machine.specs.Schedules.{Different}
 use Rattle.call_machine.specs.Calls.{Call, call_at, with_call}
-use Rattle.call_machine.specs.Laws.{number_of}
+use Rattle.call_machine.specs.Kept.{number_of}
 
 within_map : (cs : List Call) (c : Call) → Within cs c → Within (map number_of cs) c.number
 within_map [] c w = absurd w

@@ -9,7 +9,7 @@ use Rattle.entry_book.specs.Batches.{Batch}
 use Rattle.entry_book.proofs.Sets.{within_left, within_right, from_within_append}
 use Rattle.call_machine.specs.Schedules.{Different}
 use Rattle.call_machine.specs.Calls.{Call, State, with_call, moved, answer_of}
-use Rattle.call_machine.specs.Laws.{AscendingTurns, number_of}
+use Rattle.call_machine.specs.Kept.{AscendingTurns, number_of}
 use Rattle.call_machine.proofs.Lists.{split_at}
 use Rattle.call_machine.proofs.Rows.{same_call, within_new, within_other, from_with_call, numbers-with_call, one_number_more}
 use Rattle.call_machine.proofs.Line.{entered, journal_in, journal-append, StageFits, Fits, fits_replaced, journal_replaced, fits_without, journal_without, fits_snoc, fits_at, turns_replaced, turns_without, turns_snoc, not_in_front, not_in_rest, is_begun}

@@ -12,7 +12,8 @@ use Rattle.entry_book.specs.Order.{Within}
 use Rattle.entry_book.proofs.Sets.{All-within, All-from_within, within_filter, from_within_filter}
 use Rattle.call_machine.specs.Schedules.{Different}
 use Rattle.call_machine.specs.Calls.{Call}
-use Rattle.call_machine.specs.Laws.{is_listed, AscendingTurns, number_of, turn_of, turn_in, number_in}
+use Rattle.call_machine.specs.Laws.{is_listed, turn_of, turn_in, number_in}
+use Rattle.call_machine.specs.Kept.{AscendingTurns, number_of}
 
 -- ---- ascending pairs
 

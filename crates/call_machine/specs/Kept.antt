@@ -1,5 +1,5 @@
 -- The state that a machine's fields represent, and the effect of an event on one call. For this crate's own contracts.
-use Rattle.std.specs.Prelude.{◌≡◌, ℕ, ◌+◌, ◌≤◌, ◌^◌, Bool, true, false, ◌&&◌, ◌||◌, ⊤, ◌⊎◌, List, ◌∷◌, ◌++◌, [], map, length, take, slice_get, nat_lt, Option, Some, None, Result, Ok, Err, is_none, is_some, if◌then◌else◌}
+use Rattle.std.specs.Prelude.{◌≡◌, ℕ, ◌+◌, ◌≤◌, ◌^◌, Bool, true, false, ◌&&◌, ◌||◌, ⊤, ◌⊎◌, List, ◌∷◌, ◌++◌, [], map, length, take, slice_get, nat_lt, Option, Some, None, Result, Ok, Err, is_none, is_some, if◌then◌else◌, ◌<◌}
 use Rattle.std.specs.List.{AllByRecursion}
 use Rattle.entry_book.specs.declared.limit.Limit.{Limit}
 use Rattle.entry_book.specs.declared.reply.Outcome.TheVariants.{Committed, Refused}
@@ -277,3 +277,13 @@ pub record SlotDecides (old_head : Head) (old : Slot) (turn : ℕ) (decision : D
 abbrev pub with_event : Result Done EventRefusal → Event → Answer
 with_event (Ok done) event = Ok done
 with_event (Err refusal) event = Err (record { refusal = refusal; event = event })
+
+-- ---- the turns of calls
+
+-- the turn of each call is less than those of all later ones
+abbrev pub AscendingTurns : List Call → Type 0
+AscendingTurns [] = ⊤
+AscendingTurns (c ∷ cs) = AllByRecursion (λ d. c.turn < d.turn) cs × AscendingTurns cs
+
+abbrev pub number_of : Call → ℕ
+number_of c = c.number

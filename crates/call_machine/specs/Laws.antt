@@ -1,6 +1,5 @@
 -- The order that a machine returns, and the theorems on it and on runs. Each theorem is a clause of a function of the module `laws`.
-use Rattle.std.specs.Prelude.{◌≡◌, ◌↔◌, ◌⊎◌, ℕ, ◌+◌, ◌<◌, ◌≤◌, Bool, true, false, ⊤, List, [], ◌∷◌, ◌++◌, filter, map, Option, Some, None, Err, is_some}
-use Rattle.std.specs.List.{AllByRecursion}
+use Rattle.std.specs.Prelude.{◌≡◌, ◌↔◌, ◌⊎◌, ℕ, ◌+◌, ◌≤◌, Bool, true, false, ⊤, List, [], ◌∷◌, ◌++◌, filter, map, Option, Some, None, Err, is_some}
 use Rattle.std.specs.List.Sorted.{IsPermutation, IsNonDecreasingBy}
 use Rattle.entry_book.specs.declared.limit.Limit.{Limit}
 use Rattle.entry_book.specs.declared.reply.Outcome.TheVariants.{Refused}
@@ -37,14 +36,6 @@ is_listed_at (conflict n) r = false
 
 abbrev pub is_listed : Call → Bool
 is_listed c = is_listed_at c.stage c.replied
-
--- the turn of each call is less than those of all later ones
-abbrev pub AscendingTurns : List Call → Type 0
-AscendingTurns [] = ⊤
-AscendingTurns (c ∷ cs) = AllByRecursion (λ d. c.turn < d.turn) cs × AscendingTurns cs
-
-abbrev pub number_of : Call → ℕ
-number_of c = c.number
 
 -- the accepted number of its deciding event, with its own number
 abbrev pub turn_of : Call → ℕ × ℕ
