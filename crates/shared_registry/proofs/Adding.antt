@@ -6,7 +6,7 @@ use mathlib.Core.List.{IsPrefix}
 use prog.Atomic.{either}
 use Rattle.logbook.specs.Pages.{Cell, cell, keeps, no_nib, step, Moves, Goes}
 use Rattle.commit_head.specs.declared.item.Item.{Item}
-use Rattle.shared_registry.specs.Rules.{IsKept, Adds}
+use Rattle.shared_registry.specs.RulesPrivate.{IsKept, Adds}
 use Rattle.shared_registry.proofs.Prefixes.{prefix_whole}
 
 abbrev pub shown : List Item → List Item

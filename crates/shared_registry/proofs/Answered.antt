@@ -13,7 +13,8 @@ use Rattle.batch_work.specs.Working.{base_in, reply_there}
 use Rattle.batch_work.proofs.Windows.{window_stands}
 use Rattle.commit_head.specs.Heads.{IsJournal}
 use Rattle.commit_head.specs.Journals.{batches_of}
-use Rattle.shared_registry.specs.Shown.{Shown, whole_head}
+use Rattle.shared_registry.specs.Shown.{Shown}
+use Rattle.shared_registry.specs.ShownPrivate.{whole_head}
 use Rattle.commit_head.proofs.OnBooks.{led_to}
 
 -- ---- the reply to a query

@@ -15,10 +15,10 @@ use Rattle.commit_head.proofs.Begun.{journal_kept, journal_stays}
 use Rattle.commit_head.proofs.Journals.{journal_goes_on, journal_is_lawful, leads_count, leads_more, leads_to_one, low}
 use Rattle.commit_head.proofs.OnBooks.{commit_on_books}
 use Rattle.shared_registry.specs.Desk.{IsTied}
-use Rattle.shared_registry.specs.Outcomes.{HasLooked, IsCommitThere}
+use Rattle.shared_registry.specs.OutcomesPrivate.{HasLooked, IsCommitThere}
 use Rattle.shared_registry.specs.Seated.{Seated}
-use Rattle.shared_registry.specs.Seats.{AllBelow, IsCounted, calls_of}
-use Rattle.shared_registry.specs.Shown.{Shows, whole_head}
+use Rattle.shared_registry.specs.Seats.{AllBelow, calls_of}
+use Rattle.shared_registry.specs.ShownPrivate.{IsCounted, Shows, whole_head}
 use Rattle.shared_registry.specs.Works.{IsRead}
 use Rattle.shared_registry.proofs.Once.{once_more, others}
 use Rattle.shared_registry.proofs.Overtaken.{overtaken_there, ready_on}

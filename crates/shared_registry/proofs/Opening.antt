@@ -2,7 +2,7 @@
 use Rattle.std.proofs.Common.{◌≡◌, ℕ, List, [], length, refl, sym, subst}
 use Rattle.batch_work.specs.Windows.{Window}
 use Rattle.commit_head.specs.Heads.{Head, IsJournal}
-use Rattle.shared_registry.specs.Shown.{Shows}
+use Rattle.shared_registry.specs.ShownPrivate.{Shows}
 use Rattle.shared_registry.proofs.Counts.{none_counted, zeros}
 
 pub shows_none : (h : Head) (w : Window) (counts : List ℕ) → IsJournal [] h → w ≡ h.window → counts ≡ zeros 32 → Shows [] w counts

@@ -18,7 +18,7 @@ use Rattle.commit_head.specs.declared.item.Item.{Item}
 use Rattle.commit_head.specs.Heads.{IsJournal}
 use Rattle.commit_head.specs.Journals.{IsLawfulJournal, Leads, batches_of, first_state}
 use Rattle.commit_head.proofs.Journals.{journal_is_lawful, leads_count, leads_follow, low}
-use Rattle.shared_registry.specs.Shown.{Shows, whole_head}
+use Rattle.shared_registry.specs.ShownPrivate.{Shows, whole_head}
 use Rattle.shared_registry.proofs.Calls.{calls_length}
 
 -- its journal is lawful

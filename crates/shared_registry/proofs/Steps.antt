@@ -8,7 +8,8 @@ use Rattle.crossbeam_utils.specs.Register.{Admits, TurnsAt}
 use Rattle.atomic_table.proofs.Lists.{at_set, at_snoc}
 use Rattle.entry_book.specs.Rows.{Bytes}
 use Rattle.commit_head.specs.declared.item.Item.{Item}
-use Rattle.shared_registry.specs.Shown.{Shown, IsOf, Keeps, Saw}
+use Rattle.shared_registry.specs.Shown.{Shown}
+use Rattle.shared_registry.specs.ShownPrivate.{IsOf, Keeps, Saw}
 use Rattle.shared_registry.proofs.Prefixes.{prefix_self, prefix_trans}
 
 -- a new pass has seen nothing

@@ -14,7 +14,8 @@ use Rattle.batch_work.proofs.Ready.{same_replies}
 use Rattle.commit_head.specs.declared.item.Item.{Item}
 use Rattle.commit_head.specs.Journals.{IsLawfulJournal, batches_of}
 use Rattle.shared_registry.specs.declared.outcome.Outcome.TheVariants.{Refused}
-use Rattle.shared_registry.specs.Outcomes.{HasAdded, HasLooked, IsAdded, IsOvertaken, IsOvertakenOnce, IsSubmitted}
+use Rattle.shared_registry.specs.Outcomes.{IsAdded, IsOvertaken, IsSubmitted}
+use Rattle.shared_registry.specs.OutcomesPrivate.{HasAdded, HasLooked, IsOvertakenOnce}
 use Rattle.shared_registry.specs.Seated.{Along, Goes, MaySee, Seated}
 use Rattle.shared_registry.specs.Seats.{calls_of}
 use Rattle.shared_registry.proofs.Prefixes.{prefix_length, prefix_self, prefix_trans}

@@ -11,7 +11,8 @@ use Rattle.commit_head.specs.Outcomes.{IsHitSince}
 use Rattle.version_book.specs.declared.mark.MarkKind.{MarkKind}
 use Rattle.shared_registry.specs.declared.outcome.Outcome.{Outcome}
 use Rattle.shared_registry.specs.declared.outcome.Outcome.TheVariants.{Committed, Repeated, Refused, Conflict, NoMemory, NoEntry}
-use Rattle.shared_registry.specs.Outcomes.{AreOvertaken, HasHeard, IsOver, IsOvertaken, IsOvertakenOnce, IsSubmitted, WasOvertaken}
+use Rattle.shared_registry.specs.Outcomes.{AreOvertaken, HasHeard, IsOvertaken, IsSubmitted, WasOvertaken}
+use Rattle.shared_registry.specs.OutcomesPrivate.{IsOver, IsOvertakenOnce}
 use Rattle.shared_registry.specs.Seated.{Goes, Seated}
 use Rattle.commit_head.proofs.OnBooks.{batches_join}
 use Rattle.shared_registry.proofs.Prefixes.{prefix_length, prefix_trans}

@@ -1,10 +1,11 @@
--- The state under the lock.
+-- The state under the lock. For this crate's own contracts.
 use Rattle.std.specs.Prelude.{◌≡◌, ◌≤◌, List, length}
 use Rattle.logbook.specs.Pages.{Book as WordBook}
 use Rattle.entry_book.specs.Rows.{Bytes}
 use Rattle.commit_head.specs.declared.item.Item.{Item}
 use Rattle.commit_head.specs.Heads.{Head, IsJournal}
-use Rattle.shared_registry.specs.Shown.{Shown, IsOf}
+use Rattle.shared_registry.specs.Shown.{Shown}
+use Rattle.shared_registry.specs.ShownPrivate.{IsOf}
 
 -- The head's journal is this list, of which it stores at most 4,096 items. Its book is of the trust domain.
 pub record IsTied (domain : Bytes) (journal : List Item) (h : Head) : Type 0 where

@@ -1,7 +1,10 @@
 pub mod Desk
 pub mod Outcomes
+pub mod OutcomesPrivate
 pub mod Rules
+pub mod RulesPrivate
 pub mod Seated
 pub mod Seats
 pub mod Shown
+pub mod ShownPrivate
 pub mod Works

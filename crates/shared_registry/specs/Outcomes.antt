@@ -1,23 +1,18 @@
 -- The outcome of a batch of changes, in terms of its seat's lists and of the plain book.
-use Rattle.std.specs.Prelude.{◌≡◌, ⊤, ℕ, ◌+◌, ◌≤◌, List, [], ◌∷◌, ◌++◌, length, take, IsSome, Result, Ok, Err}
+use Rattle.std.specs.Prelude.{◌≡◌, ⊤, ℕ, ◌+◌, ◌≤◌, List, [], ◌∷◌, ◌++◌, length, take, IsSome}
 use mathlib.Core.List.{IsPrefix}
 use Rattle.entry_book.specs.declared.reply.Outcome.TheVariants as became
 use Rattle.entry_book.specs.declared.reply.Refusal.{Refusal}
-use Rattle.entry_book.specs.declared.reply.Refusal.TheVariants.{Full}
 use Rattle.entry_book.specs.declared.reply.Reply.{Reply}
 use Rattle.entry_book.specs.Batches.{Batch}
 use Rattle.entry_book.specs.History.{books_of, reply_to}
 use Rattle.entry_book.specs.Rows.{Bytes}
 use Rattle.batch_work.specs.Reads.{footprint_of}
-use Rattle.batch_work.specs.Working.{Work, HasReplies}
-use Rattle.commit_head.specs.declared.commit.Commit.{Commit}
-use Rattle.commit_head.specs.declared.commit.Commit.TheVariants as is
 use Rattle.commit_head.specs.declared.item.Item.{Item}
 use Rattle.commit_head.specs.Journals.{batches_of}
 use Rattle.commit_head.specs.Outcomes.{IsHitSince}
 use Rattle.shared_registry.specs.declared.outcome.Outcome.{Outcome}
 use Rattle.shared_registry.specs.declared.outcome.Outcome.TheVariants.{Committed, Repeated, Refused, Conflict, NoMemory, NoEntry}
-use Rattle.shared_registry.specs.declared.seat.NoEntry.{NoEntry as WasNotLetIn}
 use Rattle.shared_registry.specs.Seated.{Along, MaySee, Seated}
 
 -- ---- tries with a conflict
@@ -96,56 +91,3 @@ HasHeard s t NoEntry = ⊤
 
 abbrev pub CommitsMayBeSeen : Type 0
 CommitsMayBeSeen = (domain : Bytes) (s t : Seated) (batch : Batch) (reply : Reply) → Along domain s t → HasHeard s t (Committed reply) → IsAdded s t batch reply → MaySee domain t
-
--- ---- one try; for this crate's own contracts
-
--- the outcome is not a conflict
-abbrev pub IsOver : Outcome → Type 0
-IsOver o = (n : ℕ) → o ≡ Conflict n → ⊥
-
--- The try began at or after what the seat had seen and learnt of, and met a conflict. The seat has then seen all that it had learnt of,
--- and has no more calls of its own.
-pub record IsOvertakenOnce (s t : Seated) (batch : Batch) (n : ℕ) : Type 0 where
-  pub base : ℕ
-  pub since_seen : length s.seen ≤ base
-  pub since_told : length s.told ≤ base
-  pub overtaken : IsOvertaken (batches_of t.seen) batch base n
-  pub place : n ≡ length t.seen
-  pub heard : IsPrefix s.told t.seen
-  pub own : t.own ≡ s.own
-
--- the batch has its outcome, or the try met a conflict and hands the batch back
-abbrev pub IsTry : Seated → Seated → Batch → Result Outcome (ℕ × Batch) → Type 0
-IsTry s t batch (Ok o) = IsOver o × HasHeard s t o × IsSubmitted s t batch 0 o
-IsTry s t batch (Err back) = (back.1 ≡ batch) × IsOvertakenOnce s t batch back.0
-
--- ---- the decision on a commit under the lock; for this crate's own contracts
-
--- Nothing is added; the seat has seen all items so far, and has no more calls of its own.
-pub record HasLooked (log next : List Item) (s t : Seated) : Type 0 where
-  pub same : next ≡ log
-  pub seen : t.seen ≡ log
-  pub own : t.own ≡ s.own
-
--- The call's item is added to the journal, and the seat has seen and found all of it.
-pub record HasAdded (log next : List Item) (s t : Seated) (w : Work) (n : ℕ) : Type 0 where
-  pub item : Item
-  pub whole : next ≡ log ++ item ∷ []
-  pub seat : item.seat ≡ s.number
-  pub call : item.call ≡ s.calls
-  pub batch_is : item.batch ≡ w.batch
-  pub replies : HasReplies w item.replies
-  pub place : n ≡ length next
-  pub seen : t.seen ≡ next
-  pub own : t.own ≡ s.own ++ s.calls ∷ []
-  pub found : t.found ≡ next
-
-abbrev pub IsCommitThere : List Item → List Item → Seated → Seated → Work → Commit → Type 0
-IsCommitThere log next s t w (is.Committed n) = HasAdded log next s t w n
-IsCommitThere log next s t w (is.Conflict n) = HasLooked log next s t × (n ≡ length log) × IsOvertaken (batches_of log) w.batch (length s.seen) n
-IsCommitThere log next s t w (is.Full limit n) = HasLooked log next s t × (n ≡ length log) × (reply_to w.batch (books_of (batches_of log)) ≡ record { place = n; outcome = became.Refused (Full limit) })
-IsCommitThere log next s t w is.NoMemory = HasLooked log next s t
-
-abbrev pub IsDecided : List Item → List Item → Seated → Seated → Work → Result Commit WasNotLetIn → Type 0
-IsDecided log next s t w (Ok commit) = IsCommitThere log next s t w commit
-IsDecided log next s t w (Err e) = (next ≡ log) × (t.seen ≡ s.seen) × (t.own ≡ s.own)

@@ -1,43 +1,11 @@
--- The model of the published value in contracts, and its invariants.
-use Rattle.std.specs.Prelude.{◌≡◌, ℕ, List}
-use mathlib.Core.Option.{some}
-use mathlib.Core.List.{IsPrefix}
-use lib.ListN.{get_elem?}
+-- The model of the published value in contracts.
+use Rattle.std.specs.Prelude.{List}
 use Rattle.logbook.specs.Pages.{Book as WordBook}
-use Rattle.entry_book.specs.Rows.{Bytes}
 use Rattle.batch_work.specs.Windows.{Window}
 use Rattle.commit_head.specs.declared.item.Item.{Item}
-use Rattle.commit_head.specs.Heads.{Head, IsJournal}
-use Rattle.commit_head.specs.Journals.{EachCallOnce}
-use Rattle.shared_registry.specs.Seats.{IsCounted}
 
 -- A history, a journal of it, and a window.
 pub record Shown : Type 0 where
   pub history : WordBook
   pub journal : List Item
   pub window : Window
-
--- a head that has this window and stores all these items
-abbrev pub whole_head : Window → List Item → Head
-whole_head window items = record { window = window; kept = items; room = 0 }
-
--- The window is that of a head whose whole journal is these items. No two items have the same seat and call. The counts are the numbers
--- of the seats' calls.
-pub record Shows (items : List Item) (window : Window) (counts : List ℕ) : Type 0 where
-  pub journal : IsJournal items (whole_head window items)
-  pub once : EachCallOnce items
-  pub counted : IsCounted counts items
-
--- it is of this history and trust domain
-pub record IsOf (history : WordBook) (domain : Bytes) (shown : Shown) : Type 0 where
-  pub history_is : shown.history ≡ history
-  pub domain_is : shown.window.newest.domain ≡ domain
-
--- The published value is of this history and trust domain. Its journal begins with what each pass of a reader or of the writer has seen.
--- No invariant of a seat uses what its pass has seen: the lists of a seat are tokens of the history.
-abbrev pub Keeps : WordBook → Bytes → Shown → List (List Item) → Type 0
-Keeps history domain x views = IsOf history domain x × ((k : ℕ) (v : List Item) → get_elem? views k ≡ some v → IsPrefix v x.journal)
-
--- after the step, the pass has seen the published journal, which begins with what it had seen and is of this history and trust domain
-abbrev pub Saw : WordBook → Bytes → List Item → Shown → List Item → Type 0
-Saw history domain v y w = IsOf history domain y × IsPrefix v y.journal × (w ≡ y.journal)

@@ -1,4 +1,4 @@
--- A work that has begun on a published state.
+-- A work that has begun on a published state. For this crate's own contracts.
 use Rattle.std.specs.Prelude.{◌≡◌, List, Some}
 use Rattle.entry_book.specs.Batches.{Batch, IsMadeFor}
 use Rattle.batch_work.specs.declared.status.Status.TheVariants.{Running}
@@ -6,7 +6,8 @@ use Rattle.batch_work.specs.Working.{Work, base_in, status_of}
 use Rattle.entry_book.specs.Rows.{Bytes}
 use Rattle.commit_head.specs.declared.item.Item.{Item}
 use Rattle.commit_head.specs.Heads.{IsJournal}
-use Rattle.shared_registry.specs.Shown.{Shown, whole_head}
+use Rattle.shared_registry.specs.Shown.{Shown}
+use Rattle.shared_registry.specs.ShownPrivate.{whole_head}
 
 -- The work is of the batch, and began on the window.
 pub record IsBegun (batch : Batch) (page : Shown) (w : Work) : Type 0 where

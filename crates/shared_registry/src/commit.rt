@@ -6,10 +6,10 @@ ghost use Rattle.batch_work.specs.Windows.{pushed};
 ghost use Rattle.batch_work.specs.Working.{status_of};
 ghost use Rattle.commit_head.specs.Heads.{Goes as IsNextOf, IsJournal, last_items};
 ghost use Rattle.shared_registry.specs.Desk.{IsPublished, IsTied};
-ghost use Rattle.shared_registry.specs.Outcomes.{IsDecided};
+ghost use Rattle.shared_registry.specs.OutcomesPrivate.{IsDecided};
 ghost use Rattle.shared_registry.specs.Seated.{Goes};
-ghost use Rattle.shared_registry.specs.Seats.{AllBelow, IsCounted};
-ghost use Rattle.shared_registry.specs.Shown.{IsOf, Shows};
+ghost use Rattle.shared_registry.specs.Seats.{AllBelow};
+ghost use Rattle.shared_registry.specs.ShownPrivate.{IsCounted, IsOf, Shows};
 ghost use Rattle.shared_registry.specs.Works.{IsRead};
 
 use crate::desk::WindowWriter;

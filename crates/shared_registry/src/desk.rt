@@ -3,7 +3,7 @@
 ghost use Rattle.std.specs.Prelude.{◌≡◌, [], IfOk, MatchResult};
 ghost use mathlib.Core.List.{IsPrefix};
 ghost use Rattle.batch_work.specs.Working.{status_of};
-ghost use Rattle.shared_registry.specs.Outcomes.{IsDecided};
+ghost use Rattle.shared_registry.specs.OutcomesPrivate.{IsDecided};
 ghost use Rattle.shared_registry.specs.Seated.{Goes};
 ghost use Rattle.shared_registry.specs.Seats.{AllBelow};
 ghost use Rattle.shared_registry.specs.Works.{IsRead};

@@ -15,7 +15,7 @@ pub struct Law;
 impl Rule<Item, u64> for Law {
     ghost use Rattle.std.specs.Prelude.{[]};
     ghost use base.Fml.{ftrue};
-    ghost use Rattle.shared_registry.specs.Rules.{IsKept};
+    ghost use Rattle.shared_registry.specs.RulesPrivate.{IsKept};
 
     ghost holds = { λ cells log. IsKept cells log };
 
@@ -43,7 +43,7 @@ impl Gain<Item, u64> for Nothing {
 pub struct Add;
 
 impl Play<Item, u64> for Add {
-    ghost use Rattle.shared_registry.specs.Rules.{Adds};
+    ghost use Rattle.shared_registry.specs.RulesPrivate.{Adds};
 
     ghost then = { Adds };
 }

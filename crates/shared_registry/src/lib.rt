@@ -24,9 +24,9 @@
 //!   longest prefix that it learnt of.
 //! - own: the numbers of the calls that a seat has committed.
 //!
-//! The definitions are in `specs/`. `Outcomes` defines the outcome of a batch of changes, `Shown` the published state, and
-//! `Seated` and `Seats` a seat. `Desk` defines the state under the lock, `Works` a work in execution, and `Rules` the
-//! invariant of the history's word.
+//! The definitions are in `specs/`. `Outcomes` defines the outcome of a batch of changes, `Shown` the published state,
+//! `Seated` and `Seats` a seat, and `Rules` the history's word. The others are for this crate's own contracts: `Desk` defines
+//! the state under the lock, `Works` a work in execution, and the files that end in `Private` the invariants.
 //!
 //! - `history`: the one history, and the prefixes of it that were seen; `published` and `rule`: the state that readers look
 //!   at, and the invariant that each step over it preserves; `run`: how a batch of changes runs on the published state;

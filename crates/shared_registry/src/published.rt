@@ -3,8 +3,8 @@
 ghost use Rattle.std.specs.Prelude.{◌≡◌, ◌+◌, ◌≤◌, ◌<◌, ◌^◌, ◌++◌, ◌∷◌, [], length, IfOk, IfSome};
 ghost use Rattle.batch_work.specs.Windows.{Window};
 ghost use Rattle.commit_head.specs.Heads.{IsJournal};
-ghost use Rattle.shared_registry.specs.Seats.{calls_of, IsCounted};
-ghost use Rattle.shared_registry.specs.Shown.{IsOf, Shows};
+ghost use Rattle.shared_registry.specs.Seats.{calls_of};
+ghost use Rattle.shared_registry.specs.ShownPrivate.{IsCounted, IsOf, Shows};
 
 use crate::history::{Front, Law, Naming};
 use batch_work::Window;
@@ -34,7 +34,8 @@ pub struct Published {
 
 impl Model for Published {
     ghost use Rattle.std.specs.Prelude.{◌≡◌, length};
-    ghost use Rattle.shared_registry.specs.Shown.{Shown, Shows};
+    ghost use Rattle.shared_registry.specs.Shown.{Shown};
+    ghost use Rattle.shared_registry.specs.ShownPrivate.{Shows};
 
     ghost Value = { Shown };
 
@@ -45,7 +46,7 @@ impl Model for Published {
 
 impl Published {
     ghost use Rattle.std.specs.Prelude.{◌≡◌, ◌≤◌, ◌^◌, length, IfOk, IfSome};
-    ghost use Rattle.shared_registry.specs.Shown.{IsOf, Shows, whole_head};
+    ghost use Rattle.shared_registry.specs.ShownPrivate.{IsOf, Shows, whole_head};
 
     /// Makes the published value of the front's journal, with the board that shows it.
     pub(crate) fn of<J: Naming>(front: &Front<J>, board: Shared<Board>) -> Published

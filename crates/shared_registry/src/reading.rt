@@ -6,7 +6,7 @@ ghost use Rattle.entry_book.specs.Batches.{is_query};
 ghost use Rattle.entry_book.specs.History.{books_of, reply_to};
 ghost use Rattle.commit_head.specs.Journals.{batches_of};
 ghost use Rattle.shared_registry.specs.Seats.{calls_of};
-ghost use Rattle.shared_registry.specs.Shown.{IsOf};
+ghost use Rattle.shared_registry.specs.ShownPrivate.{IsOf};
 
 use crate::history::{Front, Naming};
 use crate::published::Published;

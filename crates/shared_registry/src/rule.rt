@@ -16,7 +16,7 @@ pub struct Rule<J: Naming>(PhantomData<J>);
 
 impl<J: Naming> Protocol<Published, View> for Rule<J> {
     ghost use Rattle.std.specs.Prelude.{[]};
-    ghost use Rattle.shared_registry.specs.Shown.{Keeps};
+    ghost use Rattle.shared_registry.specs.ShownPrivate.{Keeps};
 
     ghost holds = { λ x views. Keeps J.history J.domain x views };
 
@@ -28,7 +28,7 @@ impl<J: Naming> Protocol<Published, View> for Rule<J> {
 pub struct Sees<J: Naming>(PhantomData<J>);
 
 impl<J: Naming> Outcome<Published, View> for Sees<J> {
-    ghost use Rattle.shared_registry.specs.Shown.{Saw};
+    ghost use Rattle.shared_registry.specs.ShownPrivate.{Saw};
 
     ghost then = { λ v x y w. Saw J.history J.domain v y w };
 }

@@ -7,7 +7,7 @@ ghost use Rattle.entry_book.specs.History.{books_of, reply_to};
 ghost use Rattle.commit_head.specs.Journals.{IsLawfulJournal, batches_of};
 ghost use Rattle.shared_registry.specs.Seats.{calls_of, AllBelow};
 ghost use Rattle.shared_registry.specs.Seated.{Entered, Goes, MaySee, Stays};
-ghost use Rattle.shared_registry.specs.Shown.{IsOf};
+ghost use Rattle.shared_registry.specs.ShownPrivate.{IsOf};
 
 use crate::gate::{Gate, Point};
 use crate::history::{Front, Naming};
@@ -73,7 +73,7 @@ impl<J: Naming> Model for Seat<J> {
     ghost use Rattle.std.specs.Prelude.{◌≡◌, ◌<◌, ◌+◌, length, IsSome};
     ghost use Rattle.shared_registry.specs.Seats.{calls_of, AllBelow};
     ghost use Rattle.shared_registry.specs.Seated.{Seated};
-    ghost use Rattle.shared_registry.specs.Shown.{IsOf};
+    ghost use Rattle.shared_registry.specs.ShownPrivate.{IsOf};
 
     ghost Value = { Seated };
 

@@ -5,8 +5,9 @@ use Rattle.commit_head.specs.Heads.{IsJournal}
 use Rattle.commit_head.specs.Journals.{IsLawfulJournal}
 use Rattle.shared_registry.specs.Desk.{IsTied}
 use Rattle.shared_registry.specs.Seated.{Seated}
-use Rattle.shared_registry.specs.Seats.{AllBelow, IsCounted, calls_of}
-use Rattle.shared_registry.specs.Shown.{Shown, Shows, whole_head}
+use Rattle.shared_registry.specs.Seats.{AllBelow, calls_of}
+use Rattle.shared_registry.specs.ShownPrivate.{IsCounted, Shows, whole_head}
+use Rattle.shared_registry.specs.Shown.{Shown}
 use Rattle.shared_registry.proofs.Committing.{journal_low, lawful_more, next_fits, place_is, refused_there, shows_more, tidied, tied_more, tied_stays}
 use Rattle.shared_registry.proofs.Overtaken.{began}
 use Rattle.shared_registry.proofs.Tries.{goes_on, goes_turned}

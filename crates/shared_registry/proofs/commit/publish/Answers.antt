@@ -1,5 +1,6 @@
 use Rattle.std.proofs.Common.{◌≡◌, ◌++◌, ◌∷◌, [], fold, ap, subst, sym, ◌∙◌}
-use Rattle.shared_registry.specs.Shown.{IsOf, Shown}
+use Rattle.shared_registry.specs.Shown.{Shown}
+use Rattle.shared_registry.specs.ShownPrivate.{IsOf}
 use Rattle.shared_registry.proofs.Steps.{sees}
 use Rattle.shared_registry.proofs.commit.publish.Goals as goal
 

@@ -2,7 +2,7 @@ use Rattle.std.proofs.Common.{◌∙◌, sym, ap, subst, IfOk}
 use mathlib.Core.List.{IsPrefix}
 use Rattle.entry_book.specs.Batches.{IsMadeFor}
 use Rattle.commit_head.specs.Heads.{IsJournal}
-use Rattle.shared_registry.specs.Shown.{whole_head}
+use Rattle.shared_registry.specs.ShownPrivate.{whole_head}
 use Rattle.shared_registry.specs.Works.{IsAtEnd, IsRead}
 use Rattle.shared_registry.proofs.Calls.{calls_same}
 use Rattle.shared_registry.proofs.Results.{ok_any, ok_of}
