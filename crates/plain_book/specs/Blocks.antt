@@ -1,4 +1,4 @@
--- Rows in blocks. Used by the contracts within this crate only.
+-- Rows in blocks. For this crate's own contracts.
 use Rattle.std.specs.Prelude.{◌≡◌, ◌<◌, ◌≤◌, ◌-◌, ℕ, Bool, true, false, List, [], ◌∷◌, ◌++◌, length}
 use Rattle.std.specs.List.{AllByRecursion, HoldsAt}
 use Rattle.entry_book.specs.Rows.{Bytes}

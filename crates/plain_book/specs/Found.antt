@@ -1,4 +1,4 @@
--- The entries that a walk has found. Used by the contracts within this crate only.
+-- The entries that a walk has found. For this crate's own contracts.
 use Rattle.std.specs.Prelude.{Bool, List, [], ◌∷◌, filter, not, Some, bytes_eq, is_some}
 use Rattle.entry_book.specs.Rows.{Entry, entry_key}
 use Rattle.entry_book.specs.Order.{first, with_row}

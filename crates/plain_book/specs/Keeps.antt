@@ -1,4 +1,4 @@
--- The invariant of the state of a plain book.
+-- The invariant of the state of a plain book. For this crate's own contracts.
 use Rattle.std.specs.Prelude.{◌*◌, ◌^◌, ◌≤◌, length}
 use Rattle.std.specs.List.{AllByRecursion}
 use Rattle.entry_book.specs.History.{PlainState, kept_books}

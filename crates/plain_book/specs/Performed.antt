@@ -1,5 +1,5 @@
 -- What the code returns for an operation, the run of a batch, and its verdict. For the first two it is the defined result, with the book
--- after the writes instead of the writes. For the third it is the defined verdict.
+-- after the writes instead of the writes. For the third it is the defined verdict. For this crate's own contracts.
 use Rattle.std.specs.Prelude.{Bool, true, false, ℕ, ◌+◌, List, ◌++◌, Result, Ok, Err}
 use Rattle.entry_book.specs.declared.reply.OpReply.{OpReply}
 use Rattle.entry_book.specs.declared.reply.OpRefusal.{OpRefusal}

@@ -1,4 +1,4 @@
--- The index of a key's row in a list of rows, or where it would be inserted. Used by the contracts within this crate only.
+-- The index of a key's row in a list of rows, or where it would be inserted. For this crate's own contracts.
 use Rattle.std.specs.Prelude.{◌≡◌, ◌<◌, ◌≤◌, ℕ, suc, List, filter, take, drop, length, Result, Ok, Err}
 use Rattle.std.specs.List.{HoldsAt}
 use Rattle.entry_book.specs.Rows.{Bytes}

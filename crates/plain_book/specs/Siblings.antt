@@ -1,4 +1,4 @@
--- The list of all parents with their entries, an index of the entries of a book. Used by the contracts within this crate only.
+-- The list of all parents with their entries, an index of the entries of a book. For this crate's own contracts.
 use Rattle.std.specs.Prelude.{◌≡◌, Bool, List, [], ◌∷◌, filter, not, Option, Some, None, bytes_eq, is_some}
 use Rattle.plain_book.specs.declared.siblings.Siblings.{Siblings}
 use Rattle.entry_book.specs.Rows.{Bytes, Entry, entry_key}
