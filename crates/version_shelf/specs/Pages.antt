@@ -1,5 +1,5 @@
 -- How the rows of a shelf are stored in pages, the nodes of a B-tree with three levels. A leaf contains rows, a middle (an
--- inner node) contains leaves, and the root contains middles.
+-- inner node) contains leaves, and the root contains middles. For this crate's own contracts.
 use Rattle.std.specs.Prelude.{◌≡◌, ◌⊎◌, ℕ, ◌+◌, ◌-◌, ◌/◌, ◌<◌, ◌≤◌, Bool, true, false, if◌then◌else◌, nat_lt, List, [], ◌∷◌, ◌++◌, length, take, drop, Option, Some, None}
 use Rattle.std.specs.declared.cmp.Ordering.{Ordering}
 use Rattle.std.specs.List.{AllByRecursion}
