@@ -5,6 +5,7 @@
 //! - [`a_line_gives_its_domain`]: which words give which domain.
 //!
 //! The definitions are in `specs/`: `CommandLine` and `Asked` define what words request, and which faults they have.
+//! `CommandLinePrivate` is for this crate's own contracts.
 //!
 //! `docs/GLOSSARY.md` explains the terms.
 #![tactic(auto)]

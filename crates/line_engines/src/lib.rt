@@ -8,7 +8,7 @@
 //! - [`recorded_runs_are_confirmed`]: the verdict on the records of a schedule is yes.
 //!
 //! The definitions are in `specs/`: `Driver` defines a run of any line handler, and `Answers`, `Schedules`, `Recorded` and `Audited`
-//! what each engine replies.
+//! what each engine replies. The files that end in `Private` are for this crate's own contracts.
 //!
 //! `docs/GLOSSARY.md` explains the terms.
 #![tactic(auto)]

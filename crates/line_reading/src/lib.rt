@@ -10,7 +10,7 @@
 //!
 //! The definitions are in `specs/`. `Requests`, `Events` and `Records` define what a line parses to. `Batches` and
 //! `Operations` define what an object with a batch parses to, and `Fields` the values at the keys. `Codes` has the codes
-//! and keys, `Ids` the ids.
+//! and keys, `Ids` the ids. `FieldsPrivate` is for this crate's own contracts.
 //!
 //! - `fault`: what can be wrong with a line; `refusal`: the same with the line's number.
 //! - `request`: a line, and a request's keys next to those of its batch; `tries`: how often a batch may be tried.
