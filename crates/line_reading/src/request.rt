@@ -17,12 +17,13 @@ use crate::ids::Ids;
 use crate::refusal::LineRefusal;
 use crate::tries::Tries;
 use entry_book::Batch;
+use line_devices::KEPT_BYTES;
 use serde_json::{Map, Value};
 use spiffe_name::{Failure, TrustDomain};
 use std::alloc::Global;
 
-/// The maximum number of bytes before a line's LF.
-const LINE_LIMIT: usize = 1_048_576;
+/// The maximum number of bytes before a line's LF: one less than are kept of a line, so that what is kept shows whether it is too long.
+const LINE_LIMIT: usize = KEPT_BYTES - 1;
 
 /// The content of a request line.
 #[derive(Drop)]
