@@ -11,6 +11,7 @@ use batch_work::{Status, Window, Work};
 use spiffe_name::TrustDomain;
 use std::alloc::{AllocError, Global};
 use std::marker::Model;
+use std::mem::swap;
 use version_book::Version;
 
 /// Appends an item, for which there is room.
@@ -32,6 +33,40 @@ fn drop_older(items: &mut Vec<Item>) -> usize
     let dropped = items.len().saturating_sub(64);
     items.drain(..dropped);
     dropped
+}
+
+/// Moves the last 64 items of a list to an empty one, which has room for them.
+fn move_last(from: &mut Vec<Item>, to: &mut Vec<Item>)
+    requires enough { 64 ≤ vec_len from.old }
+    requires empty { to.old.items ≡ [] }
+    requires room { 64 ≤ vec_capacity to.old }
+    ensures moved { from.new.items ++ to.new.items ≡ from.old.items }
+    ensures count { length to.new.items ≡ 64 }
+    ensures capacity { vec_capacity from.new ≡ vec_capacity from.old }
+{
+    for _ in 0..64_usize {
+        let Some(item) = from.pop() else {
+            unreachable!()
+        };
+        to.push_reserved(item);
+    }
+    to.reverse();
+}
+
+/// Moves all items but the last 64 to an empty list, which has room for 64. The lists change places, and the last items move
+/// back, so that the number of the others doesn't matter.
+fn move_older(items: &mut Vec<Item>, older: &mut Vec<Item>)
+    requires empty { older.old.items ≡ [] }
+    requires room { 64 ≤ vec_capacity older.old }
+    ensures moved { older.new.items ++ items.new.items ≡ items.old.items }
+    ensures kept { items.new.items ≡ last_items items.old.items }
+    ensures room { 64 ≤ vec_capacity older.new }
+{
+    if items.len() <= 64 {
+        return;
+    }
+    swap(items, older);
+    move_last(older, items);
 }
 
 /// The only place where the book changes. It has the window on which works begin, and the journal (commit log): one item for
@@ -67,7 +102,7 @@ impl Model for Head {
 }
 
 impl Head {
-    ghost use Rattle.std.specs.Prelude.{◌≡◌, ◌+◌, ◌^◌, ◌≤◌, [], IfErr, IfOk, OnOk, length};
+    ghost use Rattle.std.specs.Prelude.{◌≡◌, ◌+◌, ◌^◌, ◌≤◌, ◌++◌, [], IfErr, IfOk, OnOk, length, vec_capacity};
     ghost use Rattle.std.specs.Option.{option_copied};
     ghost use Rattle.batch_work.specs.Working.{status_of};
     ghost use Rattle.commit_head.specs.Heads.{BeganOn, Fits, Goes, HasJournal, IsAppended, IsCommit, IsItemOf, IsRefused, Stays, item_at, place_of};
@@ -173,6 +208,19 @@ impl Head {
         ensures room { self.old.room ≤ self.new.room }
     {
         drop_older(&mut self.kept) as u64
+    }
+
+    /// Removes the same items as [`Head::checkpoint`], but moves them to an empty list, which has room for 64, so that the
+    /// caller can drop them later. Place, window and versions are unchanged. Allocates no memory.
+    pub fn checkpoint_into(&mut self, older: &mut Vec<Item>)
+        requires empty { older.old.items ≡ [] }
+        requires room { 64 ≤ vec_capacity older.old }
+        ensures moved { older.new.items ++ self.new.kept ≡ self.old.kept }
+        ensures kept { self.new.kept ≡ last_items self.old.kept }
+        ensures window { self.new.window ≡ self.old.window }
+        ensures room { 64 ≤ vec_capacity older.new }
+    {
+        move_older(&mut self.kept, older);
     }
 
     /// Makes the prepared commit of a ready work on the newest version, or returns why it can't be committed.
