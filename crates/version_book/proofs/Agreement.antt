@@ -21,6 +21,15 @@ reads-after_write m (wrote_agent c) b = ap (λ rows. record (reads m b) { agents
 reads-after_write m (wrote_bundle c) b = ap (λ rows. record (reads m b) { bundles = rows }) (filter-with_row bundle_key (names_bundle m) c.key c.new b.bundles)
 reads-after_write m (wrote_token c) b = ap (λ rows. record (reads m b) { tokens = rows }) (filter-with_row token_key (names_token m) c.key c.new b.tokens)
 
+-- what a mark reads from a book in order is in order
+pub ascending_reads : (m : MarkKind) (b : Book) → AscendingBook b → AscendingBook (reads m b)
+ascending_reads m b a = record {
+  entries = ascending_filter entry_key (names_entry m) b.entries a.entries;
+  agents = ascending_filter agent_key (names_agent m) b.agents a.agents;
+  bundles = ascending_filter bundle_key (names_bundle m) b.bundles a.bundles;
+  tokens = ascending_filter token_key (names_token m) b.tokens a.tokens;
+}
+
 pub reads_after : ReadsAfter
 reads_after m [] b = refl
 reads_after m (w ∷ ws) b = reads_after m ws (after_write w b) ∙ ap (after (map (seen m) ws)) (reads-after_write m w b)

@@ -15,6 +15,7 @@ pub mod Numbers
 pub mod Places
 pub mod Ranges
 pub mod Rooms
+pub mod RowPlaces
 pub mod RowShelves
 pub mod Same
 pub mod Shelves

@@ -18,7 +18,7 @@
 //! | `page` | from its start id to the one that shows that more follow | none | a list of those that it returns |
 //! | `unchanged` | those that the mark names, up to the first difference | none | none |
 //! | `read` | those that the mark names | those of these rows | two lists of them, and for sorting one |
-//! | `read_after` | as `read` | those of these rows, again for each change | as `read`, and a list for each change |
+//! | `read_after` | as `read`, and for each change those that a search in the rows of the mark compares | those of these rows, and of each row that a change adds | as `read`, and room for added rows |
 //! | `apply` | none | see below | the new nodes, and a written row once for each of its keys |
 //!
 //! For each key of a removed or written row, `apply` makes a search and builds new nodes. It increments a reference count for
@@ -39,8 +39,8 @@
 //!
 //! The definitions are in `specs/`. `Marks` defines what marks read and which writes hit them, `CommittedRows` the rows of
 //! versions, and `History` how versions follow one another. `Applying` defines which writes may be applied, `Room` what there
-//! has to be room for, and `Written` the writes of [`Changes`] with the places that are set in them. `Index` and `Stores` are
-//! for this crate's own contracts. No other crate depends on how the rows are stored:
+//! has to be room for, and `Written` the writes of [`Changes`] with the places that are set in them. `Index`,
+//! `Stores` and `RowPlaces` are for this crate's own contracts. No other crate depends on how the rows are stored:
 //!
 //! - `store`: the sets of rows of a version; `entries` and `row_shelf`: the shelves of a set; `index` and `key`: how an index
 //!   is stored and ordered; `parent`: the bounds of a parent's keys; `committed_row`: rows with their commit numbers.

@@ -1,11 +1,13 @@
 //! What does a mark read after some writes?
 
-ghost use Rattle.std.specs.Prelude.{◌≡◌, ◌++◌, IfOk, OnOk, Some, filter, map};
-ghost use Rattle.entry_book.specs.Order.{is_before, with_row};
+ghost use Rattle.std.specs.Prelude.{◌≡◌, ◌++◌, IfOk, IfSome, IsTrue, OnOk, Some, filter, map};
+ghost use Rattle.entry_book.specs.Book.{AscendingBook};
+ghost use Rattle.entry_book.specs.Order.{Ascending, is_before, with_row};
 ghost use Rattle.entry_book.specs.Writes.{after, after_write};
 ghost use Rattle.entry_book.specs.Tokens.{token_key};
 ghost use Rattle.version_book.specs.Marks.{kept, names_token, seen};
-ghost use Rattle.version_book.specs.Written.{write_of};
+ghost use Rattle.version_book.specs.RowPlaces.{IsPlace};
+ghost use Rattle.version_book.specs.Written.{HasOwnKey, write_of};
 
 use crate::changes::{Changes, RowWrite, TokenWrite};
 use crate::mark::Mark;
@@ -111,7 +113,7 @@ fn tokens_after(
     rows_after(alloc, tokens, mark, key, &change.new)
 }
 
-/// Returns what the mark reads after one more write. The error is out of memory.
+/// Returns what the mark reads after one more write, in new lists. The error is out of memory.
 fn after_write(
     alloc: Global,
     reading: RowsRead,
@@ -145,18 +147,151 @@ fn after_write(
     Ok(reading)
 }
 
-/// Returns what the mark reads after these writes. The error is out of memory.
+/// Returns what the mark reads after these writes, in new lists. The rows need not be in order. The error is out of memory.
+fn after_writes(
+    alloc: Global,
+    reading: RowsRead,
+    mark: &Mark,
+    writes: &[RowWrite],
+) -> Result<RowsRead, AllocError>
+    ensures { IfOk result (λ next. next ≡ after (map (seen mark.now) (map write_of writes.now)) reading) }
+{
+    let mut reading = reading;
+    for write in writes {
+        reading = after_write(alloc, reading, mark, write)?;
+    }
+    Ok(reading)
+}
+
+/// Returns the index of the row with this key, or as an error the index at which it belongs. It is a binary search.
+fn place_of<T: BookRow>(rows: &[T], key: &[u8]) -> Result<usize, usize>
+    requires order { Ascending T.key rows.now }
+    ensures { IsPlace T.key rows.now key.now result }
+{
+    rows.binary_search_by(|row| row.key().cmp(key))
+}
+
+/// Puts the new row, if any, in place of the row with this key. The other rows stay where they are or move up or down. The error
+/// is out of memory.
+fn put<T: BookRow>(rows: &mut Vec<T>, key: &[u8], new: Option<T>) -> Result<(), AllocError>
+    requires order { Ascending T.key rows.old.items }
+    ensures { OnOk result (rows.new.items ≡ with_row T.key key.now new rows.old.items) }
+{
+    match place_of(rows.as_slice(), key) {
+        Ok(index) => match new {
+            Some(new) => rows[index] = new,
+            None => drop(rows.remove(index)),
+        },
+        Err(index) => {
+            if let Some(new) = new {
+                rows.insert(index, new)?;
+            }
+        }
+    }
+    Ok(())
+}
+
+/// Puts the new row, if any and if the mark names it, in place of the row with this key. The error is out of memory.
+fn put_named<T: BookRow>(
+    rows: &mut Vec<T>,
+    mark: &Mark,
+    key: &[u8],
+    new: &Option<T>,
+) -> Result<(), AllocError>
+    requires order { Ascending T.key rows.old.items }
+    requires keyed { IfSome new.now (λ row. T.key row ≡ key.now) }
+    ensures rows { OnOk result (rows.new.items ≡ with_row T.key key.now (kept (T.names mark.now) new.now) rows.old.items) }
+    ensures order { OnOk result (Ascending T.key rows.new.items) }
+{
+    let new = kept(mark, new)?;
+    put(rows, key, new)
+}
+
+/// Puts the stored batch of a write that has no place yet, with the place 0, if the mark names it. The error is out of memory.
+fn put_token(tokens: &mut Vec<KeptBatch>, mark: &Mark, write: &TokenWrite) -> Result<(), AllocError>
+    requires order { Ascending token_key tokens.old.items }
+    ensures rows { OnOk result (tokens.new.items ≡ with_row token_key write.now.token (kept (names_token mark.now) (Some (record {
+      token = write.now.token;
+      ops = write.now.ops;
+      place = 0;
+      replies = write.now.replies;
+    }))) tokens.old.items) }
+    ensures order { OnOk result (Ascending token_key tokens.new.items) }
+{
+    let change = write.at_place(0)?;
+    let key = change.key.as_bytes().as_slice();
+    put_named(tokens, mark, key, &change.new)
+}
+
+/// Puts what the mark names of one more write, whose new row has the key of the write, into what it read. The error is out of
+/// memory.
+fn put_write(reading: RowsRead, mark: &Mark, write: &RowWrite) -> Result<RowsRead, AllocError>
+    requires order { AscendingBook reading }
+    requires keyed { HasOwnKey (write_of write.now) }
+    ensures next { IfOk result (λ next. next ≡ after_write (seen mark.now (write_of write.now)) reading) }
+    ensures order { IfOk result AscendingBook }
+{
+    let mut reading = reading;
+    match write {
+        RowWrite::Entry(change) => {
+            let key = change.key.as_bytes().as_slice();
+            put_named(&mut reading.entries, mark, key, &change.new)?;
+        }
+        RowWrite::Agent(change) => {
+            let key = change.key.get().as_str().as_bytes();
+            put_named(&mut reading.agents, mark, key, &change.new)?;
+        }
+        RowWrite::Bundle(change) => {
+            let key = change.key.get().as_str().as_bytes();
+            put_named(&mut reading.bundles, mark, key, &change.new)?;
+        }
+        RowWrite::Token(write) => put_token(&mut reading.tokens, mark, write)?,
+    }
+    Ok(reading)
+}
+
+/// Returns true if there is no row, or it has this key.
+fn is_keyed<T: BookRow>(key: &[u8], row: &Option<T>) -> bool
+    ensures { IsTrue result → IfSome row.now (λ row. T.key row ≡ key.now) }
+{
+    match row {
+        Some(row) => row.key().cmp(key).is_eq(),
+        None => true,
+    }
+}
+
+/// Returns true if the write's new row, if there is one, has the key of the write.
+fn has_own_key(write: &RowWrite) -> bool
+    ensures { IsTrue result → HasOwnKey (write_of write.now) }
+{
+    match write {
+        RowWrite::Entry(change) => is_keyed(change.key.as_bytes().as_slice(), &change.new),
+        RowWrite::Agent(change) => is_keyed(change.key.get().as_str().as_bytes(), &change.new),
+        RowWrite::Bundle(change) => is_keyed(change.key.get().as_str().as_bytes(), &change.new),
+        RowWrite::Token(_) => true,
+    }
+}
+
+/// Returns what the mark reads after these changes, given what it reads before them, in order. A write that the mark doesn't see
+/// costs a search in the rows that were read. A write whose new row has another key than the write can put the rows out of order:
+/// from the first one on, each write is made in new lists. The error is out of memory.
 pub(crate) fn after_changes(
     alloc: Global,
     reading: RowsRead,
     mark: &Mark,
     changes: &Changes,
 ) -> Result<RowsRead, AllocError>
+    requires order { AscendingBook reading }
     ensures { IfOk result (λ next. next ≡ after (map (seen mark.now) changes.now) reading) }
 {
     let mut reading = reading;
-    for write in changes.writes() {
-        reading = after_write(alloc, reading, mark, write)?;
+    let mut writes = changes.writes();
+    while let Some((write, rest)) = writes.split_first() {
+        if !has_own_key(write) {
+            return after_writes(alloc, reading, mark, writes);
+        }
+        reading = put_write(reading, mark, write)?;
+        writes = rest;
     }
     Ok(reading)
 }
