@@ -1,5 +1,5 @@
 -- An index after a row is put, and after a row is removed.
-use Rattle.std.proofs.Common.{◌≡◌, ◌≢◌, ◌⊎◌, List, [], ◌∷◌, ◌++◌, Some, None, refl, sym, ap, subst, inl, inr, ⊎_elim}
+use Rattle.std.proofs.Common.{◌≡◌, ◌≢◌, ◌⊎◌, List, [], ◌∷◌, ◌++◌, Some, None, refl, sym, ap, subst, ◌∙◌, inl, inr, ⊎_elim}
 use Rattle.std.specs.declared.cmp.Ordering.{Ordering}
 use Rattle.std.specs.declared.cmp.Ordering.TheVariants.{Less, Equal, Greater}
 use Rattle.std.specs.Ordering.{is_eq, is_lt, is_gt}
@@ -16,9 +16,18 @@ use Rattle.version_book.specs.Stores.{IsAbsent}
 -- ---- the list with the value under these keys, and the list without them
 
 pub record Puts {K V : Type 0} (done : List K) (value : V) (old new : List (K × V)) : Type 0 where
-  pub sound : (k : K) (v : V) → Within new (k, v) → (Within done k × (v ≡ value)) ⊎ Within old (k, v)
+  pub sound : (k : K) (v : V) → Within new (k, v) → (Within done k × (v ≡ value)) ⊎ (Within old (k, v) × (Within done k → ⊥))
   pub kept : (k : K) (v : V) → Within old (k, v) → (Within done k → ⊥) → Within new (k, v)
   pub put : (k : K) → Within done k → Within new (k, value)
+  pub still : (k : K) (v : V) → Within old (k, v) → (u : V) × Within new (k, u)
+
+pub puts_none : {K V : Type 0} (value : V) (old : List (K × V)) → Puts [] value old old
+puts_none value old = record {
+  sound = λ k v w. inr (w, λ n. n);
+  kept = λ k v w n. w;
+  put = λ k w. absurd w;
+  still = λ k v w. (v, w);
+}
 
 pub record Takes {K V : Type 0} (done : List K) (old new : List (K × V)) : Type 0 where
   pub sound : (k : K) (v : V) → Within new (k, v) → Within old (k, v) × (Within done k → ⊥)
@@ -45,24 +54,33 @@ module _ {K V : Type 0} (cmp : K → K → Ordering) (key : K) where
 
 module _ {K V : Type 0} (cmp : K → K → Ordering) (tells : TellsKeys cmp) where
   -- with one more key
-  pub puts_one : (done : List K) (key : K) (value : V) (old new : List (K × V)) → Puts done value old new → Puts (done ++ key ∷ []) value old (with_key cmp new key value)
-  puts_one done key value old new p =
+  pub puts_one : ((k : K) → cmp k k ≡ Equal) → (done : List K) (key : K) (value : V) (old new : List (K × V)) → Puts done value old new → Puts (done ++ key ∷ []) value old (with_key cmp new key value)
+  puts_one itself done key value old new p =
       let here : Within (with_key cmp new key value) (key, value) = within_right (rows_below cmp new key) ((key, value) ∷ rows_above cmp new key) (key, value) (inl refl) in
       let stays : (k : K) (v : V) → Within new (k, v) → (key ≢ k) → Within (with_key cmp new key value) (k, v) = λ k v w n. by_order (cmp k key)
       (λ e. within_left (rows_below cmp new key) ((key, value) ∷ rows_above cmp new key) (k, v) (within_below cmp key new k v w e))
       (λ e. absurd (n (sym (tells k key (ap is_eq e)))))
       (λ e. within_right (rows_below cmp new key) ((key, value) ∷ rows_above cmp new key) (k, v) (inr (within_above cmp key new k v w e))) in
-      let from_new : (k : K) (v : V) → Within new (k, v) → (Within (done ++ key ∷ []) k × (v ≡ value)) ⊎ Within old (k, v) = λ k v w. ⊎_elim (λ r. inl (within_left done (key ∷ []) k r.0, r.1)) (λ o. inr o) (p.sound k v w) in
+      let from_new : (k : K) (v : V) → Within new (k, v) × (cmp k key ≢ Equal) → (Within (done ++ key ∷ []) k × (v ≡ value)) ⊎ (Within old (k, v) × (Within (done ++ key ∷ []) k → ⊥)) = λ k v w. ⊎_elim
+      (λ r. inl (within_left done (key ∷ []) k r.0, r.1))
+      (λ o. inr (o.0, λ d. ⊎_elim (λ n. o.1 n) (λ l. ⊎_elim (λ e. w.1 (subst (λ x. cmp k x ≡ Equal) (sym e) (itself k))) (λ n. n) l) (from_within_append done (key ∷ []) k d)))
+      (p.sound k v w.0) in
       record {
         sound = λ k v w. ⊎_elim
-            (λ l. from_new k v (below_apart cmp key new k v l).0)
-            (λ r. ⊎_elim (λ e. inl (within_right done (key ∷ []) k (inl (ap (λ x. x.0) e)), sym (ap (λ x. x.1) e))) (λ u. from_new k v (above_apart cmp key new k v u).0) r)
+            (λ l. from_new k v (below_apart cmp key new k v l))
+            (λ r. ⊎_elim (λ e. inl (within_right done (key ∷ []) k (inl (ap (λ x. x.0) e)), sym (ap (λ x. x.1) e))) (λ u. from_new k v (above_apart cmp key new k v u)) r)
             (from_within_append (rows_below cmp new key) ((key, value) ∷ rows_above cmp new key) (k, v) w);
         kept = λ k v w n. stays k v (p.kept k v w (λ d. n (within_left done (key ∷ []) k d))) (λ e. n (within_right done (key ∷ []) k (inl e)));
         put = λ k w. by_order (cmp k key)
             (λ e. ⊎_elim (λ d. within_left (rows_below cmp new key) ((key, value) ∷ rows_above cmp new key) (k, value) (within_below cmp key new k value (p.put k d) e)) (λ s. ⊎_elim (λ q. subst (λ x. Within (with_key cmp new key value) (x, value)) q here) (λ n. absurd n) s) (from_within_append done (key ∷ []) k w))
             (λ e. subst (λ x. Within (with_key cmp new key value) (x, value)) (sym (tells k key (ap is_eq e))) here)
             (λ e. ⊎_elim (λ d. within_right (rows_below cmp new key) ((key, value) ∷ rows_above cmp new key) (k, value) (inr (within_above cmp key new k value (p.put k d) e))) (λ s. ⊎_elim (λ q. subst (λ x. Within (with_key cmp new key value) (x, value)) q here) (λ n. absurd n) s) (from_within_append done (key ∷ []) k w));
+        still = λ k v w.
+            let s = p.still k v w in
+            by_order (cmp k key)
+            (λ e. (s.0, within_left (rows_below cmp new key) ((key, value) ∷ rows_above cmp new key) (k, s.0) (within_below cmp key new k s.0 s.1 e)))
+            (λ e. (value, subst (λ x. Within (with_key cmp new key value) (x, value)) (sym (tells k key (ap is_eq e))) here))
+            (λ e. (s.0, within_right (rows_below cmp new key) ((key, value) ∷ rows_above cmp new key) (k, s.0) (inr (within_above cmp key new k s.0 s.1 e))));
       }
 
   -- without one more key
@@ -91,7 +109,23 @@ module _ {K : Type 0} (keys : Entry → List K) (tell : KeysTell keys) (rows : L
       record {
         sound = λ k r w. ⊎_elim
             (λ n. (subst (Within (with_row (of_row entry_key) row.row.id (Some row) rows)) (sym n.1) (new_with_row (of_row entry_key) row.row.id row rows), subst (λ s. Within (keys s.row) k) (sym n.1) n.0))
-            (λ o. let s = i.sound k r o in (within_with_row (of_row entry_key) row.row.id (Some row) rows r s.0 (other r s.0), s.1))
+            (λ o. let s = i.sound k r o.0 in (within_with_row (of_row entry_key) row.row.id (Some row) rows r s.0 (other r s.0), s.1))
+            (p.sound k r w);
+        complete = λ k r w v. ⊎_elim
+            (λ n. ⊎_elim (λ e. subst (λ s. Within new (k, s)) e (p.put k (subst (λ s. Within (keys s.row) k) (sym e) v))) (λ n. absurd n) n)
+            (λ o. p.kept k r (i.complete k r o.0 v) (λ d. o.1 (tell r.row row.row k v d)))
+            (from_with_row (of_row entry_key) row.row.id (Some row) rows r w);
+      }
+
+  -- a row in place of the previous one with its id, which has the same keys
+  pub index_replaced : (row previous : CommittedRow Entry) → Ascending (of_row entry_key) rows → Within rows previous → previous.row.id ≡ row.row.id → keys previous.row ≡ keys row.row → Puts (keys row.row) row old new → IsIndex keys (with_row (of_row entry_key) row.row.id (Some row) rows) new
+  index_replaced row previous sorted there id same p =
+      let its : (k : K) (r : CommittedRow Entry) → Within rows r → Within (keys r.row) k → r.row.id ≡ row.row.id → Within (keys row.row) k = λ k r w v e.
+      subst (λ ks. Within ks k) same (subst (λ t. Within (keys t.row) k) (same_key (of_row entry_key) rows sorted r previous w there (e ∙ sym id)) v) in
+      record {
+        sound = λ k r w. ⊎_elim
+            (λ n. (subst (Within (with_row (of_row entry_key) row.row.id (Some row) rows)) (sym n.1) (new_with_row (of_row entry_key) row.row.id row rows), subst (λ s. Within (keys s.row) k) (sym n.1) n.0))
+            (λ o. let s = i.sound k r o.0 in (within_with_row (of_row entry_key) row.row.id (Some row) rows r s.0 (λ e. o.1 (its k r s.0 s.1 e)), s.1))
             (p.sound k r w);
         complete = λ k r w v. ⊎_elim
             (λ n. ⊎_elim (λ e. subst (λ s. Within new (k, s)) e (p.put k (subst (λ s. Within (keys s.row) k) (sym e) v))) (λ n. absurd n) n)

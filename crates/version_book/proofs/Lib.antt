@@ -14,6 +14,7 @@ pub mod NamedRows
 pub mod Numbers
 pub mod Places
 pub mod Ranges
+pub mod Replaced
 pub mod Rooms
 pub mod RowPlaces
 pub mod RowShelves

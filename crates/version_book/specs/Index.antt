@@ -72,3 +72,15 @@ TellsKeys cmp = (k l : _) → is_eq (cmp k l) ≡ true → k ≡ l
 -- entries that have a key in common have the same id
 abbrev pub KeysTell : {K : Type 0} → (Entry → List K) → Type 0
 KeysTell keys = (e f : Entry) (k : _) → Within (keys e) k → Within (keys f) k → e.id ≡ f.id
+
+-- each of these keys has a row
+abbrev pub AreThere : {K V : Type 0} → List K → List (K × V) → Type 0
+AreThere {K} {V} keys index = (k : K) → Within keys k → (v : V) × Within index (k, v)
+
+-- two entries have the same keys, in the book and in each index
+pub record HaveSameKeys (e f : Entry) : Type 0 where
+  pub id : e.id ≡ f.id
+  pub parent : e.parent ≡ f.parent
+  pub identity : e.identity ≡ f.identity
+  pub domains : e.domains ≡ f.domains
+  pub expiry : e.expiry ≡ f.expiry

@@ -1,17 +1,20 @@
 //! How are the entries of a version stored?
 
-ghost use Rattle.std.specs.Prelude.{◌≡◌, IfOk};
-ghost use Rattle.version_book.specs.Index.{group_keys, user_keys, expiry_keys};
+ghost use Rattle.std.specs.Prelude.{◌≡◌, IfOk, IsTrue};
+ghost use Rattle.version_book.specs.Index.{HaveSameKeys, group_keys, user_keys, expiry_keys};
 
 use crate::changes::RowChange;
 use crate::committed_row::{CommittedRow, is_same_row, lent, row_alone};
-use crate::index::{entries_between, lent_between, same_between, with_keys, without_keys};
+use crate::index::{
+    entries_between, lent_between, replace_keys, same_between, with_keys, without_keys,
+};
 use crate::key::{ExpiryKey, GroupKey, KeyPart, UserKey};
 use crate::lent::Lent;
 use crate::mark::{IndexRange, Mark, MarkKind};
 use crate::page::page_of;
 use crate::parent::{ParentEnd, ParentStart};
-use entry_book::{Entry, PageQuery, Shared, both};
+use crate::row_shelf::put_row;
+use entry_book::{DomainSet, Entry, PageQuery, Shared, both};
 use spiffe_name::SpiffeId;
 use std::alloc::{AllocError, Global};
 use std::marker::Model;
@@ -82,12 +85,43 @@ fn expiry_keys(alloc: Global, entry: &Entry) -> Result<Vec<ExpiryKey>, AllocErro
     Ok(keys)
 }
 
+/// Returns true if both IDs have the same text.
+fn are_same_ids(one: &SpiffeId, other: &SpiffeId) -> bool
+    ensures { IsTrue result → one.now ≡ other.now }
+{
+    one == other
+}
+
+/// Returns true if both sets have the same trust domains.
+fn are_same_domains(one: &DomainSet, other: &DomainSet) -> bool
+    ensures { IsTrue result → one.now ≡ other.now }
+{
+    one == other
+}
+
+/// Returns true if both entries have the same keys: the same id, parent, identity, trust domains and expiry.
+fn have_same_keys(one: &Entry, other: &Entry) -> bool
+    ensures { IsTrue result → HaveSameKeys one.now other.now }
+{
+    if !are_same_ids(one.parent().get(), other.parent().get()) {
+        return false;
+    }
+    if !are_same_ids(one.identity().get(), other.identity().get()) {
+        return false;
+    }
+    if !are_same_domains(one.domains(), other.domains()) {
+        return false;
+    }
+    one.expiry() == other.expiry() && one.id() == other.id()
+}
+
 impl Entries {
     ghost use Rattle.std.specs.Prelude.{◌≡◌, ◌&&◌, ◌+◌, ◌≤◌, [], IfOk, IfSome, IsTrue, Some, None, bytes_eq, filter, length, map, nat_lt, option_map, take, if◌then◌else◌};
     ghost use Rattle.std.specs.Option.{option_copied};
     ghost use Rattle.entry_book.specs.Order.{Ascending, Within, first, with_row};
     ghost use Rattle.entry_book.specs.Pages.{comes_after, last_id, passes};
     ghost use Rattle.entry_book.specs.Rows.{Entry as EntryRow, entry_key};
+    ghost use Rattle.version_book.specs.Index.{HaveSameKeys};
     ghost use Rattle.version_book.specs.Marks.{names_entry};
     ghost use Rattle.version_book.specs.CommittedRows.{numbered, of_row, row_of};
     ghost use Rattle.version_shelf.specs.Shelf.{most_rows};
@@ -165,6 +199,54 @@ impl Entries {
         }
     }
 
+    /// Returns the entries with this one in place of the one that has its id, which has the same keys. The error is out of memory.
+    fn replaced(
+        &self,
+        alloc: Global,
+        old: &Entry,
+        row: CommittedRow<Entry>,
+    ) -> Result<Entries, AllocError>
+        requires there { Within (map row_of self.now) old.now }
+        requires same { HaveSameKeys old.now row.row }
+        requires room { length (with_row entry_key row.row.id (Some row.row) (map row_of self.now)) ≤ most_rows }
+        ensures { IfOk result (λ entries. entries ≡ with_row (of_row entry_key) row.row.id (Some row) self.now) }
+    {
+        let _ = old;
+        let group_keys = group_keys(alloc, &row.row)?;
+        let user_keys = user_keys(alloc, &row.row)?;
+        let expiry_keys = expiry_keys(alloc, &row.row)?;
+        let groups = replace_keys(&self.groups, group_keys, &row)?;
+        let users = replace_keys(&self.users, user_keys, &row)?;
+        let expiries = replace_keys(&self.expiries, expiry_keys, &row)?;
+        let id = *row.row.id();
+        let rows = put_row(&self.rows, id, row)?;
+        Ok(Entries {
+            rows,
+            groups,
+            users,
+            expiries,
+        })
+    }
+
+    /// Returns the entries with this one, in place of the one that has its id, if there is one. If that has the same keys, each
+    /// shelf is changed once; otherwise the old keys are removed first. The error is out of memory.
+    fn put(&self, alloc: Global, row: CommittedRow<Entry>) -> Result<Entries, AllocError>
+        requires room { length (with_row entry_key row.row.id (Some row.row) (map row_of self.now)) ≤ most_rows }
+        requires names { count_of_names (with_row entry_key row.row.id (Some row.row) (map row_of self.now)) ≤ most_rows }
+        ensures { IfOk result (λ entries. entries ≡ with_row (of_row entry_key) row.row.id (Some row) self.now) }
+    {
+        match self.rows.get(row.row.id()) {
+            None => self.with(alloc, row),
+            Some(old) => {
+                if have_same_keys(&old.row, &row.row) {
+                    return self.replaced(alloc, &old.row, row);
+                }
+                let rest = self.without(alloc, &old.row)?;
+                rest.with(alloc, row)
+            }
+        }
+    }
+
     /// Returns the entries after a change of one of them by this commit. The error is out of memory.
     pub(crate) fn after(
         &self,
@@ -177,13 +259,12 @@ impl Entries {
         requires names { IfSome change.now.new (λ new. count_of_names (with_row entry_key change.now.key change.now.new (map row_of self.now)) ≤ most_rows) }
         ensures { IfOk result (λ entries. entries ≡ with_row (of_row entry_key) change.now.key (option_map (numbered commit) change.now.new) self.now) }
     {
-        let rest = self.rest_of(alloc, &change.key)?;
         match &change.new {
             Some(new) => {
                 let row = new.clone()?;
-                rest.with(alloc, CommittedRow { row, commit })
+                self.put(alloc, CommittedRow { row, commit })
             }
-            None => Ok(rest),
+            None => self.rest_of(alloc, &change.key),
         }
     }
 

@@ -8,11 +8,12 @@ ghost use Rattle.entry_book.specs.Rows.{Entry as EntryRow, entry_key};
 ghost use Rattle.version_shelf.specs.Shelf.{ClonesEqual, IsInOrder, most_rows, rows_between};
 ghost use Rattle.version_book.specs.declared.committed_row.CommittedRow.{CommittedRow as NumberedRow};
 ghost use Rattle.version_book.specs.CommittedRows.{of_row, row_of};
-ghost use Rattle.version_book.specs.Index.{Covers, IsIndex, KeysTell, TellsKeys};
+ghost use Rattle.version_book.specs.Index.{AreThere, Covers, IsIndex, KeysTell, TellsKeys};
 ghost use Rattle.version_book.specs.Stores.{IsAbsent, stamps};
 
 use crate::committed_row::CommittedRow;
 use crate::lent::{Lent, owned};
+use crate::row_shelf::put_row;
 use entry_book::Entry;
 use std::alloc::{AllocError, Global};
 use version_shelf::{Bound, Shelf};
@@ -59,9 +60,34 @@ pub(crate) fn with_keys<K: Ord + Clone + Drop>(
     Ok(more)
 }
 
-/// The rows of an index are in strictly ascending order of their keys. The function only brings this fact into a proof.
+/// Returns the index with a row under these keys, in place of the rows under them, which must be those of the old row with its
+/// id. The error is out of memory.
+pub(crate) fn replace_keys<K: Ord + Clone + Drop>(
+    index: &Shelf<K, CommittedRow<Entry>>,
+    keys: Vec<K>,
+    row: &CommittedRow<Entry>,
+) -> Result<Shelf<K, CommittedRow<Entry>>, AllocError>
+    requires clones { ClonesEqual K.is_clone }
+    requires tells { TellsKeys K.cmp }
+    requires there { AreThere keys.items index.now }
+    ensures { IfOk result (λ new. (keys_of : EntryRow → List K) (rows : List (NumberedRow EntryRow)) (old : NumberedRow EntryRow)
+        → KeysTell keys_of → Ascending (of_row entry_key) rows → IsIndex keys_of rows index.now → Within rows old
+        → old.row.id ≡ row.now.row.id → keys_of old.row ≡ keys_of row.now.row → keys.items ≡ keys_of row.now.row
+        → IsIndex keys_of (with_row (of_row entry_key) row.now.row.id (Some row.now) rows) new) }
+{
+    let mut new = index.clone()?;
+    for key in keys {
+        in_order(&new);
+        new = put_row(&new, key, row.clone()?)?;
+    }
+    Ok(new)
+}
+
+/// The rows of an index are in strictly ascending order of their keys, and fit in a shelf. The function only brings these facts
+/// into a proof.
 fn in_order<K: Ord + Clone>(index: &Shelf<K, CommittedRow<Entry>>)
-    ensures { IsInOrder K.cmp index.now }
+    ensures order { IsInOrder K.cmp index.now }
+    ensures most { length index.now ≤ most_rows }
 {
     let _ = index.len();
 }

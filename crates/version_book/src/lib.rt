@@ -21,9 +21,10 @@
 //! | `read_after` | as `read`, and for each change those that a search in the rows of the mark compares | those of these rows, and of each row that a change adds | as `read`, and room for added rows |
 //! | `apply` | none | see below | the new nodes, and a written row once for each of its keys |
 //!
-//! For each key of a removed or written row, `apply` makes a search and builds new nodes. It increments a reference count for
-//! each part of a new node, for each other shelf, and for the server's names. It increments those of a written row once for
-//! each of its keys.
+//! For each key of a removed or written row, `apply` makes a search and builds new nodes. A row that replaces one with the same
+//! keys is put once under each of them; otherwise the old row is removed first. `apply` increments a reference count for each
+//! part of a new node, for each other shelf, and for the server's names. It increments those of a written row once for each of
+//! its keys.
 //!
 //! Sharing: a version has in common with the previous one each node that no change touched, and in the other nodes each row
 //! that is unchanged. The last version that has them frees them.

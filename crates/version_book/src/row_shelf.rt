@@ -118,7 +118,7 @@ impl<K: Ord + Clone + Drop, T: KeyedRow<K> + Clone> RowShelf<K, T> {
 
 /// Returns the shelf with a row under a key, in place of the one that has this key. If the shelf is full, that one is removed
 /// first, which makes room. The error is out of memory.
-fn put_row<K: Ord + Clone + Drop, T: Clone + Drop>(
+pub(crate) fn put_row<K: Ord + Clone + Drop, T: Clone + Drop>(
     shelf: &Shelf<K, CommittedRow<T>>,
     key: K,
     row: CommittedRow<T>,

@@ -1,18 +1,15 @@
-use Rattle.std.proofs.Common.{◌≡◌, List, [], ◌∷◌, ◌++◌, length, sym, ap, subst, ◌∙◌, arith, append_assoc, length-append}
-use Rattle.std.proofs.lemmas.List.{append-nil}
+use Rattle.std.proofs.Common.{◌≡◌, [], ◌∷◌, ◌++◌, length, sym, ap, subst, ◌∙◌, arith, append_assoc, length-append}
+use Rattle.std.proofs.lemmas.Cmp.{tied_itself}
 use Rattle.version_book.proofs.Indexes.{Puts, puts_one, index_with}
+use Rattle.version_book.proofs.Replaced.{nothing_left}
 use Rattle.version_book.proofs.index.with_keys.Goals as goal
-
-nothing_left : {X : Type 0} (done rest all : List X) → done ++ rest ≡ all → length rest ≡ 0 → done ≡ all
-nothing_left done [] all e none = sym (append-nil done) ∙ e
-nothing_left done (x ∷ rest) all e none = absurd (omega arith)
 
 pub with-requires-clause-room : goal.with-requires-clause-room
 with-requires-clause-room g c =
     let all = ap length c.loop-key.invariant.split in
     let parts = length-append c.loop-key.yielded c.loop-key.key-iterator.rest.items in
     let left = ap length c.in-Some.ensures.steps.0 in
-    let room = c.requires.room c.in_order.ensures in
+    let room = c.requires.room c.in_order.ensures.order in
     omega (arith, c.loop-key.invariant.size)
 
 pub loop-key-preserved : goal.loop-key-preserved
@@ -22,7 +19,7 @@ loop-key-preserved g c =
     record {
       split = append_assoc c.loop-key.yielded (c.in-Some.key ∷ []) c.next.new.self.rest.items ∙ (ap (λ l. c.loop-key.yielded ++ l) (sym c.in-Some.ensures.steps.0) ∙ c.loop-key.invariant.split);
       size = omega (arith, c.in_ok-more-2.ensures.count, c.loop-key.invariant.size);
-      puts = rw (c.in_ok-more-2.ensures.rows, same) (puts_one g.K.Ord.cmp c.requires.tells c.loop-key.yielded c.in-Some.key c.args.row.now c.args.index.now c.loop-key.more c.loop-key.invariant.puts);
+      puts = rw (c.in_ok-more-2.ensures.rows, same) (puts_one g.K.Ord.cmp c.requires.tells (tied_itself g.met.K.Ord.total) c.loop-key.yielded c.in-Some.key c.args.row.now c.args.index.now c.loop-key.more c.loop-key.invariant.puts);
     }
 
 pub returns : goal.returns
